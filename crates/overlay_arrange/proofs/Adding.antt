@@ -1,4 +1,4 @@
--- Adding steps to a list of counted edges one by one: what stands and what is to come stay the whole.
+-- Steps added to a list of counted edges one by one: the added steps and those to come stay the whole.
 use Rattle.std.proofs.Common.{◌≡◌, ◌≤◌, ◌++◌, [], ◌∷◌, map, take, length, List, sym, ◌∙◌, ap, append_assoc, append-nil}
 use Rattle.std.proofs.Common.{arith, length-take}
 use Rattle.std.proofs.lemmas.List.{map-append, take-take}

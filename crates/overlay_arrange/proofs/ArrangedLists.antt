@@ -1,4 +1,4 @@
--- What the rounds say of a list that was split: the laws of arrangements put together.
+-- Facts that follow from the rounds of a split list: the laws of arrangements put together.
 use Rattle.std.proofs.Common.{◌≡◌, ℕ, ◌+◌, ◌≤◌, ◌^◌, List, [], ◌∷◌, length, refl, sym, ap, ◌∙◌, subst, arith}
 use Rattle.std.specs.Prelude.{Result, Ok, Err, OnOk, IfErr, IsErrOf}
 use Rattle.overlay_geom.specs.declared.error.OverlayError.{OverlayError}

@@ -1,4 +1,4 @@
--- The pieces of an edge with what they carry: what a program makes of a step, and pieces that are added to others.
+-- The pieces of an edge with their values: the program's piece of a step, and pieces added to others.
 use Rattle.std.proofs.Common.{◌≡◌, Bool, true, false, cond, List, [], ◌∷◌, ◌++◌, map, length, get_or, refl, sym, ap}
 use Rattle.std.proofs.Common.{subst, ◌∙◌, append_assoc, append-nil}
 use Rattle.std.specs.Prelude.{IsTrue, MatchBool, ◌↔◌}

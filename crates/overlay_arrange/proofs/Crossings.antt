@@ -1,4 +1,4 @@
--- Edges that go across each other's lines: how far along the one the other crosses it, and the point through which it
+-- Edges that go across each other's lines: how far along each edge the other crosses it, and the point through which it
 -- leads it.
 use Rattle.std.proofs.Common.{◌≡◌, ◌≢◌, inl, inr, Bool, true, false, cond, not, ◌∷◌, [], refl, sym, ap, ◌∙◌}
 use Rattle.std.specs.Ordering.{is_ge}

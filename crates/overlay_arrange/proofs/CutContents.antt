@@ -1,5 +1,4 @@
--- What a round of cutting knows of the edges that it cuts: each is as light as all, and the points through which it is
--- led are in range.
+-- Facts of the edges of a cutting round: each is as light as all, and the points through which it is led are in range.
 use Rattle.std.proofs.Common.{inl, inr, ℕ, ◌≤◌, ℤ, List, [], ◌∷◌, ap, arith}
 use Rattle.std.specs.List.{All, Contains, flat_map}
 use Rattle.std.proofs.lemmas.List.Elements.{All-nil, All-append, All-contains, All-weaker}

@@ -1,4 +1,4 @@
--- The two bits of a string's directions: what testing, joining and exchanging them gives.
+-- The two bits of a string's directions: testing, joining and exchanging them.
 use Rattle.std.proofs.Common.{◌≡◌, ℕ, zero, suc, ◌+◌, ◌*◌, ◌/◌, ◌%◌, ◌^◌, ◌<◌, max, true, not, ◌||◌, ◌==◌, nat_eq}
 use Rattle.std.proofs.Common.{bit_and, bit_or, refl, ap, ap₂, ◌∙◌, arith}
 use Rattle.std.specs.Int.{bit_at}

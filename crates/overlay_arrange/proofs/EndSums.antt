@@ -1,5 +1,5 @@
--- Ends by their points, summed up: where each counts times a number of its point, the sum so far is that of the counts
--- times the number of the last point, as long as the counts at each point before that one cancel out.
+-- Sums over ends sorted by their points. Each end counts times a number of its point. The sum so far is that of the
+-- counts times the number of the last point, if the counts at each point before it cancel out.
 use Rattle.std.proofs.Common.{◌≡◌, ℕ, zero, suc, ◌+◌, ◌^◌, ◌<◌, ◌≤◌, Bool, true, false, cond, ℤ, pos, ◌+ℤ◌, ◌*ℤ◌, List}
 use Rattle.std.proofs.Common.{[], ◌∷◌, ◌++◌, length, take, drop, get_or, refl, sym, ap, ap₂, ◌∙◌, subst, arith}
 use Rattle.std.specs.Prelude.{sum_by}

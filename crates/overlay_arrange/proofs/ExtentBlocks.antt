@@ -1,5 +1,4 @@
--- Blocks of extents: what lies apart from a block lies apart from all in it; blocks of blocks; and how blocks are made,
--- place by place.
+-- Blocks of boxes: all boxes of a block that lies apart lie apart. Blocks of blocks, and blocks made place by place.
 use Rattle.std.proofs.Common.{◌≡◌, ◌≢◌, ◌⊎◌, ⊎_elim, inl, inr, ℕ, ◌+◌, ◌*◌, ◌/◌, ◌%◌, ◌<◌, ◌≤◌}
 use Rattle.std.proofs.Common.{List, [], ◌∷◌, ◌++◌, length, map, get_or, set, sym, ap, ◌∙◌}
 use Rattle.std.proofs.Common.{subst, arith}

@@ -1,4 +1,4 @@
--- Edges of which the one lies wholly below the other, or starts right of its end, meet in ends alone.
+-- Two edges meet in ends alone if one lies wholly below the other, or starts right of the other's end.
 use Rattle.std.proofs.Common.{◌⊎◌, inl, inr, ℕ, Bool, true, false, cond, ◌<ℤ◌, ◌≤ℤ◌, int_lt, refl}
 use Rattle.std.specs.Bool.{Decides}
 use Rattle.std.proofs.lemmas.Bool.{false≢true}

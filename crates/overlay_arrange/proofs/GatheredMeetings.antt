@@ -1,5 +1,5 @@
--- A loop over pairs of ascending edges that gathers the points through which they lead each other: what a pair adds,
--- and which pairs may be left out.
+-- A loop over pairs of ascending edges that gathers the points through which they lead each other: the points that a
+-- pair adds, and the pairs that may be left out.
 use Rattle.std.proofs.Common.{◌≡◌, ◌⊎◌, ⊎_elim, inl, inr, ℕ, ◌+◌, ◌<◌, ◌≤◌, List, [], ◌∷◌, ◌++◌, All, Contains, length}
 use Rattle.std.proofs.Common.{map}
 use Rattle.std.proofs.Common.{get_or, sym, ◌∙◌, subst, arith}

@@ -1,4 +1,5 @@
--- A loop over edges that gathers the hot points whose pixels each meets: what an edge adds, and what all of them do.
+-- A loop over edges that gathers the hot points whose pixels each meets: the points that an edge adds, and those of all
+-- edges.
 use Rattle.std.proofs.Common.{◌≡◌, ⊎_elim, inl, inr, ℕ, ◌+◌, ◌<◌, ◌≤◌, true, List, [], ◌∷◌, ◌++◌, AllPairs}
 use Rattle.std.proofs.Common.{Contains, filter, length, get_or, pos, sym, ap, ◌∙◌, subst, arith}
 use Rattle.std.proofs.lemmas.List.{append-nil, append_assoc, get_or_default}

@@ -1,5 +1,5 @@
--- Extents of points in the order of their heights: where an edge passes above one of them it passes above those before
--- it, and where it passes below one, below those behind it. And a run of them, whose places are added.
+-- Boxes of points sorted by height. If an edge passes above a box, it passes above those before it; if below, below
+-- those behind it. The places of a run of them are added.
 use Rattle.std.proofs.Common.{◌≡◌, ⊎_elim, inl, inr, ℕ, ◌+◌, ◌<◌, ◌≤◌, ℤ, pos, ◌*ℤ◌, ◌-ℤ◌, ◌≤ℤ◌}
 use Rattle.std.proofs.Common.{List, ◌++◌, ◌∷◌, [], Contains, subst, arith}
 use Rattle.std.proofs.lemmas.Bool.{cases_lt}

@@ -1,4 +1,4 @@
--- An edge that meets another one in ends alone is led by it through its own ends alone, and leads it so.
+-- Two edges that meet in ends alone lead each other only through their own ends.
 use Rattle.std.proofs.Common.{◌≡◌, ◌⊎◌, inl, inr, ℕ, Contains, sym, ◌∙◌, subst, arith}
 use Rattle.overlay_geom.specs.Plane.{Point, PlanePoint, IsEnd, in_plane}
 use Rattle.overlay_geom.specs.Edges.{CountedEdge, ends_of}

@@ -1,4 +1,4 @@
--- Meetings that stand by their places: sorting brings them there, and those of one edge stand side by side.
+-- Meetings sorted by their places: those of an edge stand side by side.
 use Rattle.std.proofs.Common.{◌≡◌, ⊎_elim, ℕ, ◌<◌, ◌≤◌, Bool, true, false, ℤ, nat_lt, nat_le, List, length, get_or, ap}
 use Rattle.std.proofs.Common.{sym, ◌∙◌, subst, arith}
 use Rattle.std.specs.Cmp.{IsStrictWeakOrder}

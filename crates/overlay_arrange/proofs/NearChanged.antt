@@ -1,4 +1,4 @@
--- Changed edges at their places: an edge that is not one of them is held against those behind it alone.
+-- Changed edges at their places: an unchanged edge is compared only with the changed edges behind it.
 use Rattle.std.proofs.Common.{◌≡◌, ◌⊎◌, ⊎_elim, inl, inr, ℕ, ◌+◌, ◌<◌, ◌≤◌, Bool, true, false, nat_lt, List, [], ◌∷◌}
 use Rattle.std.proofs.Common.{◌++◌, All, AllPairs, Contains, length, get_or, refl, sym, ◌∙◌, subst, arith}
 use Rattle.std.specs.List.Sorted.{IsPartitionedBy, IsPartitionPoint}

@@ -1,5 +1,5 @@
--- The edges from a place on that an edge may meet elsewhere than in ends: all of its run, or those whose extents a
--- search finds.
+-- The edges from a place on that an edge may meet elsewhere than in ends: all of its run, or those whose boxes a search
+-- finds.
 use Rattle.std.proofs.Common.{◌≡◌, ◌⊎◌, ⊎_elim, inl, inr, ℕ, ◌<◌, ◌≤◌, ◌<ℤ◌, List, All, Contains, length}
 use Rattle.std.proofs.Common.{get_or, ap, ◌∙◌, subst, arith}
 use Rattle.std.specs.List.Sorted.{IsPermutation}

@@ -1,5 +1,5 @@
--- A loop over pairs of edges that marks those which meet elsewhere than in ends: of each pair looked at one edge is
--- open, or the two meet in ends alone.
+-- A loop over pairs of edges that marks edges that meet elsewhere than in ends. Of each tested pair an edge is open, or
+-- the two meet in ends alone.
 use Rattle.std.proofs.Common.{◌≡◌, ◌⊎◌, ⊎_elim, inl, inr, ℕ, ◌+◌, ◌<◌, ◌≤◌, Bool, List, [], ◌∷◌, ◌++◌, Contains}
 use Rattle.std.proofs.Common.{length, sym, subst, ◌∙◌, arith}
 use Rattle.std.proofs.lemmas.List.Elements.{Contains-push_cases}

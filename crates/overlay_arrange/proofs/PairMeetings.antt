@@ -1,5 +1,5 @@
--- The meetings of two edges with each other: what pushing points adds, and what there is to add where the two lie in a
--- given way.
+-- The meetings of two edges with each other: the points that pushing adds, and the points to add in each position of
+-- the two.
 use Rattle.std.proofs.Common.{◌≡◌, ◌≢◌, ⊎_elim, inl, inr, ℕ, Bool, List, [], ◌∷◌, ◌++◌, Contains, filter, refl, sym, ap}
 use Rattle.std.proofs.Common.{◌∙◌, subst, arith}
 use Rattle.std.proofs.lemmas.List.Elements.{Contains-append_left, Contains-append_right, Contains-append_cases}

@@ -1,5 +1,5 @@
--- The pieces of an edge along the steps between points of a chain: what a program makes of a step, and that a builder
--- may hold it.
+-- The pieces of an edge along the steps between points of a chain: the program's piece of a step, which a builder may
+-- hold.
 use Rattle.std.proofs.Common.{◌≡◌, ℕ, ◌≤◌, Bool, true, false, cond, List, [], ◌∷◌, ◌++◌}
 use Rattle.std.proofs.Common.{map, get_or, refl, sym, ap, subst, ◌∙◌, arith}
 use Rattle.std.specs.List.{All}

@@ -1,4 +1,4 @@
--- Extents of the items of a list, edges or points, each at its place: with one more, and which item each is of.
+-- Boxes of the items of a list, edges or points, each at its place: with a further box, and the item of each box.
 use Rattle.std.proofs.Common.{◌≡◌, ℕ, zero, suc, ◌+◌, ◌<◌, List, [], ◌∷◌, ◌++◌, Contains, length, map, get_or}
 use Rattle.std.proofs.Common.{sym, ap, ap₂, ◌∙◌, subst, arith}
 use Rattle.std.specs.List.Sorted.{IsPermutation}

@@ -1,4 +1,4 @@
--- A loop that puts in the place of each number of a list what stands at it in another one.
+-- A loop that replaces each number of a list by the entry of another list at that number.
 use Rattle.std.proofs.Common.{◌≡◌, ⊎_elim, ℕ, ◌+◌, ◌<◌, ◌≤◌, List, length, get_or, set, refl, sym, ◌∙◌, subst, arith}
 use Rattle.std.proofs.lemmas.List.{get_or_default, get_or-set_same, get_or-set_other, length-set}
 use Rattle.std.proofs.Math.Nat.{eq-or-lt_of_le}

@@ -1,5 +1,5 @@
--- A search of the points by strips for those whose pixels an edge meets: where it begins, one strip more, and where all
--- strips of the edge's span have been searched.
+-- A search of the points by strips for those whose pixels an edge meets: its begin, a further strip, and its end after
+-- all strips of the edge's span.
 use Rattle.std.proofs.Common.{◌≡◌, ◌⊎◌, ⊎_elim, ℕ, ◌+◌, ◌*◌, ◌/◌, ◌%◌, ◌<◌, ◌≤◌, true, ℤ, ◌≤ℤ◌}
 use Rattle.std.proofs.Common.{List, [], Contains, length, sym, ap, ◌∙◌, subst, arith}
 use Rattle.std.proofs.lemmas.Bool.{cases_lt}

@@ -1,4 +1,4 @@
--- Stores that calls lead to one after another.
+-- Stores that result from calls, one after another.
 use Rattle.std.proofs.Common.{◌≡◌, Bool, true, false, sym, subst}
 use Rattle.std.specs.Prelude.{MatchBool}
 use Rattle.overlay_arrange.specs.Stores.{IsStoreReached}

@@ -1,4 +1,4 @@
--- One round more: a list that is merged, cut, and then split, was split with one round more.
+-- A further round: a list that is merged, cut, and then split, was split with that round more.
 use Rattle.std.proofs.Common.{◌≡◌, ◌↔◌, ℕ, ◌+◌, ◌≤◌, true, false, List, [], ◌∷◌, refl, sym, subst, arith}
 use Rattle.std.proofs.lemmas.Bool.{false≢true}
 use Rattle.overlay_geom.specs.Edges.{CountedEdge, weight}

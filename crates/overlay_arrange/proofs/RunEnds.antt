@@ -1,5 +1,5 @@
--- The edges up to the end of an edge's run: ascending edges part where they start right of its end; and the edge meets
--- all later ones in ends alone where it meets those of its run so.
+-- The edges up to the end of an edge's run: ascending edges part where they start right of its end. The edge meets all
+-- later edges in ends alone if it meets those of its run so.
 use Rattle.std.proofs.Common.{◌+◌, ◌-◌, drop, slice_range}
 use Rattle.std.proofs.Common.{◌≡◌, ⊎_elim, ℕ, ◌<◌, ◌≤◌, Bool, true, false, not, ℤ, ◌<ℤ◌, ◌≤ℤ◌, int_lt, List}
 use Rattle.std.proofs.Common.{[], ◌∷◌, ◌++◌, All, Contains, length, get_or, refl, sym, ap, ◌∙◌, subst, arith}

@@ -1,5 +1,5 @@
--- A search of extents for those that do not lie apart from one: where it begins, and one extent more, or several that
--- lie apart; and all places between two.
+-- A search of boxes for those that do not lie apart from a box: its begin, a further box, several boxes apart; and all
+-- places between two places.
 use Rattle.std.proofs.Common.{◌≡◌, ⊎_elim, inl, inr, ℕ, ◌+◌, ◌<◌, ◌≤◌, List, [], ◌∷◌, ◌++◌, Contains}
 use Rattle.std.proofs.Common.{sym, subst, arith}
 use Rattle.std.proofs.lemmas.Bool.{cases_lt}

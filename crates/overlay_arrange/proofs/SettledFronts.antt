@@ -1,5 +1,5 @@
--- Of edges at the front of a list that meet each later one in ends alone none leads another edge, or is led by one, but
--- through ends: no meetings of theirs need be gathered.
+-- Edges at the front of a list that meet each later edge in ends alone. None leads another edge, or is led by one, but
+-- through ends. So none of their meetings need be gathered.
 use Rattle.std.proofs.Common.{◌≡◌, ⊎_elim, inl, inr, ℕ, ◌<◌, ◌≤◌, List, [], All, sym, subst, arith}
 use Rattle.std.proofs.lemmas.Bool.{cases_lt}
 use Rattle.std.proofs.Math.Nat.{eq-or-lt_of_le}

@@ -1,4 +1,4 @@
--- An ascending list of edges is settled exactly where each edge meets the later ones in ends alone. The later ones that
+-- An ascending list of edges is settled exactly where each edge meets the later edges in ends alone. Later edges that
 -- start right of its end do so, and from the first of those on all do.
 use Rattle.std.proofs.Common.{◌≡◌, inl, inr, ⊎_elim, ℕ, ◌<◌, ◌≤◌, true, ◌≤ℤ◌, ◌<ℤ◌, List, length, get_or, sym, subst}
 use Rattle.std.proofs.Common.{ap, ◌∙◌, arith}

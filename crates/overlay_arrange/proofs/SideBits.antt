@@ -1,4 +1,4 @@
--- The fill bits of an edge tell which of its sides are filled.
+-- The filled sides of an edge, told by its fill bits.
 use Rattle.std.proofs.Common.{◌≡◌, ℕ, ℤ, ◌+ℤ◌, Bool, true, false, List, refl}
 use Rattle.overlay_geom.specs.Edges.{CountedEdge, subj_of, clip_of, winding_below}
 use Rattle.overlay_arrange.specs.Counts.{has_bit}

@@ -1,4 +1,4 @@
--- An x-coordinate moved into the span of an edge: it lies there, and no further left or right of one that does.
+-- An x-coordinate moved into the span of an edge, to the nearest place there.
 use Rattle.std.proofs.Common.{◌≡◌, Bool, true, false, cond, ℤ, pos, neg_ℤ, ◌*ℤ◌, ◌-ℤ◌, ◌≤ℤ◌, int_lt, refl, sym, subst}
 use Rattle.overlay_geom.specs.Edges.{CountedEdge}
 use Rattle.overlay_geom.proofs.Identities.{solve, ◌≗◌, ◌⊗◌, ⊝◌}

@@ -1,5 +1,5 @@
--- Edges that start in one point, one right after the other in the order of their starts: below the later one is the
--- winding above the other.
+-- Neighbouring edges in the order of starts that start in one point: the winding below the later is the winding above
+-- the earlier.
 use Rattle.std.proofs.Common.{◌≡◌, ◌⊎◌, ⊎_elim, inl, inr, Bool, ℕ, ◌+◌, ◌<◌, true, false, ◌&&◌, ℤ, pos, List, length}
 use Rattle.std.proofs.Common.{get_or, Contains, refl, sym, ap, ◌∙◌, subst, arith}
 use Rattle.std.specs.List.{AllPairs}

@@ -1,5 +1,5 @@
--- Extents strip by strip: with one more, and with those of the last strip in another order; and what a search by strips
--- passes over.
+-- Boxes strip by strip: with a further box, with those of the last strip in another order, and the boxes that a search
+-- by strips skips.
 use Rattle.std.proofs.Common.{◌≡◌, ⊎_elim, inl, inr, ◌⊎◌, ℕ, ◌+◌, ◌*◌, ◌-◌, ◌/◌, ◌%◌, ◌<◌, ◌≤◌, List, [], ◌∷◌, ◌++◌}
 use Rattle.std.proofs.Common.{length, get_or, AllPairs, Contains, ◌<ℤ◌, ◌≤ℤ◌, refl, sym, ap, ◌∙◌, subst, arith}
 use Rattle.std.specs.List.Sorted.{IsPermutation}

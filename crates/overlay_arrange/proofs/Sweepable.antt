@@ -1,5 +1,5 @@
--- The edges of an arrangement by their starts may be swept over, and have the windings and fill bits that they have in
--- the arrangement's order.
+-- The edges of an arrangement, sorted by their starts, may be swept over. Their windings and fill bits do not depend on
+-- the order.
 use Rattle.std.proofs.Common.{◌≡◌, ℕ, ◌^◌, ◌<◌, true, false, cond, ℤ, pos, ◌+ℤ◌, ◌-ℤ◌, ◌*ℤ◌, List, map, Contains, sym}
 use Rattle.std.proofs.Common.{ap₂, ◌∙◌, subst}
 use Rattle.std.specs.List.{AllPairs}

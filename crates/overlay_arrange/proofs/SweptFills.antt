@@ -1,4 +1,4 @@
--- A sweep over edges by their starts: what the next edge asks of it, and what the look-up gives.
+-- A sweep over edges by their starts: the query for the next edge, and the answer of the look-up.
 use Rattle.std.proofs.Common.{◌≡◌, ℕ, ◌+◌, ◌<◌, true, false, ℤ, pos, ◌≤ℤ◌, int_lt, List, [], ◌∷◌, ◌++◌, length, take}
 use Rattle.std.proofs.Common.{drop, get_or, Contains, Some, refl, sym, ap, ap₂, ◌∙◌, subst, arith}
 use Rattle.std.specs.List.{All, AllPairs}

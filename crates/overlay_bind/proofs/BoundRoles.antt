@@ -1,4 +1,4 @@
--- The shapes of contours: the first for all, where there is one alone, or what a sweep tells.
+-- The shapes of contours: the first for all if there is one alone, or those that a sweep finds.
 use Rattle.std.proofs.Common.{◌≡◌, ◌≢◌, ℕ, ◌==◌, Bool, List, length, Option, None, Some, sym, ap, ◌∙◌, subst, arith}
 use Rattle.std.specs.Prelude.{slice_index_or, MatchBool}
 use Rattle.std.specs.List.{All}

@@ -1,4 +1,4 @@
--- One contour more is one place more among those of its shape, if it is a hole of the kind that is placed.
+-- A further contour adds a place to those of its shape, if it is a hole of the kind that is placed.
 use Rattle.std.proofs.Common.{◌≡◌, ◌≢◌, ℕ, zero, suc, ◌+◌, ◌<◌, ◌≤◌, Bool, true, false, cond, ◌&&◌, ◌==◌, List, [], ◌∷◌}
 use Rattle.std.proofs.Common.{◌++◌}
 use Rattle.std.proofs.Common.{map, take, length, set, get_or, All, Option, Some, None, refl, sym, ap, ap₂, ◌∙◌, subst}

@@ -1,4 +1,4 @@
--- What the sweep finds for outlines where the places of holes are known is the hole round each.
+-- With the places of holes as known numbers, the sweep finds the hole round each outline.
 use Rattle.std.proofs.Common.{◌≡◌, ℕ, suc, ◌+◌, Bool, true, false, cond, List, [], ◌∷◌, length, Option, Some, None}
 use Rattle.std.proofs.Common.{refl, ap, ◌∙◌, subst, arith}
 use Rattle.std.specs.Prelude.{slice_index_or}

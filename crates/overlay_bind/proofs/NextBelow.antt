@@ -1,4 +1,4 @@
--- What a look-up below an anchor finds: the walk with the next filled-above edge, or that no edge is below.
+-- A look-up below an anchor finds the walk with the next filled-above edge, or that no edge is below.
 use Rattle.std.proofs.Common.{◌≡◌, ◌⊎◌, inl, inr, ⊎_elim, ℕ, Bool, true, false, ◌&&◌, pos, ◌*ℤ◌, ◌<ℤ◌, int_lt, int_le}
 use Rattle.std.proofs.Common.{List, length, take, drop, Contains, Option, None, Some, refl, sym, ap, ap₂, ◌∙◌}
 use Rattle.std.proofs.Common.{subst, arith}

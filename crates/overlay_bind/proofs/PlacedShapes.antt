@@ -1,5 +1,5 @@
--- The places of outlines, to which those of the holes of their groups and those of the holes that are found are added,
--- are those of the shapes to which the contours are bound.
+-- The places of outlines, extended by those of the holes of their groups and of the holes found, are those of the
+-- shapes to which the contours are bound.
 use Rattle.std.proofs.Common.{◌≡◌, ℕ, ◌+◌, ◌<◌, Bool, true, false, cond, List, [], ◌∷◌, ◌++◌, map, length, get_or, All}
 use Rattle.std.proofs.Common.{Option, Some, None, refl}
 use Rattle.std.proofs.Common.{sym, ap, ◌∙◌, subst, arith}

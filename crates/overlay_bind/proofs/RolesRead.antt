@@ -1,4 +1,4 @@
--- The roles of contours, read one after another.
+-- The roles of contours, read one by one.
 use Rattle.std.proofs.Common.{◌≡◌, ℕ, suc, ◌+◌, Bool, true, false, cond, ℤ, List, [], ◌∷◌, ◌++◌, map, length}
 use Rattle.std.proofs.Common.{refl}
 use Rattle.std.proofs.Common.{filter, Option, ap, ◌∙◌, arith}

@@ -1,4 +1,4 @@
--- One turn of the sweep over anchors: what it asks of the list of live edges, and what it tells of a hole.
+-- A turn of the sweep over anchors: its query to the list of live edges, and its answer for a hole.
 use Rattle.std.proofs.Common.{◌≡◌, ⊎_elim, ℕ, ◌+◌, ◌<◌, ◌≤◌, true, pos, ◌≤ℤ◌, ◌<ℤ◌, List, length, take}
 use Rattle.std.proofs.Common.{drop, get_or, slice_set, Contains, Option, sym, subst}
 use Rattle.std.specs.List.{All}

@@ -1,4 +1,4 @@
--- What the core of a builder adds, as contours of the subject or of the clip.
+-- Paths added by the core of a builder, as contours of the subject or of the clip.
 use Rattle.std.proofs.Common.{◌≡◌, Bool, true, false, cond, pos, negsuc, List, [], ◌∷◌, map, refl, ap, ap₂, subst, ◌∙◌}
 use Rattle.std.specs.Prelude.{Result, Ok, Err}
 use Rattle.overlay_geom.specs.Counts.{Counts}

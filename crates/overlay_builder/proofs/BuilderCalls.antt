@@ -1,4 +1,4 @@
--- What follows of a call that adds one thing to a builder, or gives a view of it.
+-- Consequences of a call that adds something to a builder, or gives a view of it.
 use Rattle.std.proofs.Common.{◌≡◌, ◌⊎◌, inl, inr, ℕ, List, map, is_err, refl, sym, ap, subst}
 use Rattle.std.proofs.lemmas.Bool.{false≢true}
 use Rattle.std.proofs.lemmas.Result.{on_ok_weaker}

@@ -1,4 +1,4 @@
--- Whether thinning left out a point: the list is shorter, or it is the one given.
+-- The test whether thinning left out a point: the list is shorter, or it is the given list.
 use Rattle.std.specs.Prelude.{◌↔◌, false}
 use Rattle.std.proofs.Common.{nat_lt, ◌≡◌, ℕ, ◌+◌, ◌<◌, ◌≤◌, ◌⊎◌, inl, inr, List, length, remove, refl, ap, subst}
 use Rattle.std.proofs.Common.{arith}

@@ -1,4 +1,4 @@
--- The edge of a step of a path: what a program makes of it, and that a builder may hold it.
+-- The edge of a step of a path: the program's edge for it, which a builder may hold.
 use Rattle.std.proofs.Common.{◌≡◌, ℕ, ◌<◌, ◌^◌, Bool, true, false, cond, [], ◌∷◌, map, refl, sym, subst}
 use Rattle.std.specs.List.{All}
 use Rattle.std.proofs.lemmas.List.Elements.{All-nil, All-cons, All-head}

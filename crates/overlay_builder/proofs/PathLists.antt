@@ -1,4 +1,4 @@
--- Paths added one after another: one more at the end, two lists of them, and refusals in either.
+-- Paths added one after another: a further path at the end, two lists of paths, and refusals in either.
 use Rattle.std.proofs.Common.{◌≡◌, ◌⊎◌, inl, inr, ℕ, true≢false, is_ok, List, [], ◌∷◌, ◌++◌, sym, ap, ◌∙◌}
 use Rattle.std.proofs.lemmas.List.{append_assoc}
 use Rattle.std.proofs.lemmas.Result.{IfErr-weaker, on_ok_weaker}

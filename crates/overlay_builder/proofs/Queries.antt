@@ -1,4 +1,4 @@
--- What a query of a builder's core answers: where its edges are arranged, and where more is asked of them.
+-- Answers of queries of a builder's core: when its edges are arranged, and when more is asked of them.
 use Rattle.std.proofs.Common.{◌≡◌, inr, ℕ, false, is_err, sym, ap, subst, ◌∙◌}
 use Rattle.std.proofs.lemmas.Bool.{false≢true}
 use Rattle.std.proofs.lemmas.Result.{IfErr-weaker}

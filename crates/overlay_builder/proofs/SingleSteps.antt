@@ -1,4 +1,4 @@
--- A single step along its edge, which is added as it is given; what becomes of the store.
+-- A single step along its edge, added as it is given, and the store afterwards.
 use Rattle.std.proofs.Common.{◌≡◌, true, false, cond, is_eq, is_lt, MatchBool, List, [], ◌∷◌, ◌++◌, map, refl, sym, ap}
 use Rattle.std.proofs.Common.{subst}
 use Rattle.std.proofs.Common.{◌∙◌}

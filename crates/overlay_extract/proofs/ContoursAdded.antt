@@ -1,4 +1,4 @@
--- One contour more is one path more of those that show walks.
+-- A further contour adds a path to those that show walks.
 use Rattle.std.proofs.Common.{◌≡◌, ℤ, List, [], ◌∷◌, ◌++◌, Bool, map, sym, subst}
 use Rattle.std.specs.List.{AllZip}
 use Rattle.std.specs.declared.ops.Range.{Range}

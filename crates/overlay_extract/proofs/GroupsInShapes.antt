@@ -1,4 +1,4 @@
--- The contours of groups, shape by shape, all stand in shapes; and one list of walks more is one group more.
+-- The contours of groups, shape by shape, all have shapes; a further list of walks adds a group.
 use Rattle.std.proofs.Common.{◌≡◌, ⊎_elim, ℕ, zero, suc, ◌+◌, ◌<◌, ◌==◌, true, false, cond, List, [], ◌∷◌, ◌++◌}
 use Rattle.std.proofs.Common.{map, take, length}
 use Rattle.std.proofs.Common.{Contains, Some, All, filter, get_or, refl, sym, ap, ap₂, ◌∙◌, subst, arith, append-nil}

@@ -1,5 +1,5 @@
--- Any two links compare, by their fields in order, and in one way; so the test of two links is an order, and of two
--- with different children one comes first.
+-- The order of links by their fields is total and has no ties. So the test of two links is an order, and of two with
+-- different children one comes first.
 use Rattle.std.proofs.Common.{◌≡◌, ℕ, arith, ◌==◌, ◌&&◌, ◌||◌, ◌↔◌, Bool, true, false, sym, ap, ◌∙◌}
 use Rattle.std.specs.Cmp.{IsTotalOrder, IsStrictWeakOrder}
 use Rattle.std.specs.Ordering.{is_lt, is_eq, nat_cmp, ordering_reverse, then_cmp, on}

@@ -1,4 +1,4 @@
--- The links read off the holes round outlines are exactly the links of the contours, and no two have one child.
+-- The links that follow from the holes round outlines are exactly the links of the contours, and no two have one child.
 use Rattle.std.proofs.Common.{◌≡◌, ⊎_elim, ℕ, zero, suc, ◌+◌, ◌<◌, ◌==◌, true, false, List, [], ◌∷◌, ◌++◌, All}
 use Rattle.std.proofs.Common.{AllPairs}
 use Rattle.std.proofs.Common.{Contains, Option, Some, None, get_or, length, refl, sym, ap, ◌∙◌, subst, arith}

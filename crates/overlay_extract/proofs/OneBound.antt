@@ -1,5 +1,5 @@
--- The shapes to which contours are bound are determined: a number that is read is that of a hole whose shape is to be
--- found, and one thing is found for it.
+-- The shapes to which contours are bound are determined: each number read is that of a hole whose shape is to be found,
+-- and the shape found is unique.
 use Rattle.std.proofs.Common.{◌≡◌, ℕ, suc, Bool, true, false, cond, ◌&&◌, List, [], ◌∷◌, ◌++◌, map, length, Option}
 use Rattle.std.proofs.Common.{Some, None, filter, refl, sym, ap, ap₂, ◌∙◌, arith}
 use Rattle.std.specs.Prelude.{slice_index_or, MatchBool}

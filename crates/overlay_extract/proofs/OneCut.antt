@@ -1,4 +1,4 @@
--- Steps that alternate are cut in one way, also in groups: each walk is the orbit of the one start of what is left.
+-- Alternating steps have one cut, also in groups: each walk is the orbit of the single start of the steps left.
 use Rattle.std.proofs.Common.{◌≡◌, Bool, true, false, not, List, [], ◌∷◌, ◌++◌, map, Contains, filter, refl, sym, ap}
 use Rattle.std.proofs.Common.{ap₂, ◌∙◌, subst, arith}
 use Rattle.std.specs.List.{AllZip, flat_map}

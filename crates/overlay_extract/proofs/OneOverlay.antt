@@ -1,4 +1,4 @@
--- The shapes of an overlay, before collinear points are dropped, are determined by the edges; so are its links.
+-- The edges determine the shapes of an overlay, before collinear points are dropped, and their links.
 use Rattle.std.proofs.Common.{◌≡◌, ℕ, Bool, true, false, List, map, Option, refl, sym, ap, subst, ◌∙◌}
 use Rattle.std.proofs.lemmas.Bool.{both_ways}
 use Rattle.std.specs.Prelude.{Contains}

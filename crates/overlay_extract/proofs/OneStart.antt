@@ -1,5 +1,5 @@
--- Steps that alternate have one start: two edges that start in one point without a turn between them lead one way, and
--- no two of the steps there run along one ray.
+-- Alternating steps have one start: two edges that start in one point without a turn between them lead one way, and no
+-- two of the steps there run along one ray.
 use Rattle.std.proofs.Common.{◌≡◌, Bool, true, false, pos, ◌-ℤ◌, ◌*ℤ◌, ◌+ℤ◌, ◌<ℤ◌, List, Contains}
 use Rattle.std.proofs.Common.{sym, subst}
 use Rattle.std.proofs.lemmas.Bool.{false_from_ne_true}

@@ -1,5 +1,5 @@
--- The result of an overlay: what kept contours of the selected steps, in their shapes and shown by their points, are;
--- and what walks that are cut without groups are in one list.
+-- The result of an overlay: kept contours of the selected steps, in their shapes and shown by their points; and walks
+-- cut without groups, in a list.
 use Rattle.std.proofs.Common.{◌≡◌, ℕ, true, List, [], ◌∷◌, map, All, Option, refl, sym, ap, ap₂, subst, ◌∙◌}
 use Rattle.std.specs.List.{AllZip, each_same, filter, flat_map}
 use Rattle.std.specs.List.Sorted.{IsPermutation}

@@ -1,4 +1,4 @@
--- Two lists in one strict order with the same entries are one list.
+-- Two lists in one strict order with equal entries are equal.
 use Rattle.std.proofs.Common.{◌≡◌, List, [], ◌∷◌, get_or, refl, ap, sym, subst, ◌∙◌, arith, inl, inr}
 use Rattle.std.specs.List.{All, AllPairs, Contains}
 use Rattle.std.proofs.lemmas.List.Elements.{All-contains, All-head, All-tail}

@@ -1,5 +1,5 @@
--- An edge that lies strictly on one side of another edge's line does not meet it: a point of the edge is a weighted
--- mean of its ends, and so is the side on which it lies.
+-- An edge strictly on one side of another edge's line does not meet that edge. A point of an edge is a weighted mean of
+-- its ends, and so is its side.
 use Rattle.std.proofs.Common.{◌≡◌, inl, inr, ℤ, pos, ◌+ℤ◌, ◌*ℤ◌, neg_ℤ, ◌<ℤ◌, ◌≤ℤ◌, sym, ◌∙◌}
 use Rattle.std.proofs.lemmas.Int.{by_lt_z}
 use Rattle.overlay_geom.specs.Plane.{Edge, side, cross_at}

@@ -1,4 +1,4 @@
--- What the comparison of two whole numbers answers, and what their tests tell.
+-- The comparison of two whole numbers, and the tests of its answer.
 use Rattle.std.proofs.Common.{◌≡◌, Bool, true, false, cond, ℤ, ◌<ℤ◌, int_lt, int_le, refl, sym, ◌∙◌, arith}
 use Rattle.std.specs.Bool.{Decides}
 use Rattle.std.specs.Ordering.{MatchOrdering, is_lt, is_le, is_gt, is_eq, int_cmp}

@@ -1,5 +1,5 @@
--- The cross product of the vectors from one point to two others: with the two exchanged, where one is the point itself
--- or both are one, and the relation between the six products of four points seen from a fifth.
+-- The cross product of the vectors from a point to two others. The two may be exchanged, equal, or equal to the point.
+-- Six products of four points, seen from a fifth, have a relation.
 use Rattle.std.proofs.Common.{◌≡◌, pos, ◌+ℤ◌, ◌*ℤ◌, neg_ℤ}
 use Rattle.overlay_geom.specs.Plane.{Point, cross_at}
 use Rattle.overlay_geom.proofs.Identities.{solve, Expr, number, ◌⊕◌, ◌⊗◌, ◌⊖◌, ⊝◌, ◌≗◌}

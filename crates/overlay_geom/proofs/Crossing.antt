@@ -1,5 +1,5 @@
--- Two edges of which each goes across the other's line, or to or from it: the lines meet in one point, which is found
--- by weighing the ends with the sides on which they lie. The edges meet in ends alone exactly where they share an end.
+-- Two edges, each with its ends on different sides of the other's line, or one end on it. The lines meet in one point,
+-- a mean of the ends weighted by sides. The edges meet in ends alone exactly where they share an end.
 use lib.IntN.{*ℤ_comm}
 use Rattle.std.proofs.Common.{◌≡◌, ◌⊎◌, inl, inr, ℤ, pos, ◌+ℤ◌, ◌-ℤ◌, ◌*ℤ◌, neg_ℤ, ◌<ℤ◌, ◌≤ℤ◌, sym, subst, refl}
 use Rattle.std.proofs.lemmas.Int.{by_lt_z}

@@ -1,4 +1,5 @@
--- How twice a number compares with a sum of two others, which the program reads off half of the sum and the rest.
+-- The comparison of twice a number with a sum of two others, which the program makes by half of the sum and the
+-- remainder.
 use Rattle.std.proofs.Common.{◌≡◌, ◌≢◌, ℕ, ◌+◌, ◌<◌, ◌^◌, ℤ, pos, ◌+ℤ◌, ◌*ℤ◌, ◌<ℤ◌, refl, sym, subst, ◌∙◌, lit<, arith}
 use Rattle.std.proofs.Common.{to_z, of_z, FitsSigned}
 use Rattle.std.specs.Int.RustNames.{int_div, int_rem, unsigned_abs}

@@ -1,4 +1,4 @@
--- The first entry of a list and the later ones.
+-- The first entry of a list, and the later entries.
 use Rattle.std.proofs.Common.{◌≡◌, ◌⊎◌, inl, inr, ℕ, zero, suc, ◌<◌, List, [], ◌∷◌, length, refl, arith}
 use Rattle.std.specs.List.{Contains}
 

@@ -1,5 +1,5 @@
--- Shapes in lists that grow: paths are added one by one; the shapes of packed lists keep their paths, and the range of
--- the paths that were added is one shape more.
+-- Shapes in growing flat lists. Paths are added one by one, shapes of packed lists keep their paths, and the range of
+-- added paths is a new shape.
 use Rattle.std.proofs.Common.{◌≡◌, ℕ, ℤ, ◌+◌, ◌-◌, ◌<◌, ◌≤◌, List, [], ◌∷◌, ◌++◌, length, get_or, take, refl, Vec}
 use Rattle.std.proofs.Common.{sym, ◌∙◌, ap, ap₂, subst, subst₂, arith}
 use Rattle.std.specs.declared.ops.Range.{Range}

@@ -1,5 +1,5 @@
--- Identities of polynomials over the whole numbers, proved by computing: both sides are multiplied out to a sum of
--- coefficients times products of unknowns, and where that sum is the same on both sides, the two are equal everywhere.
+-- Identities of polynomials over the whole numbers, proved by computing. Both sides are multiplied out to sums of
+-- coefficients times products of unknowns. Sides with equal sums are equal everywhere.
 use Rattle.std.proofs.Common.{◌≡◌, ℕ, zero, suc, Bool, true, false, ◌&&◌, T, eqb, ltb, ℤ, pos, negsuc, ◌+ℤ◌, ◌-ℤ◌, ◌*ℤ◌}
 use Rattle.std.proofs.Common.{neg_ℤ, List, [], ◌∷◌, refl, sym, ap, ap₂, ◌∙◌, eqb→eq, subst, ltb-false, arith}
 use Rattle.std.proofs.lemmas.Int.{ints}

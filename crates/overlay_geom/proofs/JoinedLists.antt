@@ -1,4 +1,4 @@
--- Lists joined into one, as a loop over them finds it: its length, also where it is cut, and the element at a place.
+-- Joined lists in a loop: their length, also after a cut, and the element at a place.
 use Rattle.std.proofs.Common.{◌≡◌, ℕ, ◌+◌, ◌<◌, List, [], ◌∷◌, ◌++◌, length, take, get_or, min, flat_map, Some, refl}
 use Rattle.std.proofs.Common.{sym, ◌∙◌, ap, ap₂, arith}
 use Rattle.std.specs.List.{slice_get}

@@ -1,5 +1,5 @@
--- A mapped list, as a loop over the list that is mapped finds it: its front, the element at a place, what is left, and
--- what a test keeps of it.
+-- A mapped list in a loop over the original list: its front, the element at a place, the rest, and the elements that
+-- pass a test.
 use Rattle.std.proofs.Common.{◌≡◌, Bool, true, false, cond, ℕ, ◌+◌, ◌-◌, ◌<◌, ◌≤◌, List, [], ◌∷◌, ◌++◌, map, All}
 use Rattle.std.proofs.Common.{length, reverse, take, drop, slice_range, get_or, refl, sym, ◌∙◌, ap, subst, arith}
 use Rattle.std.specs.List.{AllPairs, AllZip, Contains, filter}

@@ -1,5 +1,5 @@
--- The marks of strings on counted edges: what an edge without counts has, marks of edges between two ends, and what
--- marks weigh.
+-- The marks of strings on counted edges: marks of an edge without counts, marks of edges between two ends, and their
+-- weight.
 use Rattle.std.proofs.Common.{◌≡◌, ℕ, ◌+◌, ◌≤◌, Bool, true, false, cond, not, ◌&&◌, ◌||◌, pos, List, [], ◌∷◌, refl, ap}
 use Rattle.std.proofs.Common.{sym, ◌∙◌, arith}
 use Rattle.std.specs.List.{filter, list_any}

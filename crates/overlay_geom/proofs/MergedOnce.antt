@@ -1,4 +1,4 @@
--- A list is merged in one way only.
+-- A list has only one merged list.
 use Rattle.std.proofs.Common.{◌≡◌, false, List, [], ◌∷◌, get_or, refl, ap, sym, subst, ◌∙◌, arith, inl, inr}
 use Rattle.std.specs.List.{All, Contains}
 use Rattle.std.proofs.lemmas.Bool.{both_ways}

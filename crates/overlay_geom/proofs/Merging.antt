@@ -1,5 +1,5 @@
--- A list is another one merged where it ascends, has no edge without counts, and has the same joined edge between any
--- two ends.
+-- A list is the merged list of another if it ascends, has no edge without counts, and has equal joined edges between
+-- any two ends.
 use Rattle.std.proofs.Common.{◌≡◌, zero, suc, Bool, true, false, List, [], ◌∷◌, get_or, refl, ap, sym, subst, ◌∙◌}
 use Rattle.std.proofs.Common.{arith, ◌⊎◌, inl, inr}
 use Rattle.std.specs.List.{All, AllPairs, Contains, list_any}

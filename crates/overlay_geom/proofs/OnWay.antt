@@ -1,5 +1,5 @@
--- The number nearest one on the way between two whole numbers is the number from which the way begins, and the distance
--- from it, rounded: added on the way up and taken away on the way down.
+-- The whole number nearest to a point between two whole numbers: the start plus the rounded distance on the way up, and
+-- minus it on the way down.
 use Rattle.std.proofs.Common.{◌≡◌, inl, inr, ℕ, ◌*◌, ℤ, pos, neg_ℤ, ◌+ℤ◌, ◌-ℤ◌, ◌*ℤ◌, ◌<ℤ◌, ◌≤ℤ◌, ap, ap₂, sym, ◌∙◌}
 use Rattle.std.proofs.Common.{arith}
 use Rattle.std.specs.Int.RustNames.{unsigned_abs}

@@ -1,4 +1,4 @@
--- Ranges that stand one behind the other are inside, and one more list goes on behind them.
+-- Ranges that follow each other are inside the list, and a further list goes on behind them.
 use Rattle.std.proofs.Common.{◌≡◌, ℕ, ◌≤◌, List, [], ◌∷◌, ◌++◌, length, ap, sym, subst, arith}
 use Rattle.std.specs.declared.ops.Range.{Range}
 use Rattle.std.proofs.lemmas.List.{length-append}

@@ -1,4 +1,4 @@
--- Where an edge lies by another edge's line, read off the sides of its two ends.
+-- The position of an edge relative to another edge's line, read off the sides of its two ends.
 use Rattle.std.proofs.Common.{◌≡◌, ◌≢◌, inl, inr, Bool, true, false, not, ◌==◌, ℤ, pos, ◌<ℤ◌, int_cmp, refl}
 use Rattle.std.specs.Ordering.{MatchOrdering, is_eq, ordering_index}
 use Rattle.std.specs.declared.cmp.Ordering.{Ordering}

@@ -1,4 +1,4 @@
--- How points compare, as one ordering.
+-- The comparison of points as an ordering.
 use Rattle.std.proofs.Common.{◌≡◌, false, cond, [], ◌∷◌, map, refl, ap, ap₂, sym, ◌∙◌}
 use Rattle.std.specs.Ordering.{is_lt, is_eq, int_cmp, ordering_reverse, ordering_then}
 use Rattle.std.specs.declared.cmp.Ordering.{Ordering}

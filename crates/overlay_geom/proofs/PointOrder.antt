@@ -1,4 +1,4 @@
--- Whole points in order, by their coordinates: which of two comes first.
+-- The order of whole points by their coordinates.
 use Rattle.std.proofs.Common.{◌≡◌, ◌⊎◌, inl, inr, Bool, true, false, ◌<ℤ◌, ◌≤ℤ◌, refl}
 use Rattle.std.specs.Bool.{Decides}
 use Rattle.std.proofs.lemmas.Int.{by_lt_z}

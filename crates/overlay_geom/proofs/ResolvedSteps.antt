@@ -1,5 +1,4 @@
--- Steps one by one: what holds of the edges through points, and which of them are apart, where one step more is looked
--- at.
+-- Steps one by one: facts of the edges through points, and the test of the next step against the later steps.
 use Rattle.std.proofs.Common.{◌≡◌, ◌↔◌, Bool, true, false, cond, List, [], ◌∷◌, ◌++◌, map, All, Some}
 use Rattle.std.proofs.Common.{refl, sym, ap, ◌∙◌, subst, arith}
 use Rattle.std.specs.List.{Contains, slice_get}

@@ -1,6 +1,5 @@
--- The whole number nearest a fraction: how far it is from it at most, that it is the only one so near, that it keeps
--- the order, and that points rounded in x and in y are rounded. What lies part of the way between two whole numbers is
--- rounded between them.
+-- The whole number nearest to a fraction: its distance, its uniqueness and its order. Rounding in x and in y rounds
+-- points. A number between two whole numbers is rounded between them.
 use Rattle.std.proofs.Common.{◌≡◌, inl, inr, ℤ, pos, negsuc, ◌+ℤ◌, ◌-ℤ◌, ◌*ℤ◌, ◌<ℤ◌, ◌≤ℤ◌, ap₂, arith}
 use Rattle.std.specs.Int.{int_div_euclid}
 use Rattle.std.proofs.lemmas.Int.{ints, by_lt_z}

@@ -1,4 +1,4 @@
--- The same edges in another order have the same joined edges and the same weight.
+-- A list of edges in another order has equal joined edges and equal weight.
 use Rattle.std.proofs.Common.{◌≡◌, Bool, cond, ℤ, pos, List, sym, ◌∙◌}
 use Rattle.std.specs.List.{filter}
 use Rattle.std.specs.List.Sorted.{IsPermutation}

@@ -1,4 +1,4 @@
--- The signs of products of whole numbers, and what the sign of one factor says of the other.
+-- The signs of products of whole numbers, and the sign of a factor from that of the other factor.
 use lib.IntN.{*ℤ-zero}
 use borrow.Author.Differences.{same_out, Apart-out, lt_out, le_out, same_in, below_in, at_most_in, sum_is_lem, neg_is}
 use Rattle.std.proofs.Common.{◌≡◌, zero, suc, ◌*◌, ℤ, pos, negsuc, ◌-ℤ◌, ◌*ℤ◌, neg_ℤ, ◌<ℤ◌, ◌≤ℤ◌, ap, ◌∙◌}

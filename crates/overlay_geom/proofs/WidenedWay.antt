@@ -1,5 +1,4 @@
--- The coordinate part of the way between two others that the program computes of widened numbers is the one between
--- those that it widened.
+-- The coordinate part of the way between two others, computed from widened numbers, is that of the original numbers.
 use Rattle.std.proofs.Common.{◌≡◌, ℕ, ◌<◌, ◌^◌, ℤ, pos, ◌<ℤ◌, ◌≤ℤ◌, ◌∙◌, refl, arith, to_z, of_z, FitsSigned}
 use Rattle.std.proofs.lemmas.Int.{ints, to_z-of_z}
 use Rattle.overlay_geom.specs.Numbers.{Within}

@@ -1,4 +1,4 @@
--- A winding as a sum over the edges one by one: it is at most as far from 0 as their weight.
+-- A winding as a sum over the edges one by one, at most as far from 0 as their weight.
 use Rattle.std.proofs.Common.{◌≡◌, ℕ, ◌+◌, ◌<◌, Bool, true, false, cond, ℤ, pos, negsuc, ◌+ℤ◌, List, map, take, get_or}
 use Rattle.std.proofs.Common.{length, sym, ap, ap₂, ◌∙◌, arith}
 use Rattle.std.specs.Prelude.{nat_abs}

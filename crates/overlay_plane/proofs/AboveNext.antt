@@ -1,5 +1,5 @@
--- Between the anchor of a hole and the next filled-above edge below it no step is selected, so some of the selected
--- steps wind alike below the anchor and above that edge.
+-- No step is selected between the anchor of a hole and the next filled-above edge below it. So selected steps have
+-- equal windings below the anchor and above that edge.
 use Rattle.std.proofs.Common.{◌≡◌, ⊎_elim, Bool, true, false, cond, not, ◌&&◌, ℤ, pos, ◌+ℤ◌, ◌-ℤ◌, ◌<ℤ◌, ◌≤ℤ◌, List}
 use Rattle.std.proofs.Common.{Contains, refl, sym, ap, ◌∙◌, subst}
 use Rattle.std.specs.List.{filter}

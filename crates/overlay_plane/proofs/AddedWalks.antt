@@ -1,5 +1,5 @@
--- Walks taken together wind as their windings summed, so along a walk along which each of them has one winding they
--- have one together; and they have balanced counts.
+-- Walks taken together: their windings add up. Along a walk along which each has a constant winding, so have all
+-- together. Their counts are balanced.
 use Rattle.std.proofs.Common.{◌≡◌, Bool, true, false, cond, ℤ, pos, ◌+ℤ◌, List, [], ◌∷◌, ◌++◌, Contains}
 use Rattle.std.proofs.Common.{refl, sym}
 use Rattle.std.proofs.Common.{ap, ap₂, ◌∙◌}

@@ -1,4 +1,5 @@
--- The counted edges of an added contour make its winding, as given or thinned, in the one count and none in the other.
+-- The counted edges of an added contour make its winding, as given or thinned, in its own count, and none in the other
+-- count.
 use Rattle.std.proofs.Common.{◌≡◌, Bool, true, false, cond, ℤ, pos, ◌+ℤ◌, List, ◌++◌, map, refl, ap, ◌∙◌}
 use lib.IntN.{+ℤ_idr}
 use Rattle.overlay_geom.specs.Plane.{Point, PlanePoint, Step, is_strictly_below, steps_of, winding}

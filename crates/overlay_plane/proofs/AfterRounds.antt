@@ -1,4 +1,4 @@
--- What cutting rounds keep: balanced counts, and lists that are merged and settled.
+-- Cutting rounds keep balanced counts, and keep lists that are merged and settled.
 use Rattle.std.proofs.Common.{◌≡◌, ◌≤◌, List, [], ◌∷◌, length, subst, arith}
 use Rattle.overlay_geom.specs.Edges.{CountedEdge}
 use Rattle.overlay_geom.specs.Merged.{IsMerged}

@@ -1,5 +1,5 @@
--- Along each walk that steps are cut into, any of the walks has one winding on the filled sides: along a later walk the
--- orbit before it winds alike on both sides, along an earlier one what it leaves does.
+-- Along each walk of a cut, each of the walks has a constant winding on the filled sides. An earlier orbit has equal
+-- windings on both sides of a later walk, and the steps left do so along an earlier walk.
 use Rattle.std.proofs.Common.{◌≡◌, ⊎_elim, ℤ, pos, ◌+ℤ◌, List, ◌∷◌, Contains, refl, sym, ◌∙◌}
 use Rattle.std.proofs.Common.{subst}
 use Rattle.std.proofs.lemmas.Bool.{both_ways}

@@ -1,4 +1,4 @@
--- Anchors come one before another in a strict order, in which any two of edges that lead forward compare.
+-- The order of anchors is strict, and any two forward edges compare in it.
 use Rattle.std.proofs.Common.{◌≡◌, ⊎_elim, Bool, true, false, ◌&&◌, pos, int_lt, refl, sym, ap, ◌∙◌, subst}
 use Rattle.std.proofs.lemmas.Bool.{both_ways, and_from, and_parts, or_cases, or_left, or_right, false_from_ne_true}
 use Rattle.overlay_geom.specs.Plane.{Point, Edge, point_lt, point_eq}

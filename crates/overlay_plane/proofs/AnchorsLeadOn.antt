@@ -1,5 +1,5 @@
--- The anchor of a contour that walks along each edge once is not vertical: two of its edges start in the anchor's
--- point, and were the lowest of them vertical, so would be the other, and the two would be one edge.
+-- The anchor of a contour that walks along each edge once is not vertical. Two of its edges start in the anchor's
+-- point. If the lowest were vertical, so would be the other, and the two would be equal.
 use Rattle.std.proofs.Common.{◌≡◌, ◌⊎◌, inl, inr, ⊎_elim, Bool, true, false, pos, ◌<ℤ◌, ◌≤ℤ◌}
 use Rattle.std.proofs.Common.{List, Contains, refl, sym, ap, ◌∙◌, subst}
 use Rattle.std.proofs.lemmas.Int.{by_lt_z}

@@ -1,5 +1,5 @@
--- What the rounds of each solver have in common: they merge edges that are not settled, and lead each edge through
--- whole points at most 1/2 away from its own.
+-- Common facts of the rounds of both solvers. They merge edges that are not settled, and lead each edge through whole
+-- points at most 1/2 away from its own points.
 use Rattle.std.proofs.Common.{◌≡◌, inl, inr, List, [], ◌∷◌, Contains, sym, subst, ◌∙◌}
 use Rattle.std.proofs.lemmas.List.Elements.{All-contains}
 use Rattle.overlay_geom.specs.Edges.{CountedEdge, ends_of}

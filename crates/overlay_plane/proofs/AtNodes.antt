@@ -1,5 +1,5 @@
--- Steps of an alternating set at one node: they run along different rays, and between two that leave one arrives, and
--- between two that arrive one leaves, by either hand.
+-- Steps of an alternating set at one node run along different rays. Between two that leave an arriving step lies, and
+-- between two that arrive a leaving step, by either hand.
 use Rattle.std.proofs.Common.{◌≡◌, ◌⊎◌, inl, inr, Bool, true, false, List, Contains, refl, sym, ◌∙◌, subst}
 use Rattle.std.proofs.lemmas.Bool.{and_parts, and_from, both_ways, false_from_ne_true}
 use Rattle.overlay_geom.specs.Plane.{Point, Step, point_eq, step_eq}

@@ -1,4 +1,4 @@
--- What is below an anchor is under its edge, just right of the point in which it starts.
+-- An edge below an anchor is under the anchor's edge, just right of the point where that starts.
 use Rattle.std.proofs.Common.{◌≡◌, ⊎_elim, Bool, true, false, ◌&&◌, ◌||◌, pos, ◌+ℤ◌, refl, arith}
 use Rattle.std.proofs.lemmas.Int.{ints}
 use Rattle.std.proofs.lemmas.Bool.{both_ways}

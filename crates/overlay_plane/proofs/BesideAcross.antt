@@ -1,5 +1,5 @@
--- Across a step the winding changes by how often the steps taken walk along its edge: once for each time that the step
--- is taken, and once back for each time that it is taken back.
+-- The winding changes across a step by the number of times that the steps taken walk along its edge, minus the number
+-- of times back.
 use Rattle.std.proofs.Common.{◌≡◌, ◌⊎◌, inl, inr, ⊎_elim, Bool, true, false, cond, not, ℤ, pos, negsuc, ◌+ℤ◌, ◌-ℤ◌}
 use Rattle.std.proofs.Common.{◌*ℤ◌, List, Contains, refl, sym, ap, ap₂, ◌∙◌, subst, arith}
 use Rattle.std.proofs.lemmas.Bool.{both_ways, false_from_ne_true}

@@ -1,4 +1,4 @@
--- The winding of the steps taken goes over from each step to its next step, so it is one number along each orbit.
+-- The winding of the steps taken carries over from each step to its next step, so it is constant along each orbit.
 use Rattle.std.proofs.Common.{◌≡◌, inl, inr, ⊎_elim, List, Contains, refl, sym, ◌∙◌}
 use Rattle.overlay_geom.specs.Plane.{Step}
 use Rattle.overlay_geom.specs.Edges.{CountedEdge}

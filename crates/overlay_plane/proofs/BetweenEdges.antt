@@ -1,5 +1,5 @@
--- What is under an edge at an x-coordinate: what is under a lower one, that one, and what lies between the two. Where
--- nothing between counts, the winding below the single edge is that above the other.
+-- The edges under an edge at an x-coordinate: those under a lower edge, that edge, and those between the two. If none
+-- between counts, the winding below the upper edge is the winding above the lower.
 use Rattle.std.proofs.Common.{◌≡◌, Bool, true, false, cond, not, ◌&&◌, ℤ, pos, ◌+ℤ◌, ◌≤ℤ◌, List, [], ◌∷◌}
 use Rattle.std.proofs.Common.{Contains, refl, sym, ap, ap₂, ◌∙◌, subst, ⊎_elim}
 use Rattle.std.proofs.lemmas.Bool.{both_ways, and_parts, and_from, false_from_ne_true}

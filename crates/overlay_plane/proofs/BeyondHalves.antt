@@ -1,5 +1,5 @@
--- Beyond a half plane that has all edges none of them is strictly below a point, or each is that covers its
--- x-coordinate; so balanced counts sum to 0 there.
+-- Points beyond a half plane with all edges: either no edge is strictly below a point, or each that covers its
+-- x-coordinate is. So balanced counts sum to 0 there.
 use Rattle.std.proofs.Common.{◌≡◌, Bool, true, false, cond, not, ◌&&◌, ℤ, pos, ◌+ℤ◌, ◌-ℤ◌, ◌*ℤ◌, ◌<ℤ◌, ◌≤ℤ◌, int_lt}
 use Rattle.std.proofs.Common.{int_le}
 use Rattle.std.proofs.Common.{List, Contains, refl, sym, ap, subst, ◌∙◌}

@@ -1,5 +1,5 @@
--- The shapes to which contours are bound have each contour once, where the contours are numbered and each hole is found
--- a shape: the lists made of the contours' parts are one in two orders.
+-- The shapes to which contours are bound have each contour once, if the contours are numbered and a shape is found for
+-- each hole. The lists of the contours' parts are permutations of each other.
 use Rattle.std.proofs.Common.{◌≡◌, inl, inr, ℕ, suc, ◌+◌, ◌<◌, Bool, true, false, cond, not, ◌&&◌, ◌==◌}
 use Rattle.std.proofs.Common.{List, [], ◌∷◌, ◌++◌, map, length, Contains, Option, Some, None, refl, sym, ap, ap₂, ◌∙◌}
 use Rattle.std.proofs.Common.{subst, arith, append_assoc, append-nil}

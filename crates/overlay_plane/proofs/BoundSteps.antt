@@ -1,5 +1,5 @@
--- The shapes to which contours are bound have each of them once, where no hole is lost; so those of all contours of a
--- cut, in groups or without, have each selected step once, and wind as these do, also thinned.
+-- The shapes to which contours are bound have each contour once, if no hole is lost. So the shapes of a cut, in groups
+-- or without, have each selected step once, and equal windings, also thinned.
 use Rattle.std.proofs.Common.{◌≡◌, ⊎_elim, ℕ, suc, ◌<◌, Bool, false, ℤ, List, [], ◌∷◌, ◌++◌, All, map}
 use Rattle.std.proofs.Common.{length, Contains, Option, Some, None, refl, sym, ap, ◌∙◌, subst, arith}
 use Rattle.std.specs.Prelude.{slice_index_or}

@@ -1,4 +1,4 @@
--- The steps of a chain through points in order: each leads from one of the points to a larger one, with none of them
+-- The steps of a chain through points in order: each leads from a point to a larger point, with none of the points
 -- between.
 use Rattle.std.proofs.Common.{◌≡◌, inl, inr, Bool, true, false, cond, List, [], ◌∷◌, refl, sym, ap, ◌∙◌, subst, arith}
 use Rattle.std.proofs.Common.{Contains}

@@ -1,4 +1,4 @@
--- A list in a strict order of its entries: what each entry has before it, summed, and what telescopes along it.
+-- A list in a strict order of its entries: sums over the entries before each entry, and telescoping sums.
 use Rattle.std.proofs.Common.{◌≡◌, Bool, true, false, cond, ℤ, pos, ◌+ℤ◌, ◌-ℤ◌, List, [], ◌∷◌, Contains, sym, ap, ap₂}
 use Rattle.std.proofs.Common.{◌∙◌}
 use lib.IntN.{+ℤ_idl, +ℤ_idr, +ℤ_assoc}

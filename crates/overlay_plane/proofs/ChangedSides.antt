@@ -1,5 +1,4 @@
--- An end of one of two segments that changes the side on which it lies of the other, when the places of all ends are
--- moved along their levels.
+-- An end of a segment changes its side of another segment, when the places of all ends are moved along their levels.
 use lib.IntN.{zero-*ℤ}
 use Rattle.std.proofs.Common.{◌≡◌, ◌⊎◌, inl, inr, ⊎_elim, ℤ, pos, ◌+ℤ◌, ◌*ℤ◌, sym, ap, ◌∙◌}
 use Rattle.overlay_geom.proofs.Signs.{linear}

@@ -1,5 +1,5 @@
--- A part of an alternating set that holds with each step its next step by a hand, and with each next step the step
--- before it, alternates, and its steps have the same next steps in the part as in the set.
+-- Part of an alternating set that contains with each step its next step by a hand and the step before. It alternates,
+-- and its steps have their next steps of the set.
 use Rattle.std.proofs.Common.{◌≡◌, Bool, true, false, not, List, Contains, filter, refl, sym, ap, ◌∙◌, subst}
 use Rattle.overlay_geom.specs.Plane.{Point, Step}
 use Rattle.overlay_plane.specs.Turn.{Hand, is_met_before, IsMetBefore, IsNextStep}

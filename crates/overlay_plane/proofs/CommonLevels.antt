@@ -1,4 +1,4 @@
--- Two segments in the plane, and the weights of their ends at which both have one level.
+-- Two segments in the plane, and the weights of their ends at which both have equal levels.
 use Rattle.std.proofs.Common.{◌≡◌, ℤ, pos, ◌+ℤ◌, ◌-ℤ◌, ◌*ℤ◌, ◌<ℤ◌, ◌≤ℤ◌, sym, ap, ◌∙◌}
 use Rattle.std.proofs.lemmas.Int.{by_lt_z}
 use Rattle.overlay_geom.proofs.Identities.{Expr, solve, number, ◌⊕◌, ◌⊗◌, ◌⊖◌, ◌≗◌}

@@ -1,5 +1,5 @@
--- The points that two edges have in common: one at most where they do not lie along one line; and each is a meeting
--- point, or an inner point of both where they overlap.
+-- The points that two edges share: at most one where they are not collinear. Each is a meeting point, or an inner point
+-- of both where they overlap.
 use Rattle.std.proofs.Common.{◌≡◌, ◌⊎◌, inl, inr, ℤ, pos, ◌-ℤ◌, ◌*ℤ◌, neg_ℤ, ◌<ℤ◌, ◌≤ℤ◌}
 use Rattle.std.specs.Bool.{Decides}
 use Rattle.std.proofs.lemmas.Int.{by_lt_z}

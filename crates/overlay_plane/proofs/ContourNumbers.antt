@@ -1,5 +1,5 @@
--- The numbers of contours of a cut: the outlines are numbered in order, and each hole of a group has the number of an
--- outline before it; so each number is that of an outline, and so is each one that is found.
+-- The numbers of contours of a cut: outlines are numbered in order, and each hole of a group has the number of an
+-- outline before it. So each number, and each number found, is that of an outline.
 use Rattle.std.proofs.Common.{◌≡◌, ⊎_elim, ℕ, suc, ◌+◌, ◌<◌, Bool, true, false, cond, List, [], ◌∷◌, ◌++◌, map}
 use Rattle.std.proofs.Common.{length}
 use Rattle.std.proofs.Common.{Contains, Some, filter, refl, sym, ap, ◌∙◌, subst, arith}

@@ -1,4 +1,4 @@
--- The steps of a contour are between different points, and each has a step before it and one after it.
+-- The steps of a contour lead between different points, and each has a step before and a step after.
 use Rattle.std.proofs.Common.{◌≡◌, inl, inr, ◌+◌, ◌-◌, ◌<◌, List, [], ◌∷◌, ◌++◌, length, Contains, sym, ap, ◌∙◌, subst}
 use Rattle.std.proofs.Common.{arith}
 use Rattle.std.proofs.lemmas.List.Elements.{Contains-append_cases}

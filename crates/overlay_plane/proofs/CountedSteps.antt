@@ -1,5 +1,5 @@
--- Steps counted on the edges of a list: a number that each edge has, times how often the steps walk along it, sums to
--- the numbers of the steps' edges, times the steps' signs.
+-- Steps counted on the edges of a list. A number of each edge, times the count of steps along it, sums to the numbers
+-- of the steps' edges times the steps' signs.
 use Rattle.std.proofs.Common.{◌≡◌, Bool, true, false, cond, ℤ, pos, ◌*ℤ◌, List, Contains, sym, ap, ◌∙◌}
 use lib.IntN.{*ℤ_comm, *ℤ-zero}
 use Rattle.overlay_geom.specs.Plane.{PlanePoint, Step, Edge, edge_eq, edge_of, sign_of, is_strictly_below, total}

@@ -1,5 +1,5 @@
--- Two edges that meet in ends alone do not cross: the gap between them keeps its sign where the one reaches further on
--- both sides.
+-- Two edges that meet in ends alone do not cross: the gap between them keeps its sign where one of them reaches further
+-- on both sides.
 use Rattle.std.proofs.Common.{◌≡◌, inl, inr, ⊎_elim, ℤ, pos, ◌+ℤ◌, ◌-ℤ◌, ◌*ℤ◌, neg_ℤ, ◌<ℤ◌, ◌≤ℤ◌, int_lt, sym, ◌∙◌}
 use Rattle.std.proofs.lemmas.Int.{by_lt_z}
 use Rattle.overlay_geom.specs.Plane.{Edge, PlanePoint, side, IsAt, IsBetween, IsOn, IsEnd, line_form}

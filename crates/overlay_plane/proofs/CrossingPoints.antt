@@ -1,5 +1,5 @@
--- The point in which two edges cross that lie across each other: it is on both, and how far it is along the one, by the
--- sides on which that one's ends lie.
+-- The crossing of two edges that lie across each other: it is on both, and the sides of an edge's ends tell how far
+-- along that edge it is.
 use Rattle.std.proofs.Common.{◌≡◌, inl, inr, ℤ, pos, negsuc, nat_abs, ◌+ℤ◌, ◌-ℤ◌, ◌*ℤ◌, neg_ℤ, ◌<ℤ◌, ◌≤ℤ◌, refl, sym}
 use Rattle.std.proofs.Common.{ap₂, ◌∙◌}
 use Rattle.overlay_geom.specs.Plane.{PlanePoint, Edge, IsOn, cross_at}

@@ -1,5 +1,4 @@
--- Where steps are cut by one hand, each walk is an orbit of all the steps, and its first step is the start of its own
--- ones.
+-- Steps cut by one hand: each walk is an orbit of all the steps, and its first step is the start of its own steps.
 use Rattle.std.proofs.Common.{⊎_elim, List, ◌∷◌, Contains, sym, subst, arith}
 use Rattle.std.proofs.lemmas.List.Elements.{All-contains}
 use Rattle.overlay_geom.specs.Plane.{Step}

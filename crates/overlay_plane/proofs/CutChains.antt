@@ -1,4 +1,4 @@
--- The chain of an edge through its rounded cuts is the one through the whole points that are computed pair by pair.
+-- The chain of an edge through its rounded cuts is the chain through the whole points computed pair by pair.
 use Rattle.std.proofs.Common.{◌≡◌, ◌⊎◌, inl, inr, ⊎_elim, Bool, true, false, pos, List, [], ◌∷◌, ◌++◌, map, Contains}
 use Rattle.std.proofs.Common.{refl, sym, ◌∙◌, subst}
 use Rattle.std.specs.List.{Any, flat_map}

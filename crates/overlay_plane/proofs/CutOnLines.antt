@@ -1,4 +1,4 @@
--- Edges cut through points on their lines wind as before: along a line the signs of steps strictly below a point
+-- Edges cut through points on their lines keep their windings: along a line the signs of steps strictly below a point
 -- telescope.
 use Rattle.std.proofs.Common.{◌≡◌, ⊎_elim, Bool, true, false, cond, ◌&&◌, ℤ, pos, ◌-ℤ◌, ◌*ℤ◌, ◌<ℤ◌, int_lt, List, []}
 use Rattle.std.proofs.Common.{◌∷◌, ◌++◌, Contains, sym, ap, ◌∙◌}

@@ -1,4 +1,4 @@
--- Contours wind as the steps that they are cut from, and as the points that are left of them when they are thinned.
+-- Contours have the windings of the steps that they are cut from, and of their thinned points.
 use Rattle.std.proofs.Common.{Bool, ℤ, List, [], ◌∷◌, refl, ap₂, ◌+ℤ◌, ◌∙◌, sym}
 use Rattle.std.specs.List.{flat_map}
 use Rattle.overlay_geom.specs.Plane.{steps_of}

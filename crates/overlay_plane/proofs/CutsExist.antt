@@ -1,5 +1,5 @@
--- There is a cut of steps that can be cut: while steps are left, one of them is the start, it has an orbit, and what
--- the orbit leaves is less and can be cut.
+-- Steps that can be cut have a cut. While steps are left, one of them is the start and has an orbit; the rest after the
+-- orbit is smaller and can be cut.
 use Rattle.std.proofs.Common.{◌≡◌, ⊎_elim, ℕ, zero, suc, ◌<◌, ◌≤◌, Bool, true, false, cond, not, List, []}
 use Rattle.std.proofs.Common.{◌∷◌, length, Contains, filter, refl, sym, ap, ◌∙◌, subst, arith}
 use Rattle.std.proofs.lemmas.Bool.{both_ways}

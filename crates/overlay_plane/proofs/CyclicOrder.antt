@@ -1,5 +1,4 @@
--- Rays of different directions are met in one cyclic order: the same from wherever the turn starts, and reversed by the
--- other hand.
+-- Rays of different directions are met in one cyclic order, wherever the turn starts; the other hand reverses it.
 use Rattle.std.proofs.Common.{◌≡◌, ⊎_elim, ◌+◌, true, false, refl, ◌∙◌, arith}
 use Rattle.std.proofs.lemmas.Bool.{both_ways}
 use Rattle.overlay_geom.specs.Plane.{Point}

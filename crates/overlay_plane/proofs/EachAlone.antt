@@ -1,6 +1,6 @@
--- Each shape to which all contours are bound winds once or zero times round each point: along the contours that stand
--- in it from the start its winding is once, since its lowest edge at its leftmost lowest point is one of theirs; so it
--- is along the holes that are found for it.
+-- Each shape to which all contours are bound winds once or zero times round each point. Along its contours from the
+-- start the winding is once, since its lowest edge at its leftmost lowest point belongs to one. So it is along the
+-- holes found for it.
 use Rattle.std.proofs.Common.{◌≡◌, ◌⊎◌, inl, inr, ⊎_elim, ℕ, Bool, true, false, ◌&&◌, ℤ, pos, List, [], ◌∷◌, ◌++◌}
 use Rattle.std.proofs.Common.{filter, Contains, Option, Some, None, refl, sym, ap, ◌∙◌, subst, arith}
 use Rattle.std.specs.Prelude.{slice_index_or, MatchBool}

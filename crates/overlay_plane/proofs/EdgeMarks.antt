@@ -1,4 +1,4 @@
--- The marks of an edge, in its own direction and against it: what pieces have of them, and what merged edges have.
+-- The marks of an edge, in its own direction and against it: marks of its pieces, and of merged edges.
 use Rattle.std.proofs.Common.{◌≡◌, ◌⊎◌, inl, inr, Bool, true, false, cond, not, List, Contains, refl, sym, ap, ◌∙◌}
 use Rattle.std.proofs.Common.{subst}
 use Rattle.std.specs.List.{list_any}

@@ -1,5 +1,5 @@
--- The turn from one forward edge to another: which signs of the turns between three edges go together, and that edges
--- with no turn between them lead one way.
+-- The turn from a forward edge to another: possible signs of the turns between three edges. Edges with no turn between
+-- them lead in one direction.
 use Rattle.std.proofs.Common.{◌≡◌, true, false, ℤ, pos, ◌+ℤ◌, ◌-ℤ◌, ◌*ℤ◌, neg_ℤ, ◌<ℤ◌, ◌≤ℤ◌}
 use Rattle.std.proofs.lemmas.Int.{by_lt_z}
 use lib.IntN.{*ℤ_comm}

@@ -1,4 +1,4 @@
--- The ends of an edge as seen from another: both on one side over its inside, and below it exactly where the edge is
+-- The ends of an edge seen from another edge: both on one side over its inside, and below it exactly where the edge is
 -- lower.
 use Rattle.std.proofs.Common.{◌≡◌, inl, inr, ⊎_elim, ℤ, pos, ◌+ℤ◌, ◌*ℤ◌, neg_ℤ, ◌<ℤ◌, ◌≤ℤ◌, int_lt, sym, ap₂, ◌∙◌}
 use Rattle.std.proofs.Common.{arith}

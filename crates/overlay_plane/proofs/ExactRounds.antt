@@ -1,4 +1,4 @@
--- Where edges meet only in whole points or overlap, at most one round is taken, it moves no point, and no winding
+-- Edges that meet only in whole points or overlap: at most one round is taken, it moves no point, and no winding
 -- changes.
 use Rattle.std.proofs.Common.{◌≡◌, ℕ, ◌≤◌, pos, List, [], ◌∷◌, length, get_or, Contains, refl, ◌∙◌, arith}
 use Rattle.std.specs.List.{All, Any}

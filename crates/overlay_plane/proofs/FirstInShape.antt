@@ -1,5 +1,5 @@
--- The lowest edge at the leftmost lowest point of a shape is not one of a hole that is found for it: a contour that
--- stands in the shape from the start is anchored before each such hole.
+-- The lowest edge at the leftmost lowest point of a shape does not belong to a hole found for it. A contour of the
+-- shape from the start is anchored before each such hole.
 use Rattle.std.proofs.Common.{◌≡◌, ⊎_elim, ℕ, true, false, ◌&&◌, List, Contains, Some, sym, ap}
 use Rattle.std.proofs.Common.{◌∙◌, subst}
 use Rattle.std.specs.List.{slice_get}

@@ -1,4 +1,4 @@
--- What a search through a list finds: an entry that passes its test, or nothing where none passes.
+-- A search through a list finds an entry that passes its test, or nothing where none passes.
 use Rattle.std.proofs.Common.{◌≡◌, ⊎_elim, Bool, true, false, cond, List, [], ◌∷◌, Contains, refl, subst}
 use Rattle.std.specs.Prelude.{Option, Some, None, find}
 use Rattle.overlay_plane.proofs.LaterEntries.{Contains-cases}

@@ -1,5 +1,6 @@
--- Where the contours that stand in a shape from the start have the winding of some steps once on their filled sides, so
--- have the holes that are found for it: from the next filled-above edge below a hole it goes over to the hole.
+-- The contours of a shape from the start, and the holes found for it. If the winding of some steps is once on the
+-- filled sides of the former, so it is on those of the holes: it carries over from the next filled-above edge below a
+-- hole.
 use Rattle.std.proofs.Common.{◌≡◌, ℕ, Bool, true, ℤ, List, Contains, Some, sym, ap, ◌∙◌, subst}
 use Rattle.std.specs.List.{filter, slice_get}
 use Rattle.overlay_geom.specs.Plane.{Step, Edge, edge_of}

@@ -1,5 +1,5 @@
--- Each hole whose shape is to be found, of a cut in groups or without, has its empty side above its anchor: so where
--- all contours are kept an edge is below it, and a shape is found for it.
+-- Each hole whose shape is to be found has its empty side above its anchor. So where all contours of the cut are kept,
+-- an edge is below it, and a shape is found for it.
 use Rattle.std.proofs.Common.{◌≡◌, ⊎_elim, ℕ, suc, Bool, true, false, ℤ, List, [], ◌∷◌, ◌++◌, map, Contains, Option}
 use Rattle.std.proofs.Common.{Some}
 use Rattle.std.proofs.Common.{None, filter, refl, sym, ap, ◌∙◌, subst, arith}

@@ -1,5 +1,5 @@
--- What is strictly below a point is the greatest such edge and all under it: so the winding at the point is the one
--- above that edge.
+-- The edges strictly below a point are the greatest such edge and all under it. So the winding at the point is the
+-- winding above that edge.
 use Rattle.std.proofs.Common.{cond, pos, ap}
 use Rattle.overlay_geom.specs.Plane.{is_strictly_below}
 use Rattle.overlay_geom.specs.Edges.{ends_of}

@@ -1,5 +1,5 @@
--- Edges over an x-coordinate that are taken with all under them are the greatest of them and all under it: so their
--- counts add up to the winding above that one.
+-- Edges over an x-coordinate that are taken with all under them are the greatest of them and all under it. So their
+-- counts add up to the winding above that edge.
 use Rattle.std.proofs.Common.{◌≡◌, ◌⊎◌, ⊎_elim, Bool, true, false, cond, ◌&&◌, ℤ, pos, ◌+ℤ◌, ◌<ℤ◌, List, Contains, refl}
 use Rattle.std.proofs.Common.{sym, ap, ap₂, ◌∙◌, subst}
 use Rattle.std.proofs.lemmas.Bool.{both_ways, and_parts, and_from, false_from_ne_true}

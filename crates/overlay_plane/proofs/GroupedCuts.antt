@@ -1,5 +1,5 @@
--- Each contour of a cut with groups is an orbit by the empty hand inside one group, and where all are kept they take
--- each step once.
+-- Each contour of a cut with groups is an orbit by the empty hand inside a group. If all are kept they take each step
+-- once.
 use Rattle.std.proofs.Common.{inl, inr, ⊎_elim, Bool, true, false, not, List, [], ◌∷◌, ◌++◌, map, Contains, filter}
 use Rattle.std.proofs.Common.{refl, sym, ap, ◌∙◌, subst}
 use Rattle.std.specs.List.{AllZip, flat_map}

@@ -1,5 +1,5 @@
--- An orbit by the empty hand in the steps of all hole groups does not go over from one of them to another: else the
--- winding of each would be a number other than 0 along the other, and yet 0 at the start of the one that starts first.
+-- An orbit by the empty hand in the steps of all hole groups stays in one of them. Otherwise the winding of each would
+-- be a number other than 0 along the other, and yet 0 at the start of the group that starts first.
 use Rattle.std.proofs.Common.{◌≡◌, ◌⊎◌, inl, inr, ⊎_elim, Bool, true, false, pos, List, Contains, refl, sym, ap, ◌∙◌}
 use Rattle.std.proofs.lemmas.Bool.{both_ways, false_from_ne_true}
 use Rattle.std.proofs.lemmas.List.Elements.{All-contains}

@@ -1,5 +1,5 @@
--- Each hole has a parent: its next walk is anchored before it, so by the order of anchors either that is an outline, or
--- it is a hole that has a parent.
+-- Each hole has a parent. Its next walk is anchored before it, so by the order of anchors that is an outline, or a hole
+-- with a parent.
 use Rattle.std.proofs.Common.{◌≡◌, ℕ, Bool, true, false, ◌&&◌, ℤ, List, Contains, All, Option, Some, length, refl}
 use Rattle.std.proofs.Common.{sym, ap, subst}
 use Rattle.std.specs.List.{slice_get}

@@ -1,5 +1,5 @@
--- The edge at a hole's anchor has its empty side above: along the hole's empty side its winding is one number, which is
--- not 0, since the start has its filled side outside; and below the anchor the winding is 0.
+-- The edge at a hole's anchor has its empty side above. Along the hole's empty side its winding is constant and not 0,
+-- since the start has its filled side outside. Below the anchor the winding is 0.
 use Rattle.std.proofs.Common.{◌≡◌, true, false, cond, ℤ, pos, ◌+ℤ◌, List, [], ◌∷◌, Contains, refl, sym, ap, ◌∙◌}
 use Rattle.std.proofs.Common.{subst, arith}
 use Rattle.std.proofs.lemmas.Bool.{false≢true, false_from_ne_true, not-true}

@@ -1,4 +1,4 @@
--- A list put in order has the same entries and the same sums, and each entry stands in order to each later one.
+-- A sorted list has the entries and the sums of the list, and each entry is in order with each later entry.
 use Rattle.std.proofs.Common.{◌≡◌, ◌⊎◌, inl, inr, ⊎_elim, Bool, true, false, cond, ℤ, ◌+ℤ◌, List, [], ◌∷◌, Contains}
 use Rattle.std.proofs.Common.{refl, sym, ap, ◌∙◌, subst}
 use Rattle.std.proofs.lemmas.Bool.{false≢true}

@@ -1,6 +1,6 @@
--- An orbit by the empty hand in a group, an orbit by the filled hand, visits no point twice: the stretch between two
--- visits would wind alike on the empty side before and after the second, and on the filled side, and yet rise by 1
--- across one of the two steps.
+-- An orbit by the empty hand in a group, which is an orbit by the filled hand, visits no point twice. The stretch
+-- between two visits would have equal windings on the empty side before and after the second, and on the filled side.
+-- Yet it would rise by 1 across one of the two steps.
 use Rattle.std.proofs.Common.{◌≡◌, ℕ, suc, ◌+◌, ◌-◌, ◌<◌, false, ℤ, pos, ◌+ℤ◌, List, length, get_or}
 use Rattle.std.proofs.Common.{Contains, AllPairs, sym, ap, ◌∙◌, subst, arith}
 use Rattle.std.proofs.lemmas.Bool.{false_from_ne_true}

@@ -1,5 +1,5 @@
--- Where the steps of all hole groups are cut together, each orbit is one inside one of the groups; so each contour of a
--- cut with groups is one inside a group.
+-- If the steps of all hole groups are cut together, each orbit lies inside one of the groups. So each contour of a cut
+-- with groups lies inside a group.
 use Rattle.std.proofs.Common.{◌≡◌, ℕ, zero, suc, ◌+◌, Bool, true, false, List, Contains, filter, refl}
 use Rattle.std.proofs.lemmas.Bool.{both_ways}
 use Rattle.std.proofs.lemmas.List.Elements.{All-contains}

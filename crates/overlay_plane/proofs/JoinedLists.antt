@@ -1,5 +1,5 @@
--- Sums over lists that are joined, mapped, or made of one part for each entry, sums of multiples, and multiples that
--- are taken or not.
+-- Sums over lists that are joined, mapped, or made of a part for each entry, sums of multiples, and multiples that are
+-- taken or not.
 use Rattle.std.proofs.Common.{◌≡◌, Bool, true, false, cond, ℤ, pos, ◌+ℤ◌, ◌*ℤ◌, List, [], ◌∷◌, map, refl, sym, ap, ◌∙◌}
 use Rattle.std.specs.List.{flat_map}
 use lib.IntN.{*ℤ_comm, *ℤ-zero}

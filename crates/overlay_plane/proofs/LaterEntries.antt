@@ -1,5 +1,4 @@
--- Lists in which each entry is in relation to each later one: by places, and what of that holds of filtered, mapped and
--- longer lists.
+-- Lists in which each entry is in relation to each later entry: by places, and for filtered, mapped and longer lists.
 use Rattle.std.proofs.Common.{◌≡◌, ◌⊎◌, inl, inr, ⊎_elim, zero, suc, Bool, true, false, cond}
 use Rattle.std.proofs.Common.{List, [], ◌∷◌, ◌++◌, map, get_or, Contains, AllPairs, filter, sym, ◌∙◌, subst, arith}
 use Rattle.std.specs.Bool.{⊤}

@@ -1,5 +1,5 @@
--- In a set of steps that leads on by a hand each step has one next step; a part that holds with each step the next, and
--- with each next step the step before it, leads on again, with the same next steps.
+-- In a set of steps that leads on by a hand each step has one next step. A part that contains with each step the next
+-- step and the step before leads on again, with equal next steps.
 use Rattle.std.proofs.Common.{◌≡◌, ◌↔◌, ⊎_elim, Bool, false, not, List, Contains, filter, sym, ap, ◌∙◌, subst}
 use Rattle.std.proofs.lemmas.Bool.{both_ways}
 use Rattle.std.proofs.lemmas.List.Elements.{All-contains}

@@ -1,5 +1,5 @@
--- Among steps along edges that lead forward some edge starts in a least point, and among those that start there one is
--- the top, and one the lowest.
+-- Among steps along forward edges some edge starts in a least point. Among those that start there, one is the top and
+-- one the lowest.
 use Rattle.std.proofs.Common.{◌≡◌, inl, inr, Bool, true, false, ◌&&◌, pos, int_lt, List, Contains, refl, ap, ◌∙◌}
 use Rattle.std.proofs.lemmas.Bool.{both_ways, and_from, and_parts, false_from_ne_true}
 use Rattle.std.proofs.lemmas.List.Elements.{All-contains}

@@ -1,5 +1,5 @@
--- Edges along one line: what lies on the line of the one lies on that of the other, and they have no one common point
--- inside both.
+-- Collinear edges: points on the line of one lie on that of the other, and they have no single common point inside
+-- both.
 use Rattle.std.proofs.Common.{◌≡◌, inl, pos, ◌-ℤ◌, ◌*ℤ◌, ◌<ℤ◌, ◌≤ℤ◌, sym, ◌∙◌}
 use Rattle.std.proofs.lemmas.Int.{by_lt_z}
 use Rattle.overlay_geom.specs.Plane.{Point, PlanePoint, Edge, IsOn, IsEnd, SamePlace, in_plane, side, cross_at}

@@ -1,5 +1,5 @@
--- What a link's step counts along an edge after a cutting round: by the chain of its own edge where it is held, and as
--- before where it is dropped.
+-- The count of a link's step along an edge after a cutting round: by the chain of its own edge if it is held, unchanged
+-- if it is dropped.
 use Rattle.std.proofs.Common.{◌≡◌, Bool, true, false, cond, ℤ, pos, negsuc, ◌+ℤ◌, ◌*ℤ◌, List, [], ◌∷◌, ◌++◌, Contains}
 use Rattle.std.proofs.Common.{refl, sym, ap, ◌∙◌, subst}
 use Rattle.std.specs.Prelude.{Option, Some, None, find}

@@ -1,5 +1,5 @@
--- What holds of all steps of a chain goes on to hold in a cutting round, where it holds of the chains of the edges that
--- the round cuts.
+-- A fact of all steps of a chain still holds after a cutting round, if it holds of the chains of the edges that the
+-- round cuts.
 use Rattle.std.proofs.Common.{◌≡◌, Bool, true, false, cond, List, [], ◌∷◌, Contains, refl, sym, subst}
 use Rattle.std.specs.List.{All}
 use Rattle.std.specs.Prelude.{Option, Some, None, find, flat_map}

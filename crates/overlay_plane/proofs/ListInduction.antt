@@ -1,4 +1,5 @@
--- Induction along a strict order on the entries of a list: before an entry come fewer entries than before one after it.
+-- Induction along a strict order on the entries of a list: fewer entries come before an entry than before a later
+-- entry.
 use Rattle.std.proofs.Common.{◌≡◌, ⊎_elim, ℕ, zero, suc, ◌<◌, ◌≤◌, Bool, true, false, cond, List, [], ◌∷◌, length}
 use Rattle.std.proofs.Common.{Contains, refl, sym, subst, arith}
 use Rattle.std.specs.List.{filter}

@@ -1,5 +1,5 @@
--- A step between two points walks along an edge that leads forward; so among such steps there is the start of a walk,
--- and their anchor.
+-- A step between two points walks along a forward edge. So among such steps there is the start of a walk, and their
+-- anchor.
 use Rattle.std.proofs.Common.{◌≡◌, Bool, true, false, List, Contains, refl, sym, ◌∙◌, subst}
 use Rattle.std.proofs.lemmas.Bool.{both_ways, false_from_ne_true}
 use Rattle.overlay_geom.specs.Plane.{Point, Step, Edge, point_lt, point_eq, is_forward, edge_of}

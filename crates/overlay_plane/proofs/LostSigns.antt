@@ -1,4 +1,4 @@
--- Two numbers that mix to 0 once they are moved: they do so before, or one of them loses its sign.
+-- Two numbers that mix to 0 after they are moved mix to 0 before, or one of them loses its sign.
 use Rattle.std.proofs.Common.{◌≡◌, ◌⊎◌, inl, inr, ℤ, pos, ◌+ℤ◌, ◌-ℤ◌, ◌*ℤ◌, ◌<ℤ◌, ◌≤ℤ◌}
 use Rattle.std.proofs.lemmas.Int.{by_lt_z}
 use Rattle.overlay_geom.proofs.Identities.{solve, number, ◌⊕◌, ◌⊗◌, ◌⊖◌, ◌≗◌}

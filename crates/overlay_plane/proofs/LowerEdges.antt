@@ -1,5 +1,4 @@
--- Of two edges over an x-coordinate, the one that is lower there, by height and then by slope, is under the other just
--- right of it.
+-- Of two edges over an x-coordinate, the lower there, by height and then by slope, is under the other just right of it.
 use Rattle.std.proofs.Common.{◌≡◌, inl, inr, true, false, ◌&&◌, ◌||◌, ℤ, pos, ◌+ℤ◌, ◌<ℤ◌, int_lt, sym, ap, ap₂, ◌∙◌}
 use Rattle.std.proofs.Common.{subst, arith}
 use Rattle.std.proofs.lemmas.Int.{ints, by_lt_z}

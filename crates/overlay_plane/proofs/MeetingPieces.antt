@@ -1,5 +1,5 @@
--- Two pieces whose steps meet: the pieces meet too, or one passes through the pixel of an end of the other step. From
--- the steps back to the pieces first y is what it was before rounding, then x.
+-- Two pieces whose steps meet: the pieces meet too, or a piece passes through the pixel of an end of the other step.
+-- From the steps back to the pieces first y, then x, is restored to its value before rounding.
 use Rattle.std.proofs.Common.{◌≡◌, ◌⊎◌, inl, inr, ⊎_elim, ℤ, pos, ◌+ℤ◌, ◌-ℤ◌, ◌*ℤ◌, ◌<ℤ◌, sym, ap, ap₂, ◌∙◌}
 use Rattle.overlay_geom.specs.Plane.{PlanePoint, SamePlace, in_plane}
 use Rattle.overlay_geom.specs.Rounding.{nearest, nearest_point}

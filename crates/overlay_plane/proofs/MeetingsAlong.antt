@@ -1,5 +1,5 @@
--- Two edges along one line meet in the ends of each that lie on the other, and the whole points through which the one
--- leads the other are those ends.
+-- Two collinear edges meet in the ends of each that lie on the other. The whole points through which one leads the
+-- other are those ends.
 use Rattle.std.proofs.Common.{◌≡◌, ◌⊎◌, inl, inr, ⊎_elim, ℤ, pos, ◌*ℤ◌, List, [], ◌∷◌, ◌++◌, map, Contains, refl, sym}
 use Rattle.std.proofs.Common.{subst, ◌∙◌, arith}
 use Rattle.std.specs.List.{Any}

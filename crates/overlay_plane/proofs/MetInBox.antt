@@ -1,4 +1,4 @@
--- The whole points through which one edge leads another one lie within the other's span in x and in y; and edges whose
+-- The whole points through which an edge leads another edge lie within the other's span in x and in y. Edges whose
 -- spans in x or in y are apart meet nowhere.
 use Rattle.std.proofs.Common.{◌≡◌, ◌⊎◌, inl, inr, pos, ◌*ℤ◌, ◌<ℤ◌, ◌≤ℤ◌, List, [], ◌∷◌, Contains, refl, sym, subst, ◌∙◌}
 use Rattle.std.proofs.Common.{arith}

@@ -1,5 +1,5 @@
--- Segments whose ends are moved along their levels: where they meet after it, they meet before, or an end of the one
--- changes the side on which it lies of the other.
+-- Segments whose ends are moved along their levels: where they meet afterwards, they meet before, or an end of one
+-- changes its side of the other.
 use Rattle.std.proofs.Common.{◌≡◌, ◌⊎◌, inl, inr, ⊎_elim, ℤ, pos, ◌+ℤ◌, ◌-ℤ◌, ◌*ℤ◌, ◌<ℤ◌, ◌∙◌}
 use Rattle.std.proofs.lemmas.Int.{by_lt_z}
 use Rattle.overlay_geom.proofs.Identities.{solve, number, ◌⊕◌, ◌⊗◌, ◌⊖◌, ◌≗◌}

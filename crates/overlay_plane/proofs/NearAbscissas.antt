@@ -1,4 +1,4 @@
--- Beside an x-coordinate two edges are in the order of their heights at it, where these differ; where they start, or
+-- Two edges beside an x-coordinate are in the order of their heights at it, where these differ. Where they start, or
 -- end, in one point there, their turn decides.
 use Rattle.std.proofs.Common.{◌≡◌, ◌⊎◌, inl, inr, ⊎_elim, true, ℤ, pos, ◌+ℤ◌, ◌-ℤ◌, ◌*ℤ◌, neg_ℤ, ◌<ℤ◌, int_lt, sym, ◌∙◌}
 use Rattle.std.proofs.Common.{arith}

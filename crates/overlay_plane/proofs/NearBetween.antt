@@ -1,4 +1,4 @@
--- The whole point taken for a point of an edge, both ends of which are near another edge, is near that edge.
+-- The whole point of a point of an edge is near another edge, if both ends of the edge are near that edge.
 use Rattle.std.proofs.Common.{◌≡◌, ℕ, ◌+◌, ℤ, pos, ◌+ℤ◌, ◌*ℤ◌, ◌<ℤ◌, ◌≤ℤ◌, sym, ap, ◌∙◌, subst}
 use Rattle.overlay_geom.specs.Plane.{Point, PlanePoint, Edge, IsAt, IsOn, in_plane}
 use Rattle.overlay_geom.specs.Rounding.{IsWithinHalf}

@@ -1,5 +1,4 @@
--- Neighbours in a list whose entries are in order: each step of a chain leads from what one entry is taken to to what
--- its neighbour is.
+-- Neighbours in a list in order: each step of a chain leads from the value of an entry to that of its neighbour.
 use Rattle.std.proofs.Common.{◌≡◌, ◌⊎◌, inl, inr, List, [], ◌∷◌, map, Contains, subst, arith}
 use Rattle.std.proofs.lemmas.List.Elements.{Contains-append_cases}
 use Rattle.overlay_geom.specs.Plane.{Point, Step, steps_between, steps_through}

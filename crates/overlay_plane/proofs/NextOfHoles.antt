@@ -1,4 +1,4 @@
--- Of the filled-above edges below an anchor one is the greatest, so each hole has a next walk.
+-- Of the filled-above edges below an anchor there is a greatest, so each hole has a next walk.
 use Rattle.std.proofs.Common.{◌≡◌, Bool, true, false, ◌&&◌, ℤ, pos, List, Contains, refl, ◌∙◌, sym}
 use Rattle.std.proofs.lemmas.Bool.{both_ways, and_from, and_parts, false_from_ne_true}
 use Rattle.overlay_geom.specs.Plane.{Step, Edge}

@@ -1,5 +1,5 @@
--- What is under an edge is the greatest such edge and all under it: so the winding below the edge is the one above that
--- edge.
+-- The edges under an edge are the greatest such edge and all under it. So the winding below the edge is the winding
+-- above that edge.
 use Rattle.std.proofs.Common.{◌≡◌, ◌⊎◌, Bool, true, false, cond, ◌&&◌, ℤ, pos, ◌<ℤ◌, List, Contains, sym, ap, ◌∙◌}
 use Rattle.std.proofs.lemmas.Bool.{and_parts, and_from, false≢true, false_from_ne_true}
 use Rattle.overlay_geom.specs.Plane.{Edge}

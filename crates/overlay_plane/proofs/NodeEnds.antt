@@ -1,5 +1,5 @@
--- Just below an edge, at its end: what lies under it is what lies strictly below the end, what ends there to its right,
--- and as many as have an end, less a start, below that end on the same vertical line.
+-- The edges under an edge at its end, just below it: those strictly below the end, and those that end there to its
+-- right. Ends and starts on the vertical line below that end correct the count.
 use Rattle.std.proofs.Common.{◌≡◌, ◌⊎◌, inl, inr, ⊎_elim, Bool, true, false, ◌&&◌, ℤ, pos, ◌+ℤ◌, ◌-ℤ◌, ◌*ℤ◌, ◌<ℤ◌, ◌≤ℤ◌}
 use Rattle.std.proofs.Common.{int_lt, int_le, refl, sym, ap, ◌∙◌, subst, arith}
 use Rattle.std.proofs.lemmas.Int.{ints, by_lt_z}

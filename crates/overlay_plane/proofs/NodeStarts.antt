@@ -1,4 +1,4 @@
--- Just below an edge, at its start: what lies under it is what lies strictly below the start, and what starts there to
+-- The edges under an edge at its start, just below it: those strictly below the start, and those that start there to
 -- its right.
 use Rattle.std.proofs.Common.{◌≡◌, ⊎_elim, Bool, true, false, ◌&&◌, pos, ◌+ℤ◌, ◌-ℤ◌, ◌*ℤ◌, ◌<ℤ◌, ◌≤ℤ◌, int_lt, int_le}
 use Rattle.std.proofs.Common.{refl, sym, ap, ◌∙◌, subst, arith}

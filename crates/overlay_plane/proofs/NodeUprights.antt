@@ -1,5 +1,5 @@
--- Beside a vertical edge: what lies strictly below its midpoint is what lies strictly below its lower end, and what
--- starts there to its right; or what lies strictly below its upper end.
+-- The edges strictly below the midpoint of a vertical edge: those strictly below its lower end, and those that start
+-- there to its right; or those strictly below its upper end.
 use Rattle.std.proofs.Common.{◌≡◌, inl, ⊎_elim, Bool, true, false, ◌&&◌, ℤ, pos, ◌+ℤ◌, ◌-ℤ◌, ◌*ℤ◌, neg_ℤ, ◌<ℤ◌, ◌≤ℤ◌}
 use Rattle.std.proofs.Common.{int_lt, int_le, refl, sym, ap, ◌∙◌, subst, arith}
 use Rattle.std.proofs.lemmas.Int.{ints, by_lt_z}

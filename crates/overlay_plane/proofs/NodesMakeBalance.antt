@@ -1,6 +1,6 @@
--- A list is balanced where, at every point, as many counts start as end: whatever number g gives to each point is a sum
--- of numbers given to one point each, and for such a one what the edges rise by is what ends there, less what starts
--- there.
+-- A list is balanced where, at every point, the starting and the ending counts have equal sums. A number given to each
+-- point is a sum of numbers given to single points. For a single point, the edges rise by the counts that end there,
+-- minus those that start there.
 use Rattle.std.proofs.Common.{◌≡◌, ◌⊎◌, inl, inr, ⊎_elim, Bool, true, false, cond, ℤ, pos, ◌+ℤ◌, ◌-ℤ◌, ◌*ℤ◌, List, []}
 use Rattle.std.proofs.Common.{◌∷◌, ◌++◌, map, Contains, refl, sym, ap, ap₂, ◌∙◌, arith}
 use Rattle.std.proofs.lemmas.List.Elements.{Contains-append_left, Contains-append_right}

@@ -1,5 +1,5 @@
--- Contours that are numbered in order: one outline has a number; without groups a number is that of an outline alone,
--- and with groups those with one number are walks of one group.
+-- Contours numbered in order: each number belongs to one outline. Without groups it belongs to that outline alone; with
+-- groups contours with one number are walks of one group.
 use Rattle.std.proofs.Common.{◌≡◌, ◌⊎◌, inl, inr, ⊎_elim, ℕ, suc, ◌≤◌, Bool, true, false, cond, List, [], ◌∷◌}
 use Rattle.std.proofs.Common.{◌++◌}
 use Rattle.std.proofs.Common.{map, Contains, Some, refl, sym, ap, ◌∙◌, subst, arith}

@@ -1,5 +1,5 @@
--- What is found below a walk is one thing: its anchor, the next edge below it and the walk that has this edge are
--- determined. So round an island is one hole alone, or none.
+-- The number found below a walk is unique: its anchor, the next edge below it and the walk with this edge are
+-- determined. So an island has at most one hole round it.
 use Rattle.std.proofs.Common.{◌≡◌, ℕ, zero, suc, true, false, List, [], ◌∷◌, All, AllPairs, Contains, Option, refl, sym}
 use Rattle.std.proofs.Common.{◌∙◌, ap}
 use Rattle.std.proofs.Common.{subst}

@@ -1,5 +1,5 @@
--- An orbit of a set of steps that leads on visits each of its steps once, and holds with each step its next step and
--- the step before it; where the set alternates it has three steps or more, since no step leads back along another.
+-- An orbit of a set of steps that leads on visits each of its steps once, and contains with each step its next step and
+-- the step before. If the set alternates it has three steps or more, since no step leads back along another.
 use Rattle.std.proofs.Common.{◌≡◌, ◌⊎◌, inl, inr, ⊎_elim, ℕ, zero, suc, ◌+◌, ◌-◌, ◌%◌, ◌<◌, ◌≤◌, List, length, Contains}
 use Rattle.std.proofs.Common.{sym, ap, ◌∙◌, subst, arith}
 use Rattle.std.proofs.lemmas.Bool.{cases_lt, cases_order}

@@ -1,5 +1,5 @@
--- From each step of a set that leads on, following the next steps by a hand leads back to it: since the set is finite
--- some step comes twice, and since no two steps have one next step the first to come twice is the one at the start.
+-- From each step of a set that leads on, following the next steps by a hand leads back to it. The set is finite, so
+-- some step comes twice. No two steps have one next step, so the first to come twice is the start.
 use Rattle.std.proofs.Common.{◌≡◌, ⊎_elim, ℕ, zero, suc, ◌+◌, ◌-◌, ◌<◌, false, List, length, map, Contains, sym, ap}
 use Rattle.std.proofs.Common.{◌∙◌, subst, arith}
 use Rattle.std.specs.List.{range_with_len}

@@ -1,5 +1,5 @@
--- A step has one orbit, orbits that share a step have the same steps, and what an orbit leaves leads on, or alternates,
--- with orbits of the whole set.
+-- A step has one orbit, and orbits that share a step have equal steps. The steps left by an orbit lead on, or
+-- alternate, with orbits of the whole set.
 use Rattle.std.proofs.Common.{◌≡◌, ⊎_elim, ℕ, zero, suc, ◌+◌, ◌<◌, Bool, not, List, [], ◌∷◌, length, Contains, filter}
 use Rattle.std.proofs.Common.{sym, ◌∙◌, subst, arith}
 use Rattle.std.specs.Bool.{Decides}

@@ -1,4 +1,4 @@
--- A walk along an orbit comes to no step twice before it comes to its first step again, so it is at most as long as the
+-- A walk along an orbit comes to no step twice before it comes to its first step again. So it is at most as long as the
 -- set, and closes to the orbit.
 use Rattle.std.proofs.Common.{◌≡◌, ◌≢◌, ⊎_elim, ℕ, zero, suc, ◌+◌, ◌-◌, ◌%◌, ◌<◌, ◌≤◌, List, [], ◌∷◌, ◌++◌, length}
 use Rattle.std.proofs.Common.{Contains, refl, sym, ap, ◌∙◌, subst, arith}

@@ -1,5 +1,5 @@
--- The contours that stand in a shape from the start: beside each of them the outline winds once on the filled side, and
--- steps that wind alike along each contour wind alike beside all of them.
+-- The contours of a shape from the start: beside each of them the outline winds once on the filled side. Steps with
+-- equal windings along each contour have them beside all contours.
 use Rattle.std.proofs.Common.{◌≡◌, ℕ, ◌<◌, Bool, false, cond, ℤ, List, [], ◌∷◌, length, Contains, Some, sym}
 use Rattle.std.proofs.Common.{ap}
 use Rattle.std.proofs.Common.{◌∙◌, subst, filter}

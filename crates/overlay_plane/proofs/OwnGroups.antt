@@ -1,5 +1,5 @@
--- With groups the contours that stand in a shape from the start are walks of its outline's group: along the group any
--- of the steps have one winding on the filled sides, and the outline winds once there.
+-- With groups the contours of a shape from the start are walks of its outline's group. Along the group any of the steps
+-- have a constant winding on the filled sides, and the outline winds once there.
 use Rattle.std.proofs.Common.{◌≡◌, ⊎_elim, ℕ, Bool, true, false, not, List, [], ◌∷◌, map, length, Contains}
 use Rattle.std.proofs.Common.{Some}
 use Rattle.std.proofs.Common.{filter, cond, refl, sym, ap, ◌∙◌, subst, arith}

@@ -1,5 +1,5 @@
--- Pieces between points that are brought to one denominator: where an end of another piece changes sides as it is
--- rounded, the piece passes through its pixel.
+-- Pieces between points brought to one denominator: if an end of another piece changes sides as it is rounded, the
+-- piece passes through its pixel.
 use Rattle.std.proofs.Common.{◌≡◌, ℤ, pos, ◌+ℤ◌, ◌*ℤ◌, ◌<ℤ◌, ap₂, ◌∙◌, subst}
 use Rattle.overlay_geom.specs.Plane.{Point, PlanePoint}
 use Rattle.overlay_geom.specs.Rounding.{nearest, nearest_point}

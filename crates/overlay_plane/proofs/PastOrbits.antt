@@ -1,5 +1,5 @@
--- An orbit winds alike beside two steps that it leaves and that meet: between these two spokes of their node it has
--- with each step that arrives the one that leaves next, or neither.
+-- An orbit has equal windings beside two steps that it leaves and that meet. Between these two spokes of their node it
+-- has with each arriving step the step that leaves next, or neither.
 use Rattle.std.proofs.Common.{◌≡◌, ⊎_elim, ℕ, suc, Bool, true, false, cond, ◌&&◌, ℤ, pos, negsuc, ◌+ℤ◌, ◌-ℤ◌, ◌*ℤ◌}
 use Rattle.std.proofs.Common.{neg_ℤ}
 use Rattle.std.proofs.Common.{List, Contains, refl, sym, ap, ◌∙◌, subst}

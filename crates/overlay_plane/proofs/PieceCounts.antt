@@ -1,5 +1,5 @@
--- The counts of a piece of an edge: each follows the sign of its step, the marks are the edge's in the direction of the
--- step, and all weigh what the edge's counts weigh.
+-- The counts of a piece of an edge follow the sign of its step, and its marks are the edge's marks in the direction of
+-- the step. Their weight is that of the edge.
 use Rattle.std.proofs.Common.{◌≡◌, ℕ, Bool, true, false, cond, ℤ, pos, negsuc, neg_ℤ, ◌*ℤ◌, refl, arith}
 use Rattle.std.specs.Prelude.{nat_abs}
 use Rattle.std.proofs.lemmas.Int.{ints}

@@ -1,5 +1,5 @@
--- Numbers that round to whole ones: their mixtures round to whole mixtures, and where rounding changes the order of a
--- number and a mixture, both round to the same whole number.
+-- Numbers that round to whole numbers: their mixtures round to whole mixtures. Where rounding changes the order of a
+-- number and a mixture, both round to one whole number.
 use Rattle.std.proofs.Common.{◌≡◌, ◌⊎◌, inl, inr, ℤ, pos, ◌+ℤ◌, ◌-ℤ◌, ◌*ℤ◌, ◌<ℤ◌, ◌≤ℤ◌, ap, ◌∙◌}
 use Rattle.overlay_geom.specs.Rounding.{nearest}
 use Rattle.overlay_geom.proofs.Identities.{solve, number, ◌⊕◌, ◌⊗◌, ◌⊖◌, ◌≗◌}

@@ -1,4 +1,4 @@
--- A point of an edge that rounds to a whole point: how far the whole point lies from the edge's line, at most.
+-- A point of an edge that rounds to a whole point: the greatest distance of the whole point from the edge's line.
 use Rattle.std.proofs.Common.{◌≡◌, ℤ, pos, ◌+ℤ◌, ◌-ℤ◌, ◌*ℤ◌, ◌<ℤ◌, ◌≤ℤ◌}
 use Rattle.overlay_geom.proofs.Identities.{solve, number, ◌⊕◌, ◌⊗◌, ◌⊖◌, ◌≗◌}
 use Rattle.overlay_geom.proofs.AlongEdge.{sideE}

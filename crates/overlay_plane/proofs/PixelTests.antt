@@ -1,5 +1,5 @@
--- What the test for the pixel of a whole point says: where the point stands to the edge's bounding box, and how large
--- twice its cross product is, by the way that the edge leads.
+-- The test for the pixel of a whole point: the position of the point relative to the edge's bounding box, and bounds of
+-- twice its cross product, by the direction of the edge.
 use Rattle.std.proofs.Common.{◌≡◌, ◌⊎◌, Bool, true, false, cond, ◌&&◌, ℤ, pos, ◌+ℤ◌, ◌-ℤ◌, ◌*ℤ◌, ◌<ℤ◌}
 use Rattle.std.proofs.Common.{◌≤ℤ◌, int_lt, int_le, ap, ap₂}
 use Rattle.std.specs.Bool.{Decides}

@@ -1,5 +1,5 @@
--- Shapes that outlines begin, to which holes are added: of each its outline, the holes of the outline's own group, and
--- those for which it is found, are the shapes to which the contours are bound.
+-- The shapes to which contours are bound: outlines, to which the holes of the outline's own group and the holes found
+-- for the shape are added.
 use Rattle.std.proofs.Common.{◌≡◌, ℕ, suc, ◌+◌, ◌<◌, cond, List, [], ◌∷◌, ◌++◌, map, length}
 use Rattle.std.proofs.Common.{get_or, refl, sym, ap₂, subst, arith}
 use Rattle.std.specs.List.{filter, flat_map}

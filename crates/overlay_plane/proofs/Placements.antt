@@ -1,5 +1,5 @@
--- How two edges lie to each other: along one line, the one beside the other, or across each other; and what the meeting
--- points' computation gives in each case.
+-- Positions of two edges relative to each other: collinear, beside, or across each other; and the computed meeting
+-- points in each case.
 use Rattle.std.proofs.Common.{◌≡◌, ◌⊎◌, inl, inr, cond, ◌||◌, pos, List, [], ◌∷◌, filter, ◌∙◌}
 use Rattle.std.specs.Bool.{Decides}
 use Rattle.std.proofs.lemmas.Int.{by_lt_z}

@@ -1,4 +1,4 @@
--- What stands at a place of contours, and among their walks and the shapes in which they stand from the start.
+-- The contour at a place, its walk, and its shape from the start.
 use Rattle.std.proofs.Common.{◌≡◌, ℕ, zero, suc, List, [], ◌∷◌, map, Contains, Some, None}
 use Rattle.std.proofs.Common.{refl}
 use Rattle.std.proofs.Common.{sym, ap, arith}

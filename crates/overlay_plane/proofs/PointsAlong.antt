@@ -1,4 +1,4 @@
--- How points compare along an edge: by x, then by y upwards or downwards, as the edge leads. Of any two different
+-- The comparison of points along an edge: by x, then by y upwards or downwards, as the edge leads. Of any two different
 -- points one comes first.
 use Rattle.std.proofs.Common.{◌≡◌, Bool, true, false, cond, ◌&&◌, ◌||◌, int_lt, int_le, refl, sym, ◌∙◌}
 use Rattle.std.specs.Cmp.{IsTotalOrder, IsStrictWeakOrder}

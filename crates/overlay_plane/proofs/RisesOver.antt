@@ -1,5 +1,5 @@
--- What a function of two windings rises by across the edges over an x-coordinate: over those that are there with all
--- under them, it is its value at the sums of their counts.
+-- The rise of a function of two windings across the edges over an x-coordinate. Over edges taken with all under them,
+-- it is the function's value at the sums of their counts.
 use Rattle.std.proofs.Common.{◌≡◌, inl, inr, ⊎_elim, Bool, true, false, cond, ◌&&◌, ℤ, pos, ◌+ℤ◌, ◌-ℤ◌, ◌<ℤ◌, List}
 use Rattle.std.proofs.Common.{Contains, AllPairs, filter, refl, sym, ap, ap₂, ◌∙◌, subst}
 use Rattle.std.proofs.lemmas.Bool.{false≢true}

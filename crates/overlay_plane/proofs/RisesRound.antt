@@ -1,5 +1,5 @@
--- What a function of two windings rises by across the spokes between two, going round a node, is what it rises by from
--- the first to the last.
+-- The rise of a function of two windings across the spokes between two spokes, round a node, is its rise from the first
+-- to the last.
 use Rattle.std.proofs.Common.{◌≡◌, ◌⊎◌, inl, inr, ⊎_elim, Bool, true, false, cond, ◌&&◌, ◌||◌, ℤ, pos, ◌+ℤ◌, ◌-ℤ◌, ◌<ℤ◌}
 use Rattle.std.proofs.Common.{List, [], ◌∷◌, Contains, filter, refl, sym, ap, ap₂, ◌∙◌}
 use Rattle.std.proofs.lemmas.Bool.{false≢true, and_parts, and_from, or_cases, or_left, or_right}

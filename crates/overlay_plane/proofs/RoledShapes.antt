@@ -1,4 +1,4 @@
--- Walks that are cut without groups, as contours with roles; and a minimum area zero keeps them all.
+-- Walks that are cut without groups, as contours with roles; a minimum area of zero keeps them all.
 use Rattle.std.proofs.Common.{◌≡◌, ℕ, suc, Bool, true, false, cond, ◌&&◌, nat_abs, List, [], ◌∷◌, length, refl, ap, ◌∙◌}
 use Rattle.std.proofs.Common.{rules}
 use Rattle.std.specs.Prelude.{nat_le, ◌/◌, ◌≤◌}

@@ -1,4 +1,4 @@
--- What stands at a place of walks, and of the contours that they are without groups.
+-- The walk at a place, and its contour without groups.
 use Rattle.std.proofs.Common.{◌≡◌, ℕ, zero, suc, Bool, true, false, cond, List, [], ◌∷◌, Some, None}
 use Rattle.std.proofs.Common.{refl, sym, ap, ◌∙◌, subst}
 use Rattle.std.specs.Prelude.{slice_index_or}

@@ -1,5 +1,5 @@
--- The spoke lemma: from one spoke to another the winding rises by the counts of the spokes between, so it is one number
--- from each spoke to the next.
+-- The spoke lemma: from one spoke to another the winding rises by the counts of the spokes between. So it does not
+-- change from each spoke to the next.
 use Rattle.std.proofs.Common.{◌≡◌, ◌⊎◌, inl, inr, ⊎_elim, Bool, true, false, not, cond, ◌&&◌, ℤ, pos, ◌+ℤ◌, ◌-ℤ◌, ◌*ℤ◌}
 use Rattle.std.proofs.Common.{neg_ℤ, List, Contains, refl, sym, ap, ap₂, ◌∙◌, subst}
 use Rattle.std.proofs.lemmas.Bool.{false≢true, and_from, and_parts}

@@ -1,5 +1,5 @@
--- Sums round a closed walk: where what each step ends with is what the next begins with, what they begin with, less
--- what they end with, sums to 0.
+-- Sums round a closed walk. If the end of each step and the start of the next have equal numbers, starts minus ends sum
+-- to 0.
 use Rattle.std.proofs.Common.{◌≡◌, ℕ, suc, ◌<◌, ℤ, pos, ◌-ℤ◌, List, [], ◌∷◌, length, get_or, refl, sym, ap, ◌∙◌, arith}
 use lib.IntN.{+ℤ_idr}
 use Rattle.overlay_geom.specs.Plane.{Step, total}

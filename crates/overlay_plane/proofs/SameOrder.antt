@@ -1,5 +1,5 @@
--- A list in order is the one list with its entries that is: so a permutation of a list that is in order is the list put
--- in order.
+-- A list in order is the only such list with its entries. So a permutation of a list in order, once sorted, is that
+-- list.
 use Rattle.std.proofs.Common.{◌≡◌, inl, inr, Bool, true, false, cond, ℤ, pos, ◌+ℤ◌, ◌≤ℤ◌, List, [], ◌∷◌, Contains, refl}
 use Rattle.std.proofs.Common.{sym, ap, ap₂, subst, ◌∙◌}
 use Rattle.std.specs.Cmp.{IsStrictWeakOrder}

@@ -1,5 +1,5 @@
--- Two neighbouring rays of a node lie on one side of each two other ones: where a turning ray meets nothing between
--- them, it meets both or neither between the two others.
+-- Two neighbouring rays of a node lie on one side of any two other rays. If a turning ray meets nothing between them,
+-- it meets both or neither between the two others.
 use Rattle.std.proofs.Common.{◌≡◌, Bool, true, false, refl, sym}
 use Rattle.overlay_geom.specs.Plane.{Point}
 use Rattle.overlay_plane.specs.Turn.{Hand, is_met_before, IsMetBefore}

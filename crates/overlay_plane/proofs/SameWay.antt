@@ -1,4 +1,4 @@
--- Two edges of a settled list that start in one point, or end in one, without a turn between them are one edge.
+-- Two edges of a settled list that start in one point, or end in one, without a turn between them are equal.
 use Rattle.std.proofs.Common.{◌≡◌, ◌⊎◌, inl, inr, ⊎_elim, Bool, true, false, ℤ, pos, ◌<ℤ◌, ◌≤ℤ◌, refl, sym, ap, ◌∙◌}
 use Rattle.std.proofs.Common.{subst, arith}
 use Rattle.std.proofs.lemmas.Int.{ints, by_lt_z}

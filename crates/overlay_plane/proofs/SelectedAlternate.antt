@@ -1,5 +1,5 @@
--- Selected steps alternate: going round a node counterclockwise, the rule begins to hold across each step that leaves
--- and ceases to hold across each one that arrives.
+-- Selected steps alternate. Counterclockwise round a node, the rule begins to hold across each leaving step and ceases
+-- to hold across each arriving step.
 use Rattle.std.proofs.Common.{◌≡◌, inl, inr, Bool, true, false, not, cond, ℤ, pos, ◌-ℤ◌, ◌<ℤ◌, List, Contains, refl}
 use Rattle.std.proofs.Common.{sym, ap, ap₂, ◌∙◌, subst}
 use Rattle.std.proofs.lemmas.Bool.{false≢true}

@@ -1,5 +1,5 @@
--- A list of forward edges is settled exactly where each meeting point of two different ones is an end of both: two
--- edges that overlap also meet in the ends of the overlap, and where those are ends of both, the two are one edge.
+-- A list of forward edges is settled exactly where each meeting point of two different edges is an end of both.
+-- Overlapping edges also meet in the ends of the overlap; if those are ends of both, the two are equal.
 use Rattle.std.proofs.Common.{◌≡◌, ◌⊎◌, inl, inr, ⊎_elim, true, false, Contains, sym, ap}
 use Rattle.std.proofs.lemmas.Bool.{both_ways}
 use Rattle.std.proofs.lemmas.List.Elements.{All-contains}

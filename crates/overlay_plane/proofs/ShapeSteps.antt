@@ -1,4 +1,4 @@
--- The steps of shapes, by the points of their contours; and shapes wind alike, each contour as it is or thinned.
+-- The steps of shapes, by the points of their contours. Shapes keep their windings with each contour thinned or not.
 use Rattle.std.proofs.Common.{◌≡◌, Bool, List, [], ◌∷◌, ◌++◌, All, refl, sym, ap, ap₂, ◌+ℤ◌, ◌∙◌}
 use Rattle.std.specs.List.{flat_map}
 use Rattle.std.proofs.lemmas.Grind.{flat_map-append}

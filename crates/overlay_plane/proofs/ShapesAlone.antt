@@ -1,5 +1,5 @@
--- The shapes to which all contours are bound, each contour as it is or thinned, each wind once or zero times round each
--- point: where there is one shape alone it winds as the selected steps.
+-- The shapes to which all contours are bound wind once or zero times round each point, with each contour thinned or
+-- not. A shape that stands alone has the windings of the selected steps.
 use Rattle.std.proofs.Common.{◌≡◌, ◌⊎◌, inl, inr, ⊎_elim, ℕ, suc, Bool, true, false, cond, ℤ, pos, List, [], ◌∷◌, ◌++◌}
 use Rattle.std.proofs.Common.{map}
 use Rattle.std.proofs.Common.{length, filter, Contains, Option, All, refl, sym, ap, ◌∙◌, subst, arith, append-nil}

@@ -1,5 +1,5 @@
--- Two edges across each other lead each other through one whole point; where an end of the one lies on the other's
--- line, it is that point.
+-- Two edges across each other lead each other through one whole point. If an end of one lies on the other's line, it is
+-- that point.
 use Rattle.std.proofs.Common.{◌≡◌, ℤ, pos, nat_abs, ◌<ℤ◌, ◌∙◌, ap, ap₂}
 use Rattle.overlay_geom.specs.Plane.{Point, Edge, cross_at}
 use Rattle.overlay_geom.specs.Placed.{IsAcross}

@@ -1,4 +1,4 @@
--- At a point where edges meet: a shape that fills something there fills a side of each edge, or one side alone of some
+-- A point where edges meet: a shape that fills something there fills a side of each edge, or exactly one side of some
 -- edge.
 use Rattle.std.proofs.Common.{◌≡◌, ◌⊎◌, inl, inr, ⊎_elim, Bool, true, false, cond, not, ◌&&◌, ◌||◌, ℤ, pos, ◌+ℤ◌, ◌-ℤ◌}
 use Rattle.std.proofs.Common.{List, [], ◌∷◌, Contains, refl, sym, ap, ◌∙◌, subst}

@@ -1,5 +1,5 @@
--- Entries no two of which pass a test that takes the two in either order: in whichever order they stand, no two pass
--- it.
+-- Entries of a list, no two of which pass a test that takes the two in either order: in every order of the list, no two
+-- pass it.
 use Rattle.std.proofs.Common.{◌≡◌, ⊎_elim, Bool, true, false, List, [], ◌∷◌, Contains, AllPairs, sym, subst}
 use Rattle.std.specs.List.{AllByRecursion, IsDistinct}
 use Rattle.std.specs.List.Sorted.{IsPermutation}

@@ -1,4 +1,4 @@
--- Two lists of steps that hold the same steps, each once, are one list in two orders.
+-- Two lists with equal steps, each once, are permutations of each other.
 use Rattle.std.proofs.Common.{◌≡◌, ◌⊎◌, inl, inr, ⊎_elim, false, List, [], ◌∷◌, ◌++◌, Contains, refl, sym, ap, subst}
 use Rattle.std.proofs.lemmas.Bool.{both_ways}
 use Rattle.std.specs.List.Sorted.{IsPermutation}

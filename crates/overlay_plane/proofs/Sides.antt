@@ -1,4 +1,4 @@
--- Along the lower side of an edge the winding is one number, in a list that meets it in ends alone and is balanced.
+-- The winding along the lower side of an edge is constant, in a balanced list that meets it in ends alone.
 use Rattle.std.proofs.Common.{◌≡◌, Bool, true, false, cond, ◌&&◌, ℤ, pos, ◌+ℤ◌, ◌-ℤ◌, ◌*ℤ◌, ◌<ℤ◌, ◌≤ℤ◌, int_lt, int_le}
 use Rattle.std.proofs.Common.{List, Contains, refl, sym, ap, ◌∙◌, subst, arith}
 use Rattle.std.proofs.lemmas.Bool.{and_from}

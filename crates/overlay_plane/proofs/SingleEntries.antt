@@ -1,5 +1,5 @@
--- In a list without equal edges an edge stands once: entries with the same ends are one, and a sum over these is its
--- term.
+-- In a list without equal edges an edge occurs once. Entries with equal ends are equal, and a sum over these is a
+-- single term.
 use Rattle.std.proofs.Common.{◌≡◌, ⊎_elim, true, false, cond, ℤ, pos, ◌+ℤ◌, List, [], ◌∷◌, Contains, sym, ap, ap₂, ◌∙◌}
 use Rattle.std.proofs.Common.{subst}
 use Rattle.std.proofs.lemmas.Bool.{false≢true, false_from_ne_true}

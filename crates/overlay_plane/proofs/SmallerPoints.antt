@@ -1,5 +1,5 @@
--- Points of the plane by x, then by y: a strict order that a test decides, in which those points tie that are at one
--- place.
+-- Points of the plane by x, then by y: a strict order that a test decides, with ties exactly for equal points of the
+-- plane.
 use Rattle.std.proofs.Common.{◌≡◌, inl, inr, Bool, true, false, ◌&&◌, ◌||◌, ℤ, pos, ◌*ℤ◌, ◌<ℤ◌, ◌≤ℤ◌, int_lt, sym}
 use Rattle.std.specs.Bool.{Decides}
 use Rattle.std.specs.Ordering.{int_eq}

@@ -1,5 +1,5 @@
--- The chain of an edge through the whole points nearest its snapped cuts is the one through the computed hot points,
--- and through any others in order that are the same but for ends.
+-- The chain of an edge through the whole points nearest to its snapped cuts is the chain through the computed hot
+-- points. It is also the chain through any other such points in order, whether or not these include ends.
 use Rattle.std.proofs.Common.{◌≡◌, inr, false, List, [], ◌∷◌, ◌++◌, map, Contains, subst}
 use Rattle.std.specs.List.{filter}
 use Rattle.overlay_geom.specs.Plane.{Point, PlanePoint, steps_through}

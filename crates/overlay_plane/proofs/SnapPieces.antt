@@ -1,5 +1,5 @@
--- The pieces of a snap: between neighbouring cuts of an edge, or an end of it and a cut, each hot point whose pixel the
--- edge meets is what one of the two rounds to.
+-- The pieces of a snap, between neighbouring cuts of an edge, or an end and a cut. Each hot point whose pixel the piece
+-- meets is the rounding of one of the two.
 use Rattle.std.proofs.Common.{◌≡◌, ◌⊎◌, inl, inr, true, List, [], ◌∷◌, ◌++◌, map, Contains, refl, sym}
 use Rattle.std.proofs.Common.{ap, ap₂, ◌∙◌, subst}
 use Rattle.std.proofs.lemmas.List.{map-append}

@@ -1,4 +1,4 @@
--- Steps of a snap: no hot point lies inside one, and two that meet share an end.
+-- Steps of a snap: no hot point lies inside a step, and two that meet share an end.
 use Rattle.std.proofs.Common.{◌≡◌, ◌⊎◌, inl, inr, false, List, refl, sym, subst}
 use Rattle.std.proofs.lemmas.Bool.{cases_Bool}
 use Rattle.overlay_geom.specs.Plane.{Point, PlanePoint, Step, IsOn, in_plane, edge_eq, edge_of}

@@ -1,5 +1,5 @@
--- The chain of a snapped edge and the edge stay within half a unit of each other: a point of a step is mixed of the
--- step's ends as a point of the edge is of the two points that they are nearest to.
+-- The chain of a snapped edge and the edge stay within half a unit of each other. A point of a step mixes the step's
+-- ends as a point of the edge mixes the two points nearest to them.
 use Rattle.std.proofs.Common.{◌≡◌, ◌⊎◌, inl, inr, Bool, true, false, ℤ, pos, ◌+ℤ◌, ◌*ℤ◌, ◌<ℤ◌, ◌≤ℤ◌, [], ◌∷◌, map}
 use Rattle.std.proofs.Common.{Contains, refl, sym, ap, ◌∙◌, subst}
 use Rattle.std.specs.List.{All}

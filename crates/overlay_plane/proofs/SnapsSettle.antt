@@ -1,5 +1,4 @@
--- What a snap leaves, merged, is settled: edges of steps that meet share an end, and on each lies no hot point but its
--- ends.
+-- A snap, merged, is settled: edges of steps that meet share an end, and no hot point but its ends lies on an edge.
 use Rattle.std.proofs.Common.{◌≡◌, ◌⊎◌, inl, inr, Bool, true, false, Contains, List, refl, sym, ap, ◌∙◌, subst}
 use Rattle.std.proofs.lemmas.Bool.{false_from_ne_true}
 use Rattle.overlay_geom.specs.Plane.{Point, PlanePoint, Step, Edge, IsAt, IsOn, IsEnd, SamePlace, in_plane, edge_eq}

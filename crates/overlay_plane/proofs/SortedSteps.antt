@@ -1,4 +1,4 @@
--- Two lists of points in one weak order that have the same entries give the same steps from their common start.
+-- Two lists of points in one weak order with equal entries give equal steps from their common start.
 use Rattle.std.proofs.Common.{◌≡◌, ⊎_elim, Bool, true, false, cond, List, [], ◌∷◌, ◌++◌, Contains, refl, sym, ap, ◌∙◌}
 use Rattle.std.proofs.Common.{subst}
 use Rattle.std.proofs.lemmas.Bool.Decides.{not_from_Decides}

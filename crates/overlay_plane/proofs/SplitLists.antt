@@ -1,5 +1,5 @@
--- A list made of the parts of the entries that pass one of two tests is the lists made of those that pass each, in
--- another order.
+-- A list made of the parts of the entries that pass one of two tests is a permutation of the joined lists for each
+-- test.
 use Rattle.std.proofs.Common.{◌≡◌, ◌⊎◌, inl, inr, Bool, true, false, cond, List, [], ◌∷◌, ◌++◌, Contains, refl, sym, ap}
 use Rattle.std.proofs.Common.{◌∙◌, subst, append_assoc}
 use Rattle.std.specs.List.{filter, flat_map}

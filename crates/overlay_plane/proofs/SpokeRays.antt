@@ -1,4 +1,4 @@
--- Spokes of a node as rays: their far ends are other points than the node, and spokes on one ray are one.
+-- Spokes of a node as rays: their far ends differ from the node, and spokes on one ray are equal.
 use Rattle.std.proofs.Common.{◌≡◌, Bool, true, false, cond, ℤ, pos, neg_ℤ, ◌<ℤ◌, List, refl, sym, ◌∙◌, subst}
 use Rattle.std.proofs.lemmas.Bool.{false≢true}
 use Rattle.overlay_geom.specs.Plane.{Point, point_eq, edge_eq}

@@ -1,5 +1,5 @@
--- Which of three spokes is met between the two others, by the signs of the turns between their edges and by whether
--- each starts or ends in the node: a table, checked entry by entry.
+-- The spoke met between two others, by the signs of the turns between their edges and by whether each starts or ends in
+-- the node. This is a table, checked entry by entry.
 use Rattle.std.proofs.Common.{◌≡◌, ℕ, Bool, true, false, not, cond, ◌&&◌, ◌||◌, ◌==◌, nat_lt, ℤ, pos, ◌+ℤ◌, ◌-ℤ◌, neg_ℤ}
 use Rattle.std.proofs.Common.{◌<ℤ◌, int_lt, refl, sym, ap, ap₂, ◌∙◌}
 use Rattle.std.proofs.lemmas.Bool.{and_parts, false≢true}

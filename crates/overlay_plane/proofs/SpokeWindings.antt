@@ -1,5 +1,5 @@
--- The winding before a spoke is that at the node, and the counts of the spokes that a ray that turns counterclockwise
--- from straight down meets before it.
+-- The winding before a spoke is the winding at the node plus the counts of earlier spokes. A ray that turns
+-- counterclockwise from straight down meets these before the spoke.
 use Rattle.std.proofs.Common.{◌≡◌, ⊎_elim, Bool, true, false, cond, ◌&&◌, ◌||◌, ℤ, pos, ◌+ℤ◌, ◌-ℤ◌, neg_ℤ, List}
 use Rattle.std.proofs.Common.{Contains, refl, sym, ap, ◌∙◌, subst}
 use Rattle.std.proofs.lemmas.Bool.{false≢true, false_from_ne_true}

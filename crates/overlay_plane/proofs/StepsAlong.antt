@@ -1,4 +1,4 @@
--- The signs of the steps along an edge: a chain backward has the opposite ones.
+-- The signs of the steps along an edge: a backward chain has the opposite signs.
 use Rattle.std.proofs.Common.{◌≡◌, Bool, true, false, cond, not, ℤ, pos, negsuc, ◌+ℤ◌, ◌*ℤ◌, List, [], ◌∷◌, refl, sym}
 use Rattle.std.proofs.Common.{ap, ap₂, ◌∙◌}
 use Rattle.std.specs.List.{All}

@@ -1,4 +1,5 @@
--- Two collinear steps wind as the step straight on, and a thinned closed list as the one that it was thinned from.
+-- Two collinear steps have the windings of the direct step, and a thinned closed list has those of the list before
+-- thinning.
 use Rattle.std.proofs.Common.{◌≡◌, ◌+◌, ◌-◌, ℤ, pos, ◌+ℤ◌, ◌-ℤ◌, neg_ℤ, ◌<ℤ◌, List, ◌++◌, length, refl, sym, ap₂, ◌∙◌}
 use Rattle.std.specs.List.{remove}
 use Rattle.overlay_geom.specs.Plane.{Point, PlanePoint, Edge, side, in_plane, cross_at, steps_between, steps_of}

@@ -1,5 +1,5 @@
--- A stretch of an orbit: so many steps of it from a place on. What a number given to each point rises by along it
--- telescopes.
+-- A stretch of an orbit: a number of steps from a place on. The rises of a number given to each point telescope along
+-- it.
 use Rattle.std.proofs.Common.{◌≡◌, ⊎_elim, ℕ, zero, suc, ◌+◌, ◌<◌, ◌≤◌, ℤ, ◌-ℤ◌, List, [], ◌∷◌, length, Contains, sym}
 use Rattle.std.proofs.Common.{ap, ◌∙◌, subst, arith}
 use Rattle.std.proofs.lemmas.Bool.{false_from_ne_true}

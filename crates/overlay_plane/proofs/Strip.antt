@@ -1,5 +1,5 @@
--- The strip below an edge between two x-coordinates: an edge has as many more ends in it as it is lower at the one
--- x-coordinate and not at the other.
+-- The strip below an edge between two x-coordinates: ends and starts of an edge in it tell where that edge is lower at
+-- one x-coordinate and not at the other.
 use Rattle.std.proofs.Common.{◌≡◌, ⊎_elim, Bool, true, false, not, ◌&&◌, ℤ, pos, ◌+ℤ◌, ◌-ℤ◌, ◌*ℤ◌, ◌<ℤ◌, ◌≤ℤ◌, int_lt}
 use Rattle.std.proofs.Common.{int_le, refl, sym, ap, ap₂, ◌∙◌, subst, arith}
 use Rattle.std.proofs.lemmas.Bool.{and_from, or_cases, and_parts, false≢true}

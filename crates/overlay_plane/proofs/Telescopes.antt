@@ -1,5 +1,5 @@
--- What rises between two points by a number given to each point rises along a walk from its start to its end, and round
--- a closed walk not at all.
+-- The rises of a number given to each point add up along a walk to the rise from its start to its end, and round a
+-- closed walk to 0.
 use Rattle.std.proofs.Common.{◌≡◌, Bool, true, false, cond, ℤ, pos, negsuc, ◌-ℤ◌, ◌*ℤ◌, List, [], ◌∷◌, ◌++◌, refl, sym}
 use Rattle.std.proofs.Common.{ap, ◌∙◌, arith}
 use Rattle.std.specs.List.{All}

@@ -1,5 +1,5 @@
--- The cyclic order of rays round a point: of three rays of different directions, one is met between the two others as
--- two of the three turns from each to the next are positive.
+-- The cyclic order of rays round a point. Of three rays of different directions, a ray is met between the two others
+-- where two of the three turns from each to the next are positive.
 use Rattle.std.proofs.Common.{◌≡◌, ◌⊎◌, inl, inr, ⊎_elim, ℕ, Bool, true, false, ℤ, pos, ◌-ℤ◌, ◌*ℤ◌, neg_ℤ, ◌<ℤ◌, ◌≤ℤ◌}
 use Rattle.std.proofs.Common.{int_lt, refl, sym, ap₂, ◌∙◌}
 use Rattle.std.specs.Bool.{Decides}

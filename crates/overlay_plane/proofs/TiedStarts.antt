@@ -1,4 +1,4 @@
--- Which of two edges that start in one point is anchored before the other.
+-- The order of anchors for two edges that start in one point.
 use Rattle.std.proofs.Common.{◌≡◌, true, false, ◌&&◌, ◌||◌, ℤ, pos, ◌-ℤ◌, ◌*ℤ◌, int_lt, refl, sym, ap, ap₂, ◌∙◌, subst}
 use Rattle.std.specs.Ordering.{is_lt, is_eq, int_cmp}
 use Rattle.std.specs.declared.cmp.Ordering.TheVariants.{Equal}

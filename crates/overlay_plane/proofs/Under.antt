@@ -1,5 +1,5 @@
--- The order of edges over one x-coordinate: strict, total among edges that meet in ends alone, and the same wherever
--- both cover.
+-- The order of edges over an x-coordinate: strict, total among edges that meet in ends alone, and equal wherever both
+-- cover.
 use Rattle.std.proofs.Common.{◌≡◌, ◌⊎◌, inl, inr, true, false, ℤ, pos, ◌+ℤ◌, ◌-ℤ◌, ◌*ℤ◌, ◌<ℤ◌, ◌≤ℤ◌, int_lt, int_le}
 use Rattle.std.proofs.lemmas.Bool.{and_parts, and_from}
 use lib.IntN.{*ℤ_comm}

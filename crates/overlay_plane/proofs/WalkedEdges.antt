@@ -1,4 +1,4 @@
--- The edges of walks that can be bound: those of one walk's anchors are one, and of those below it one is the next.
+-- The edges of walks that can be bound: the anchors of a walk are equal, and one of the edges below it is the next.
 use Rattle.std.proofs.Common.{◌≡◌, ◌⊎◌, inl, inr, ⊎_elim, Bool, true, false, ◌&&◌, ℤ, pos, List, Contains, All, filter}
 use Rattle.std.proofs.Common.{refl, sym, ap₂, ◌∙◌, subst}
 use Rattle.std.proofs.lemmas.Bool.{both_ways, and_from, and_parts, false_from_ne_true}

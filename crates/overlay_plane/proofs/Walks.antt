@@ -1,5 +1,4 @@
--- Numbers given to each two points that follow each other in a walk, summed: along an open walk, and round a closed
--- one.
+-- Numbers given to each two neighbouring points of a walk, summed along an open walk, and round a closed walk.
 use Rattle.std.proofs.Common.{◌≡◌, ℤ, pos, ◌+ℤ◌, List, [], ◌∷◌, ◌++◌, append_assoc, refl, sym, ap, ap₂, ◌∙◌}
 use Rattle.std.proofs.lemmas.List.{append-nil}
 use lib.IntN.{+ℤ_idr, +ℤ_comm, +ℤ_assoc}

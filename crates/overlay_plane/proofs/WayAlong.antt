@@ -1,5 +1,5 @@
--- How far points are along an edge, by their products with its direction: points of its line equally far are at one
--- place, and a point between two others is a mixture of them.
+-- Distances of points along an edge, by their products with its direction. Points of its line at equal distance are
+-- equal, and a point between two others is a mixture of them.
 use Rattle.std.proofs.Common.{◌≡◌, ℤ, pos, neg_ℤ, ◌+ℤ◌, ◌-ℤ◌, ◌*ℤ◌, ◌<ℤ◌, ◌≤ℤ◌, sym, ap, ap₂, ◌∙◌}
 use Rattle.std.proofs.lemmas.Int.{by_lt_z}
 use Rattle.overlay_geom.specs.Plane.{PlanePoint, Edge, SamePlace, IsOn, side, in_plane}

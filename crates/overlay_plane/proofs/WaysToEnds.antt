@@ -1,4 +1,4 @@
--- The ways along two segments on which both stay at one level: from any place between the ends they lead to one at
+-- Paths along two segments on which both stay at one level: from any place between the ends they lead to a place at
 -- which an end stands alone.
 use lib.IntN.{*ℤ_comm}
 use Rattle.std.proofs.Common.{◌≡◌, ◌⊎◌, inl, inr, ⊎_elim, ℤ, pos, ◌+ℤ◌, ◌-ℤ◌, ◌*ℤ◌, ◌<ℤ◌, ◌≤ℤ◌, sym, ap, ◌∙◌}

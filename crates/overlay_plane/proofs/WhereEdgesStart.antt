@@ -1,5 +1,5 @@
--- Which of two edges is the lower just right of an x-coordinate, from the gap at the x-coordinate, and from the start
--- of one of them.
+-- The lower of two edges just right of an x-coordinate, from the gap at the x-coordinate, and from the start of one of
+-- them.
 use Rattle.std.proofs.Common.{◌≡◌, true, false, ℤ, pos, ◌+ℤ◌, ◌*ℤ◌, neg_ℤ, ◌<ℤ◌, int_lt, int_le, ap, ◌∙◌, arith}
 use Rattle.std.proofs.lemmas.Int.{ints}
 use Rattle.std.proofs.lemmas.Bool.{and_from}

@@ -1,4 +1,4 @@
--- An edge stays whole where each point that it is led through is an end of it: then its chain has one step, and else
+-- An edge stays whole if each point that it is led through is an end of it. Then its chain has one step, otherwise
 -- more.
 use Rattle.std.proofs.Common.{◌≡◌, ◌⊎◌, inl, inr, ⊎_elim, Bool, true, false, cond, List, [], ◌∷◌, ◌++◌, length, refl}
 use Rattle.std.proofs.Common.{sym, ap, ◌∙◌, subst, arith}

@@ -1,4 +1,4 @@
--- Whole points at the place of points of the plane: one at each place, in the same order, and rounded to themselves.
+-- Whole points as points of the plane: unique, in the same order, and rounded to themselves.
 use Rattle.std.proofs.Common.{◌≡◌, inl, inr, ℤ, pos, ◌+ℤ◌, ◌*ℤ◌, ◌<ℤ◌, ap, ◌∙◌}
 use lib.IntN.{*ℤ_comm}
 use Rattle.overlay_geom.specs.Plane.{Point, PlanePoint, IsAt, SamePlace}

@@ -1,4 +1,4 @@
--- Answers that rise from bottom to top: where one is not Greater, none below it is.
+-- Answers that rise from bottom to top: if an answer is not Greater, neither is any below it.
 use Rattle.std.proofs.Common.{◌≡◌, true, not, List, get_or, refl, sym, ap, ◌∙◌}
 use Rattle.std.specs.Ordering.{is_gt}
 use Rattle.std.specs.declared.cmp.Ordering.{Ordering}

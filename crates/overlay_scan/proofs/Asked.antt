@@ -1,4 +1,4 @@
--- What a sweep is asked for, found among the edges that are held.
+-- The answers of a sweep, found among the held edges.
 use Rattle.std.proofs.Common.{◌≡◌, Bool, not, ℕ, ℤ, List, [], ◌∷◌, ◌++◌, Option, None, Some}
 use Rattle.std.proofs.Common.{take, drop, true, pos, int_lt, sym, ap, subst, ◌∙◌, arith}
 use Rattle.std.proofs.lemmas.Int.{ints}

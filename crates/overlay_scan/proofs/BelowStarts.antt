@@ -1,4 +1,4 @@
--- Which edges over the x-coordinate of an edge's start are below that start, be the edge vertical or not.
+-- The edges over the x-coordinate of an edge's start that are below that start, whether the edge is vertical or not.
 use Rattle.std.proofs.Common.{◌≡◌, ⊎_elim, Bool, true, false, cond, not, ◌&&◌, ◌||◌, ℤ, pos, ◌+ℤ◌, ◌-ℤ◌, ◌*ℤ◌, ◌<ℤ◌}
 use Rattle.std.proofs.Common.{◌≤ℤ◌, int_lt, int_le, refl, sym, ap, ap₂, ◌∙◌, subst, arith}
 use Rattle.std.proofs.lemmas.Int.{ints}

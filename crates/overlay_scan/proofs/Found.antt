@@ -1,4 +1,4 @@
--- What was found among the live entries, as a sweep is asked for it.
+-- Entries found among the live entries, as a sweep is asked for them.
 use Rattle.std.proofs.Common.{◌≡◌, Bool, true, false, cond, ◌+◌, ℤ, ◌≤ℤ◌, int_lt, List, [], ◌∷◌, ◌++◌, length, take}
 use Rattle.std.proofs.Common.{drop}
 use Rattle.std.proofs.Common.{Option, None, Some, refl, sym, ap, ◌∙◌, arith}

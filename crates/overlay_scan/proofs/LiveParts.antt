@@ -1,4 +1,4 @@
--- The live ones of held edges, by parts of their list.
+-- The live edges of held edges, by parts of their list.
 use Rattle.std.proofs.Common.{◌≡◌, true, false, cond, ℕ, ◌+◌, ◌<◌, ℤ, int_lt, List, [], ◌∷◌, ◌++◌, length, take, drop}
 use Rattle.std.proofs.Common.{get_or, slice_set, sym, ap, ◌∙◌, subst, arith}
 use Rattle.std.proofs.lemmas.Int.{ints}

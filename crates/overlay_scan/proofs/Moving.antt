@@ -1,4 +1,4 @@
--- What is live stays in order as the sweep moves on.
+-- Live edges stay in order as the sweep moves on.
 use Rattle.std.proofs.Common.{◌≡◌, Bool, true, ℕ, List, [], get_or, Option, None, Some, ℤ, pos, ◌*ℤ◌, ◌≤ℤ◌, int_lt}
 use Rattle.std.proofs.Common.{int_le, sym, ◌∙◌, subst, arith}
 use Rattle.std.proofs.lemmas.Int.{ints}

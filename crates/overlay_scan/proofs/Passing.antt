@@ -1,5 +1,5 @@
--- A list that a test passes in its front alone: what passes up to an item that does, and what fails from one on that
--- does not.
+-- A list whose front alone passes a test: all items up to an item that passes do, and all from an item that fails on
+-- fail.
 use Rattle.std.proofs.Common.{◌≡◌, Bool, true, false, List, [], ◌∷◌, ◌++◌, sym, ◌∙◌, arith}
 use Rattle.std.specs.List.{All}
 use Rattle.std.proofs.lemmas.Bool.{false_from_ne_true, false≢true}

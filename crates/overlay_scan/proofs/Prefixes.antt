@@ -1,4 +1,5 @@
--- How many entries pass a test from the first on, and which ones pass where none does after one that fails.
+-- The number of entries that pass a test from the first on, and the entries that pass if none does after one that
+-- fails.
 use Rattle.std.proofs.Common.{◌≡◌, Bool, true, false, cond, ℕ, suc, ◌+◌, List, [], ◌∷◌, take, drop}
 use Rattle.std.proofs.Common.{refl, sym, ap, ◌∙◌, arith}
 use Rattle.std.specs.List.{All, filter, prefix_len}

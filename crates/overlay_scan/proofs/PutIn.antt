@@ -1,4 +1,4 @@
--- Where a new entry goes: above all entries under it, and below the others.
+-- The place of a new entry: above all entries under it, and below the others.
 use Rattle.std.proofs.Common.{◌≡◌, ⊎_elim, true, false, ℕ, List, [], ◌∷◌, ◌++◌, take, drop, get_or, ℤ, pos, sym}
 use Rattle.std.proofs.Common.{ap, ◌∙◌, subst, arith}
 use Rattle.std.proofs.lemmas.Int.{ints}

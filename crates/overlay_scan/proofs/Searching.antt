@@ -1,4 +1,4 @@
--- The bounds of a search, as an entry after another one is asked.
+-- The bounds of a search, as one entry after another is tested.
 use Rattle.std.proofs.Common.{◌≡◌, Bool, true, false, not, ℕ, ◌+◌, ◌-◌, ◌<◌, ◌≤◌, ℤ, int_lt, List, [], ◌∷◌, ◌++◌}
 use Rattle.std.proofs.Common.{Option, None, zero, suc, length, take, drop, get_or, refl, sym, ap, ◌∙◌, subst, arith}
 use Rattle.std.specs.List.{All, last_or}

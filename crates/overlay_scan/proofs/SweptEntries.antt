@@ -1,4 +1,4 @@
--- A sweep that holds the live entries of a list, where the list has one more entry, and where the sweep moves on.
+-- A sweep that holds the live entries of a list: with a further entry, and as the sweep moves on.
 use Rattle.std.proofs.Common.{◌≡◌, ⊎_elim, ℕ, Bool, true, false, ℤ, ◌≤ℤ◌, int_lt, List, [], ◌∷◌, ◌++◌, Contains, Option}
 use Rattle.std.proofs.Common.{None, Some, refl, sym, subst, arith}
 use Rattle.std.specs.Option.{IfSome}

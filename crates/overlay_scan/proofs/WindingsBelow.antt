@@ -1,4 +1,4 @@
--- The winding below an edge counts the edges below its start: so it is the one above the greatest of them.
+-- The winding below an edge counts the edges below its start, so it is the winding above the greatest of them.
 use Rattle.std.proofs.Common.{◌≡◌, ⊎_elim, Bool, true, false, cond, ◌&&◌, ◌||◌, ℤ, pos, ◌+ℤ◌, int_lt, List}
 use Rattle.std.proofs.Common.{Contains, refl, sym, ap, ◌∙◌, subst}
 use Rattle.std.proofs.lemmas.Bool.{and_parts, or_cases, false_from_ne_true}

@@ -1,5 +1,5 @@
--- Where live edges stand with the windings above them, the look-up below the start of an edge gives the winding below
--- that edge.
+-- If live edges carry the windings above them, the look-up below the start of an edge gives the winding below that
+-- edge.
 use Rattle.std.proofs.Common.{◌≡◌, ⊎_elim, inl, inr, true, ℤ, pos, List, Contains, Option, None, Some}
 use Rattle.std.proofs.Common.{refl, sym, ap, ◌∙◌, subst}
 use Rattle.std.specs.List.{filter}

@@ -1,4 +1,4 @@
--- A balanced tree is at most twice as high as the number of its nodes, and one, has binary digits.
+-- A balanced tree of n nodes is at most twice as high as the number of binary digits of n + 1.
 use Rattle.std.proofs.Common.{◌≡◌, ⊎_elim, ℕ, zero, suc, ◌+◌, ◌*◌, ◌^◌, ◌<◌, ◌≤◌, ◌∷◌, length, arith}
 use Rattle.std.proofs.lemmas.Bool.{cases_lt}
 use Rattle.std.proofs.lemmas.List.{length-append}

@@ -1,4 +1,4 @@
--- The top of a tree is read on the way down, and the way goes on on one of its sides.
+-- A descent reads the root of a tree, and goes on into one of its sides.
 use Rattle.std.proofs.Common.{◌≡◌, true, ℕ, ◌+◌, ◌<◌, ◌≤◌, ℤ, int_lt, List, [], ◌∷◌, length, slice_get, Option}
 use Rattle.std.proofs.Common.{Some}
 use Rattle.std.proofs.Common.{refl, sym, ap, subst, ◌∙◌, arith}

@@ -1,4 +1,4 @@
--- A tree whose one side is too high by one is turned: what is read of it, and what each step leaves.
+-- A rotation of a tree with one side too high by one: its reads, and the tree after each step.
 use Rattle.std.proofs.Common.{◌≡◌, ◌<◌, ◌≤◌, List, [], ◌∷◌, length, slice_get, Option, Some, sym, ap}
 use Rattle.std.proofs.Common.{subst, IfSome, ◌∙◌, arith}
 use Rattle.overlay_tree.specs.declared.links.Links.{Links}

@@ -1,4 +1,4 @@
--- How a struct with no field at run time is made, for the walks of src/visits.rt. Assumes `Logic`.
+-- Making of a struct without fields at run time, for the walks of src/visits.rt. Assumes `Logic`.
 use Rattle.std.proofs.Common.{List, [], ◌∷◌, refl}
 use seplogic.Ra.Ura.{Ura}
 use mir.Val.{Val, vstruct, vnil}

@@ -1,4 +1,4 @@
--- Walks of groups that become contours, one group and one walk at a time.
+-- Walks of groups that become contours, group by group and walk by walk.
 use Rattle.std.proofs.Common.{◌≡◌, ℕ, suc, ◌≤◌, Bool, true, cond, ℤ, List, [], ◌∷◌, ◌++◌, map, length, get_or}
 use Rattle.std.proofs.Common.{filter, All, Contains, Vec, refl, sym, ap, ◌∙◌, subst, arith}
 use Rattle.std.specs.List.{flat_map}

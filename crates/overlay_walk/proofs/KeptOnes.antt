@@ -1,4 +1,4 @@
--- What is true of contours that an overlay keeps, and that their steps are long.
+-- Facts of the kept contours of an overlay; their steps are long.
 use Rattle.std.proofs.Common.{◌≡◌, ℕ, Bool, true, false, ℤ, List, All, Vec, map, filter, sym, ap, ◌∙◌, subst}
 use Rattle.std.proofs.lemmas.Bool.{false≢true}
 use Rattle.std.proofs.lemmas.List.Elements.{All-contains}

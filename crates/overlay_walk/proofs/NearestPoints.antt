@@ -1,4 +1,4 @@
--- The point of a list that a turning ray meets first, once one more point stands at the end of the list.
+-- The point of a list that a turning ray meets first, after a further point at the end of the list.
 use Rattle.std.proofs.Common.{◌≡◌, ⊎_elim, ◌≤◌, Bool, true, false, cond, Option, None, Some, option_map, unwrap_or}
 use Rattle.std.proofs.Common.{List, [], ◌∷◌, ◌++◌, pos, ◌≤ℤ◌, refl, sym, ap, ◌∙◌, subst, arith}
 use Rattle.std.specs.Prelude.{All, Contains, ◌↔◌}

@@ -1,4 +1,4 @@
--- The step of an edge that has the region on exactly one side, and none of another.
+-- The step of an edge with the region on exactly one side; other edges have none.
 use Rattle.std.proofs.Common.{◌≡◌, Bool, true, false, not, cond, List, [], ◌∷◌, refl, sym, ap, ◌∙◌}
 use Rattle.std.proofs.lemmas.Bool.{false≢true}
 use Rattle.std.specs.Bool.{beq}

@@ -1,4 +1,4 @@
--- Edges start one before another in a strict order, in which any two of edges that lead forward compare.
+-- The order of edges by their starts is strict, and any two forward edges compare in it.
 use Rattle.std.proofs.Common.{◌≡◌, ◌⊎◌, ⊎_elim, Bool, true, false, ◌&&◌, ◌||◌, ℤ, pos, int_lt, sym, ap, ◌∙◌, subst}
 use Rattle.std.proofs.Common.{refl}
 use Rattle.std.specs.Ordering.{is_lt, is_eq, int_cmp}

@@ -1,4 +1,4 @@
--- A mark that is set takes one step out of those left, where each stands once.
+-- A mark that is set takes one step out of the steps left, if each occurs once.
 use Rattle.std.proofs.Common.{◌≡◌, ℕ, zero, suc, ◌<◌, Bool, true, false, cond, not, ◌||◌, List, [], ◌∷◌, length, refl}
 use Rattle.std.proofs.Common.{sym, ap, ◌∙◌, arith}
 use Rattle.std.specs.Prelude.{Contains, set}

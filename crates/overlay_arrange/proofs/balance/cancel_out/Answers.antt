@@ -1,4 +1,4 @@
--- One end more, at the last point or at another one.
+-- A further end, at the last point or at another point.
 use Rattle.std.proofs.Common.{◌≡◌, ◌+◌, ◌<◌, ◌≤◌, false, ◌+ℤ◌, length, drop, get_or, refl, sym, ap, ◌∙◌, subst, rules}
 use Rattle.std.specs.List.{All}
 use Rattle.std.proofs.lemmas.Bool.{false≢true}

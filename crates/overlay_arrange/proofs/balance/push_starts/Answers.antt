@@ -1,4 +1,4 @@
--- The smaller end of one edge more.
+-- The smaller end of a further edge.
 use Rattle.std.proofs.Common.{ℤ, neg_ℤ, ap₂, ◌∙◌}
 use Rattle.overlay_geom.specs.Points.{plain_point}
 use Rattle.overlay_arrange.specs.Content.{plain_edge}

@@ -1,4 +1,4 @@
--- The larger end of one edge more.
+-- The larger end of a further edge.
 use Rattle.std.proofs.Common.{ℤ, ap₂, ◌∙◌}
 use Rattle.overlay_geom.specs.Points.{plain_point}
 use Rattle.overlay_arrange.specs.Content.{plain_edge}

@@ -1,4 +1,4 @@
--- Where the edge is changed all later ones are searched, and else the changed ones behind it.
+-- A changed edge is compared with all later edges, another edge with the changed edges behind it.
 use Rattle.std.proofs.Common.{◌+◌, ◌<◌, ◌≤◌, IfSome, length, All, sym, subst, ◌∙◌, arith}
 use Rattle.std.proofs.lemmas.List.{get_or_default}
 use Rattle.std.proofs.lemmas.Result.{on_ok_weaker}

@@ -1,4 +1,4 @@
--- The crossing lies part of the way along e, and how far is read off two cross products.
+-- The crossing lies part of the way along e; two cross products tell how far.
 use Rattle.std.proofs.Common.{◌≡◌, ℤ, pos, sym, ◌∙◌, rules}
 use Rattle.overlay_geom.specs.Edges.{ends_of}
 use Rattle.overlay_geom.specs.Plane.{Edge, Point}

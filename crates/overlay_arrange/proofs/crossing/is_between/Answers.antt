@@ -1,4 +1,4 @@
--- A point is no smaller than another one where it compares so.
+-- A point is at least another point exactly where it compares so.
 use Rattle.std.proofs.Common.{refl, ap, ap₂, sym, ◌&&◌, not, ◌∙◌}
 use Rattle.overlay_geom.specs.Plane.{point_lt}
 use Rattle.overlay_geom.specs.Points.{plain_point}

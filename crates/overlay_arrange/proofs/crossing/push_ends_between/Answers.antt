@@ -1,4 +1,4 @@
--- What is added of the two ends is what is added of each.
+-- The points added for the two ends are those added for each.
 use Rattle.std.proofs.lemmas.Result.{on_ok_weaker}
 use Rattle.overlay_geom.specs.Edges.{ends_of}
 use Rattle.overlay_geom.specs.Points.{plain_point}

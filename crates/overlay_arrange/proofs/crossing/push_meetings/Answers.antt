@@ -1,4 +1,4 @@
--- Edges of which the one lies beside the other's line meet nowhere.
+-- Edges meet nowhere if one lies beside the other's line.
 use Rattle.overlay_geom.proofs.PointOrder.{Decides-point_lt}
 use Rattle.overlay_arrange.specs.Content.{plain_edge}
 use Rattle.overlay_arrange.specs.Meetings.{plain_meetings}

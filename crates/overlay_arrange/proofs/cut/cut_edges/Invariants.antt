@@ -1,4 +1,4 @@
--- The pieces so far and those of the edges to come make the whole: what adds the latter to the former cuts all edges.
+-- The pieces so far and those of the edges to come make the whole.
 use Rattle.std.proofs.Common.{◌≡◌, ◌++◌, List, drop}
 use Rattle.std.specs.List.{flat_map}
 use Rattle.overlay_plane.specs.Carried.{Carried, edges_in}

@@ -1,4 +1,4 @@
--- A loop over the points: each one is an end of the edge, or the answer is no.
+-- A loop over the points: each is an end of the edge, or the answer is no.
 use Rattle.std.proofs.Common.{refl, subst, All}
 use Rattle.overlay_geom.specs.Points.{plain_point}
 use Rattle.overlay_geom.proofs.Mapped.{mapped_whole, All-mapped_at, All-mapped_more}

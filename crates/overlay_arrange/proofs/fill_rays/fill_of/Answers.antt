@@ -1,4 +1,4 @@
--- The winding above the edge is the one below it and its own count, and neither gets further from 0 than the weight.
+-- The winding above the edge is the winding below it plus its own count; both stay within the weight.
 use Rattle.overlay_geom.specs.Plane.{midpoint}
 use Rattle.overlay_geom.specs.Edges.{ends_of, subj_of, clip_of}
 use Rattle.overlay_geom.proofs.WindingSums.{subj_weighed, clip_weighed, winding_by-light}

@@ -1,4 +1,4 @@
--- One edge more: what the calls ask, and what is told then.
+-- A further edge: the conditions of the calls, and the sides that are known afterwards.
 use Rattle.std.proofs.Common.{◌≡◌, ◌+◌, ◌<◌, ◌≤◌, map, length, take, get_or, sym, ◌∙◌, subst, arith}
 use Rattle.std.specs.List.Sorted.{IsPermutation}
 use Rattle.std.proofs.lemmas.List.{length-map, length-set}

@@ -1,5 +1,5 @@
--- The sides of the edges to which the sweep has come are told at their places, it may go on to those left, and the
--- windings above the last are known.
+-- The sides of the edges swept so far are at their places, the sweep may go on to the rest, and the windings above the
+-- last edge are known.
 use Rattle.std.proofs.Common.{◌≡◌, length, take, drop, get_or}
 use Rattle.std.specs.List.{All}
 use Rattle.overlay_scan.specs.Sweeps.{IsSwept}

@@ -1,4 +1,4 @@
--- Where the edge before starts in the same point its windings are handed on; else the look-up gives them.
+-- If the edge before starts in the same point, its windings are used; otherwise the look-up gives them.
 use Rattle.std.proofs.Common.{◌≡◌, ◌+◌, ◌-◌, ◌<◌, ℤ, pos, length, take, get_or, true, refl, sym, ap, ap₂, ◌∙◌}
 use Rattle.std.proofs.Common.{subst, arith}
 use Rattle.std.proofs.lemmas.List.{length-map, get_or_default}

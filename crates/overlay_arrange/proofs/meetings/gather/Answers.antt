@@ -1,5 +1,5 @@
--- Those before the first place need no meetings. Each other edge adds what it and the later ones lead each other
--- through; sorting keeps what is gathered.
+-- Edges before the first place need no meetings. Each other edge adds the points through which it and the later edges
+-- lead each other; sorting keeps them.
 use Rattle.std.proofs.Common.{◌≡◌, List, length, sym, subst, arith}
 use Rattle.std.proofs.lemmas.List.{length-map}
 use Rattle.std.proofs.lemmas.List.Sorted.{Contains-permutation, IsPermutation-map, IsPermutation-sym}

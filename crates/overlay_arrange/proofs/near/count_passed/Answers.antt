@@ -1,5 +1,5 @@
--- A block that begins there lies apart, so all in it do; and where the extent at the place lies above, so do the others
--- of its strip.
+-- A block that begins there lies apart, so all in it do. If the box at the place lies above, so do the others of its
+-- strip.
 use Rattle.std.proofs.Common.{◌<◌, ◌/◌, List, length, refl, sym, ◌∙◌, subst, arith}
 use Rattle.overlay_geom.proofs.Comparisons.{Decides-int_lt}
 use Rattle.overlay_arrange.specs.Extents.{plain_extent, plain_extents}

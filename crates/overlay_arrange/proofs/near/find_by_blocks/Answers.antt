@@ -1,4 +1,4 @@
--- What stands before the strips of the run lies apart, and what stands behind them.
+-- The boxes before and behind the strips of the run lie apart.
 use Rattle.std.proofs.Common.{◌≡◌, ◌⊎◌, ⊎_elim, inl, inr, ◌+◌, ◌*◌, ◌/◌, [], length, sym, subst, arith}
 use Rattle.std.proofs.lemmas.List.{length-map}
 use Rattle.overlay_arrange.specs.Extents.{plain_extent, plain_extents}

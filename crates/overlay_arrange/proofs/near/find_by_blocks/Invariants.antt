@@ -1,4 +1,4 @@
--- The extents so far have been searched, and the place looked at comes nearer to their end.
+-- The boxes so far have been searched, and the current place comes nearer to their end.
 use Rattle.std.proofs.Common.{◌-◌, ◌≤◌}
 use Rattle.overlay_arrange.specs.Extents.{plain_extent, plain_extents}
 use Rattle.overlay_arrange.specs.Near.{IsSearchedTo}

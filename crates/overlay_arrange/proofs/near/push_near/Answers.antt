@@ -1,4 +1,4 @@
--- One extent more is searched: it lies apart, or its place is added.
+-- A further box is searched: it lies apart, or its place is added.
 use Rattle.std.proofs.Common.{◌+◌, ◌<◌, length, refl, sym, subst, ap, ◌∙◌, arith}
 use Rattle.std.proofs.lemmas.Bool.{false≢true}
 use Rattle.overlay_arrange.specs.Extents.{plain_extent, plain_extents}

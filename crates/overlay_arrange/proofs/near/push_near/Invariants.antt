@@ -1,4 +1,4 @@
--- The extents so far have been searched.
+-- The boxes so far have been searched.
 use Rattle.overlay_arrange.specs.Extents.{plain_extent, plain_extents}
 use Rattle.overlay_arrange.specs.Near.{IsSearchedTo}
 use Rattle.overlay_arrange.proofs.near.push_near.Given as goal

@@ -1,4 +1,4 @@
--- The places so far are those up to the one looked at.
+-- The places so far are those up to the current place.
 use Rattle.std.proofs.Common.{◌≤◌}
 use Rattle.overlay_arrange.specs.Near.{AreBetween}
 use Rattle.overlay_arrange.proofs.near.take_run.Given as goal

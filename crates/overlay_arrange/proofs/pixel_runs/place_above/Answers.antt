@@ -1,4 +1,4 @@
--- The middle one is passed below, so those from it on are.
+-- The edge passes below the middle box, so it does below those from it on.
 use Rattle.std.proofs.Common.{◌+◌, ◌-◌, ◌/◌, ◌<◌, length, sym, subst, arith}
 use Rattle.std.proofs.Math.Nat.{div-add-mod}
 use Rattle.overlay_arrange.specs.Content.{plain_edge}

@@ -1,4 +1,4 @@
--- The middle one is passed above, so those up to it are.
+-- The edge passes above the middle box, so it does above those up to it.
 use Rattle.std.proofs.Common.{◌+◌, ◌-◌, ◌/◌, ◌<◌, length, sym, subst, arith}
 use Rattle.std.proofs.Math.Nat.{div-add-mod}
 use Rattle.overlay_arrange.specs.Content.{plain_edge}

@@ -1,4 +1,4 @@
--- What is passed above or below is left out.
+-- Boxes that the edge passes above or below are left out.
 use Rattle.std.proofs.Common.{arith}
 use Rattle.std.proofs.lemmas.Result.{on_ok_weaker}
 use Rattle.overlay_geom.proofs.PointOrder.{Decides-point_lt}

@@ -1,4 +1,4 @@
--- A loop over the edges: each one meets the later ones in ends alone, or is the first that does not.
+-- A loop over the edges: each meets the later edges in ends alone, or is the first that does not.
 use Rattle.std.proofs.Common.{◌≡◌, ⊎_elim, ◌<◌, ◌≤◌, length, refl, sym, subst, arith}
 use Rattle.std.proofs.Math.Nat.{eq-or-lt_of_le}
 use Rattle.std.proofs.lemmas.List.{length-map}

@@ -1,4 +1,4 @@
--- The edges so far meet each later one in ends alone.
+-- The edges so far meet each later edge in ends alone.
 use Rattle.std.proofs.Common.{ℕ, ◌<◌, length}
 use Rattle.overlay_arrange.specs.Content.{plain_edges}
 use Rattle.overlay_arrange.specs.Meetings.{AreSettledUpTo}

@@ -1,4 +1,4 @@
--- The point at one rank more is looked at.
+-- The point at a further rank is tested.
 use Rattle.std.proofs.Common.{◌≡◌, ◌+◌, ◌<◌, ◌∷◌, [], ◌++◌, List, length, get_or, sym, ap, ◌∙◌, subst, take}
 use Rattle.std.proofs.lemmas.List.{get_or_default}
 use Rattle.overlay_geom.specs.Plane.{Point}

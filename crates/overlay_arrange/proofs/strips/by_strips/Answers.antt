@@ -1,4 +1,4 @@
--- One extent more, and the strip is finished where it is full; at last the strip so far is.
+-- A further box: a full strip is finished, and at last the strip so far is.
 use Rattle.std.proofs.Common.{◌≡◌, ◌+◌, ◌++◌, ◌∷◌, [], ◌<◌, ◌≤ℤ◌, List, length, take, sym, ap, ◌∙◌, subst, arith}
 use Rattle.std.specs.List.Sorted.{IsPermutation}
 use Rattle.std.proofs.lemmas.List.{length-map, map-append, length-take-le}

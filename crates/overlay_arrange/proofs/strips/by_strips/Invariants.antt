@@ -1,4 +1,4 @@
--- The extents so far stand in finished strips and in the strip so far, which is not full.
+-- The boxes so far are in finished strips and in the strip so far, which is not full.
 use Rattle.std.proofs.Common.{◌<◌, length, take}
 use Rattle.overlay_arrange.specs.Extents.{plain_extents}
 use Rattle.overlay_arrange.proofs.StripOrder.{StripsSoFar}

@@ -1,4 +1,4 @@
--- The extents of the edges are at their places.
+-- The boxes of the edges are at their places.
 use Rattle.std.proofs.Common.{IfOk, refl, sym, ap, ◌∙◌, subst}
 use Rattle.std.specs.List.Sorted.{IsPermutation}
 use Rattle.overlay_arrange.specs.Content.{plain_edges}

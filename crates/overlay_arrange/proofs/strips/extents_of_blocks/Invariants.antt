@@ -1,4 +1,4 @@
--- The blocks so far cover the extents so far.
+-- The blocks so far cover the boxes so far.
 use Rattle.overlay_arrange.specs.Extents.{plain_extents}
 use Rattle.overlay_arrange.proofs.ExtentBlocks.{AreBlocksUpTo}
 use Rattle.overlay_arrange.proofs.strips.extents_of_blocks.Given as goal

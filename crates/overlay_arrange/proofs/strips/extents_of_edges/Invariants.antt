@@ -1,4 +1,4 @@
--- The edges so far have their extents.
+-- The edges so far have their boxes.
 use Rattle.std.proofs.Common.{◌≡◌, take}
 use Rattle.overlay_arrange.specs.Content.{plain_edges}
 use Rattle.overlay_arrange.specs.Extents.{extents_of, plain_extents}

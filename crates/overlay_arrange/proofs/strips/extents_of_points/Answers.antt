@@ -1,4 +1,4 @@
--- The extent of one point more.
+-- The box of a further point.
 use Rattle.std.proofs.Common.{◌≡◌, List, ◌++◌, ◌∷◌, [], length, take, sym, ap, ap₂, ◌∙◌, arith}
 use Rattle.std.proofs.lemmas.List.{length-map, length-take-le, map-append}
 use Rattle.overlay_geom.specs.Points.{plain_point, plain_points}

@@ -1,4 +1,4 @@
--- The points so far have their extents.
+-- The points so far have their boxes.
 use Rattle.std.proofs.Common.{◌≡◌, take}
 use Rattle.overlay_geom.specs.Points.{plain_points}
 use Rattle.overlay_arrange.specs.Extents.{extents_of_points, plain_extents}

@@ -1,4 +1,4 @@
--- The extents of the points are at their places.
+-- The boxes of the points are at their places.
 use Rattle.std.proofs.Common.{refl, sym, ap, ◌∙◌, subst}
 use Rattle.overlay_geom.specs.Points.{plain_points}
 use Rattle.overlay_arrange.specs.Extents.{extent_of_point, plain_extents, AreAtPlaces}

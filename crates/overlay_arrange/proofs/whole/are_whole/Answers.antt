@@ -1,4 +1,4 @@
--- A loop over the meetings: each one lies on its edge's line, or the answer is no.
+-- A loop over the meetings: each lies on its edge's line, or the answer is no.
 use Rattle.std.proofs.Common.{◌≡◌, ◌<◌, ℕ, ℤ, List, All, length, get_or, refl, sym, subst, arith}
 use Rattle.std.proofs.lemmas.List.{length-map}
 use Rattle.std.proofs.lemmas.List.Elements.{All-contains}

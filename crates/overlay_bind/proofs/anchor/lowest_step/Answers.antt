@@ -1,4 +1,4 @@
--- The step found is one of the walk before the edge of which none is.
+-- No edge of the walk comes before the edge of the step found.
 use Rattle.std.proofs.Common.{take, map, All, sym, ◌∙◌, subst, arith}
 use Rattle.std.proofs.lemmas.List.Elements.{All-nil, All-contains}
 use Rattle.overlay_geom.specs.Plane.{edge_of}

@@ -1,4 +1,4 @@
--- The direction is the one in which the edges filled on the side are filled above.
+-- The direction is that in which the edges filled on the side are filled above.
 use Rattle.std.proofs.Common.{map, subst}
 use Rattle.std.proofs.lemmas.Result.{IfOk-weaker}
 use Rattle.overlay_walk.specs.GroupedContours.{walk_of}

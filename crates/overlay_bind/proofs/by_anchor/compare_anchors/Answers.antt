@@ -1,4 +1,4 @@
--- From one point the cross product tells.
+-- The cross product decides for edges from one point.
 use Rattle.std.proofs.Common.{ap, sym, ◌∙◌}
 use Rattle.std.specs.Ordering.{is_lt}
 use Rattle.overlay_plane.proofs.TiedStarts.{tied_before}

@@ -1,4 +1,4 @@
--- The filled-above edges of one more walk.
+-- The filled-above edges of a further walk.
 use Rattle.std.proofs.Common.{◌+◌, All, map, sym, ap, ◌∙◌, subst}
 use Rattle.std.proofs.lemmas.Option.{get_or_from_slice_get, slice_get_within}
 use Rattle.overlay_geom.proofs.Mapped.{All-mapped_at}

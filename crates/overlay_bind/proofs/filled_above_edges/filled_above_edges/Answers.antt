@@ -1,4 +1,4 @@
--- What was gathered walk by walk, sorted.
+-- The edges gathered walk by walk, sorted.
 use Rattle.std.proofs.Common.{map}
 use Rattle.std.proofs.lemmas.List.Sorted.{IsPermutation-map}
 use Rattle.overlay_walk.specs.GroupedContours.{walk_of}

@@ -1,4 +1,4 @@
--- What stands at the outlines so far.
+-- The entries at the outlines so far.
 use Rattle.std.proofs.Common.{◌≡◌, take}
 use Rattle.overlay_walk.specs.GroupedContours.{plain_contours}
 use Rattle.overlay_bind.specs.HolePlaces.{at_outlines}

@@ -1,4 +1,4 @@
--- One contour more is one place more, if it is a hole of this kind.
+-- A further contour adds a place if it is a hole of this kind.
 use Rattle.std.proofs.Common.{◌∷◌, ◌++◌, ◌<◌, [], take, length, get_or, sym, ap, ◌∙◌, subst, arith}
 use Rattle.std.specs.Prelude.{IfSome, None}
 use Rattle.std.proofs.lemmas.List.{get_or_default, length-map}

@@ -1,4 +1,4 @@
--- An outline is one place more, and a hole none.
+-- An outline adds a place, and a hole none.
 use Rattle.std.proofs.Common.{◌≡◌, ◌∷◌, ◌++◌, ◌<◌, [], true, false, map, take, length, sym, ap, ◌∙◌, subst, arith}
 use Rattle.std.specs.List.{filter}
 use Rattle.std.proofs.lemmas.List.{length-map}

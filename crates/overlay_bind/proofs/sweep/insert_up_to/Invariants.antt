@@ -1,4 +1,4 @@
--- The sweep holds the live ones of the entries so far.
+-- The sweep holds the live entries of those so far.
 use Rattle.std.proofs.Common.{take}
 use Rattle.overlay_bind.specs.Parents.{IsSwept}
 use Rattle.overlay_walk.specs.WalkEdges.{numbered_entries}

@@ -1,4 +1,4 @@
--- One anchor more: what the calls ask, and the number that is found then.
+-- A further anchor: the conditions of the calls, and the number found.
 use Rattle.std.proofs.Common.{◌≡◌, ◌+◌, ◌<◌, ◌≤◌, ◌<ℤ◌, ℕ, false, List, slice_set, length, map, take, drop, refl, sym}
 use Rattle.std.proofs.Common.{ap}
 use Rattle.std.proofs.Common.{◌∙◌, subst, arith, rules}

@@ -1,4 +1,4 @@
--- The number stands in one of the two lists, or the walk is past them.
+-- The number is in one of the two lists, or the walk is past them.
 use Rattle.std.proofs.Common.{rules}
 use Rattle.overlay_bind.proofs.sweep.shape_at.Goals as goal
 

@@ -1,4 +1,4 @@
--- Where the points are taken as they are, none is left out.
+-- No point is left out if the points are taken as they are.
 use Rattle.std.proofs.Common.{refl}
 use Rattle.std.proofs.lemmas.Result.{on_ok_weaker}
 use Rattle.overlay_geom.specs.Points.{plain_points}

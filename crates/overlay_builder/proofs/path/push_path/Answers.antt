@@ -1,4 +1,4 @@
--- The first point is one of the path; a refused path leaves what was held before it.
+-- The first point belongs to the path; a refused path leaves the content as it was.
 use Rattle.std.proofs.Common.{◌^◌, ◌≤◌, ◌++◌, map, take, ap, ◌∙◌, subst}
 use Rattle.std.proofs.lemmas.List.Elements.{All-contains}
 use Rattle.overlay_geom.specs.Edges.{weight}

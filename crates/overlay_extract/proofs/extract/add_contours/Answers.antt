@@ -1,4 +1,4 @@
--- At first nothing is shown; each contour shows one walk more.
+-- Nothing is shown at first; each contour shows a further walk.
 use Rattle.std.proofs.Common.{◌++◌, [], ◌∷◌, All, take, sym, subst}
 use Rattle.overlay_geom.specs.Plane.{points_of}
 use Rattle.overlay_geom.specs.Points.{plain_points}

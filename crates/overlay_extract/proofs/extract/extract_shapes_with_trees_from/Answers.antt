@@ -1,4 +1,4 @@
--- What shows the shapes of the contours at their places is the result.
+-- The shapes of the contours at their places are the result.
 use Rattle.std.proofs.Common.{All, length, sym, subst}
 use Rattle.std.proofs.lemmas.Result.{IfOk-weaker}
 use Rattle.std.specs.Prelude.{IfOk}

@@ -1,4 +1,4 @@
--- What shows the walks that are kept is the result.
+-- The contours of the kept walks are the result.
 use Rattle.std.proofs.Common.{map, subst}
 use Rattle.std.specs.List.{AllZip}
 use Rattle.std.proofs.lemmas.Result.{on_ok_weaker}

@@ -1,4 +1,4 @@
--- One shape more is one list of places more.
+-- A further shape for a further list of places.
 use Rattle.std.proofs.Common.{◌≡◌, ◌∷◌, ◌++◌, [], ◌+◌, ◌<◌, All, map, take, length, sym, ap, ap₂, ◌∙◌, subst, arith}
 use Rattle.std.proofs.lemmas.List.{length-map, length-take-le, map-append}
 use Rattle.overlay_geom.proofs.Mapped.{mapped_more, mapped_whole, All-mapped_at, All-mapped_first}

@@ -1,4 +1,4 @@
--- One place more is one contour more, and the first is the outline.
+-- A further contour for a further place; the first is the outline.
 use Rattle.std.proofs.Common.{◌≡◌, List, ◌∷◌, ◌++◌, [], ◌<◌, map, take, length, get_or, sym, ap, ap₂, ◌∙◌, arith}
 use Rattle.std.proofs.Common.{append_assoc, append-nil}
 use Rattle.std.proofs.lemmas.List.{length-map, map-append, take_all, take_more}

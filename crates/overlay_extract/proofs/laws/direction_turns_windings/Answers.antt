@@ -1,4 +1,4 @@
--- Once round in the one direction is once round back in the other, and not at all is not at all.
+-- A winding of once in one direction is once back in the other, and zero stays zero.
 use Rattle.std.proofs.Common.{◌≡◌, Bool, true, false, cond, pos, negsuc, neg_ℤ, refl, sym, ap, ◌∙◌}
 use Rattle.overlay_extract.proofs.laws.direction_turns_windings.Goals as goal
 

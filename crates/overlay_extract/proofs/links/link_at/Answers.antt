@@ -1,4 +1,4 @@
--- The shape in which the contour stands is the one known at its place.
+-- The shape of the contour is the shape known at its place.
 use Rattle.std.proofs.Common.{◌≡◌, ◌<◌, Option, Some, None, length, rules, refl, sym, ap, ◌∙◌, subst, arith}
 use Rattle.std.specs.Prelude.{option_map, IfSome}
 use Rattle.std.specs.List.{slice_get}

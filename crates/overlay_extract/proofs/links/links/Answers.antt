@@ -1,4 +1,4 @@
--- What is found is sorted, and told by the laws of islands.
+-- The links found are sorted, and the laws of islands apply.
 use Rattle.std.proofs.Common.{◌≡◌, ◌<◌, false, All, ℕ, Option, map, length, sym, ap, ◌∙◌, subst}
 use Rattle.std.specs.Prelude.{IfSome}
 use Rattle.std.specs.List.Sorted.{IsPermutation}

@@ -1,4 +1,4 @@
--- One hole more is one link more, or none.
+-- A further hole adds a link, or none.
 use Rattle.std.proofs.Common.{◌≡◌, ◌∷◌, ◌++◌, [], ◌+◌, map, take, length, get_or, Option, None, rules, sym}
 use Rattle.std.proofs.Common.{ap, ◌∙◌}
 use Rattle.std.proofs.Common.{append-nil, arith}

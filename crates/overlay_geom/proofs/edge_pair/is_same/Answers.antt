@@ -1,4 +1,4 @@
--- Points that compare as equal are one.
+-- Points that compare as equal are equal.
 use Rattle.std.proofs.Common.{ap, ◌∙◌}
 use Rattle.std.specs.Ordering.{is_eq}
 use Rattle.overlay_geom.specs.Points.{plain_point}

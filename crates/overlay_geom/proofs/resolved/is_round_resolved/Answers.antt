@@ -1,4 +1,4 @@
--- Each step so far is apart from the later ones, or the answer is no.
+-- Each step so far is apart from the later steps, or the answer is no.
 use Rattle.std.proofs.Common.{refl, subst, IsTrue, ◌↔◌, ◌++◌, ◌∷◌, [], ◌+◌, All, drop, length}
 use Rattle.std.proofs.lemmas.Bool.{iff_false, false≢true}
 use Rattle.std.proofs.lemmas.List.{drop_all}

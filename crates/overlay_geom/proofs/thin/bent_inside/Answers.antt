@@ -1,4 +1,4 @@
--- Each point that comes next pops the straight ones before it and is pushed.
+-- Each next point pops the collinear points before it, and is pushed.
 use Rattle.std.proofs.Common.{[], ◌∷◌, ◌++◌, ◌≡◌, ◌+◌, drop, sym, ◌∙◌, ap, subst, arith}
 use Rattle.std.proofs.lemmas.List.{append_assoc, map_push}
 use Rattle.std.proofs.lemmas.List.Elements.{All-push}

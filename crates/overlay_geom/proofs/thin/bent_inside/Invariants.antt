@@ -1,4 +1,4 @@
--- What is kept so far, followed by what is to come, thins as the points do.
+-- The points kept so far, followed by the points to come, have the thinned list of all points.
 use Rattle.std.proofs.Common.{◌++◌, drop}
 use Rattle.overlay_geom.specs.Points.{plain_points, AllInRange}
 use Rattle.overlay_geom.specs.Narrowed.{IsNarrowed, IsBentInside}

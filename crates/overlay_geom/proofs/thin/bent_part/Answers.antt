@@ -1,4 +1,5 @@
--- The points from one place to another are left: the ends are dropped where they are straight, and none is inside.
+-- A range of the points is left: ends are dropped where they are collinear with their neighbours, and no inner point
+-- is.
 use Rattle.std.proofs.Common.{List, [], length, ◌≡◌, ℕ, ◌+◌, ◌-◌, ◌≤◌, take, drop, slice_range, refl, sym, ◌∙◌, ap}
 use Rattle.std.proofs.Common.{subst, arith}
 use Rattle.std.specs.Prelude.{ℤ}

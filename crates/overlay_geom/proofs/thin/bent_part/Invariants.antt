@@ -1,4 +1,4 @@
--- The points thin as the part from one place to the other does, which gets shorter.
+-- The points and the range that is left have one thinned list, and the range gets shorter.
 use Rattle.std.proofs.Common.{◌-◌, ◌≤◌, length, slice_range}
 use Rattle.overlay_geom.specs.Points.{plain_points}
 use Rattle.overlay_geom.specs.Narrowed.{IsNarrowed}

@@ -1,4 +1,4 @@
--- What is popped is collinear with its two neighbours, and what is left is bent before the next point.
+-- A popped point is collinear with its two neighbours, and the rest is bent before the next point.
 use Rattle.std.proofs.Common.{◌∷◌, ◌++◌, length, ◌≡◌, ◌+◌, ◌-◌, take, refl, sym, ◌∙◌, ap, subst, arith}
 use Rattle.std.proofs.lemmas.Bool.{false≢true}
 use Rattle.std.proofs.lemmas.List.{length-map, take-map}

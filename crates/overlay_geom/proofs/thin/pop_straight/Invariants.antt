@@ -1,4 +1,4 @@
--- What is left thins alike before the next point, is bent inside and in range.
+-- The rest keeps its thinned list before the next point, is bent inside, and is in range.
 use Rattle.std.proofs.Common.{vec_len}
 use Rattle.overlay_geom.specs.Points.{plain_point, plain_points, AllInRange}
 use Rattle.overlay_geom.specs.Narrowed.{IsNarrowedBefore, IsBentInside}

@@ -1,4 +1,4 @@
--- Steps taken have a leftmost lowest end, and a top edge and a lowest one there.
+-- Steps taken have a leftmost lowest end, and a top and a lowest edge there.
 use Rattle.overlay_plane.proofs.LeastSteps.{leftmost_steps_exist}
 use Rattle.overlay_plane.proofs.beside_orbits.leftmost_steps_exist.Goals as goal
 

@@ -1,4 +1,4 @@
--- The contours of the selected steps wind as these do.
+-- The contours of the selected steps have the windings of these steps.
 use Rattle.overlay_plane.proofs.CutWindings.{contours_wind}
 use Rattle.overlay_plane.proofs.contour_winding.contours_wind.Goals as goal
 

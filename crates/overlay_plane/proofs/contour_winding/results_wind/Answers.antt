@@ -1,4 +1,4 @@
--- The contours' points, as given or thinned, wind as the selected steps do.
+-- The contours' points, as given or thinned, have the windings of the selected steps.
 use Rattle.overlay_plane.proofs.ResultWindings.{results_wind}
 use Rattle.overlay_plane.proofs.contour_winding.results_wind.Goals as goal
 

@@ -1,4 +1,4 @@
--- What is live from the first place on is so from here on.
+-- The live entries from the first place on are those from here on.
 use Rattle.std.proofs.Common.{◌≡◌, ◌-◌, ◌≤◌, drop}
 use Rattle.overlay_scan.specs.HeldEntries.{live_of}
 use Rattle.overlay_scan.proofs.search.next_live.Given as goal

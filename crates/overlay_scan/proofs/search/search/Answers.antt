@@ -1,4 +1,4 @@
--- Where nothing is between the bounds, they are the place.
+-- If nothing is between the bounds, they are the place.
 use Rattle.std.proofs.Common.{◌≡◌, subst, arith}
 use Rattle.overlay_scan.specs.Searches.{IsBetween}
 use Rattle.overlay_scan.proofs.search.search.Goals as goal

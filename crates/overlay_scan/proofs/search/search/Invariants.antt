@@ -1,4 +1,4 @@
--- What is before the lower bound passes, and what is from the higher on fails.
+-- The entries before the lower bound pass, and those from the higher bound on fail.
 use Rattle.std.proofs.Common.{◌-◌}
 use Rattle.overlay_scan.specs.Searches.{IsBetween}
 use Rattle.overlay_scan.proofs.search.search.Given as goal

@@ -1,4 +1,4 @@
--- What is summed so far is the part of the double area that the points from i on have.
+-- The sum so far is the part of the double area from point i on.
 use Rattle.std.proofs.Common.{◌≡◌, ◌≤◌, length, drop}
 use Rattle.std.specs.Int.{int_wrap}
 use Rattle.overlay_geom.specs.Plane.{points_of}

@@ -1,4 +1,4 @@
--- The filled side is the left one or the right one, by the direction.
+-- The filled side is the left or the right side, by the direction.
 use Rattle.std.proofs.Common.{not, sym, ap, ◌∙◌}
 use Rattle.overlay_plane.specs.Contours.{is_filled_above}
 use Rattle.overlay_walk.specs.Steps.{plain_step, filled_hand}

@@ -1,4 +1,4 @@
--- What holds of all groups holds of the next.
+-- A fact of all groups holds of the next.
 use Rattle.std.proofs.Common.{◌++◌, [], ◌∷◌, All, sym, ap, ◌∙◌}
 use Rattle.std.proofs.lemmas.List.{append_assoc}
 use Rattle.std.proofs.lemmas.List.Elements.{All-push}

@@ -1,4 +1,4 @@
--- What is split off of the groups so far.
+-- The two parts of the groups so far.
 use Rattle.std.proofs.Common.{◌≡◌, ◌++◌, not, filter}
 use Rattle.std.specs.List.{flat_map}
 use Rattle.std.specs.Vec.Iter.{into_iter_items}

@@ -1,4 +1,4 @@
--- One more place is passed, up to the first open one.
+-- A further place is passed, up to the first open place.
 use Rattle.std.proofs.Common.{◌≡◌, length, sym, ◌∙◌, subst, arith}
 use Rattle.overlay_walk.specs.Places.{ArePassed}
 use Rattle.overlay_walk.proofs.StartPlaces.{passed_more}

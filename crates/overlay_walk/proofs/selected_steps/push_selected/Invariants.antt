@@ -1,5 +1,4 @@
--- The steps so far and those of the edges to come make the whole, and each runs along its edge if those that stood at
--- first do.
+-- The steps so far and those of the edges to come make the whole. Each runs along its edge if the first steps do.
 use Rattle.std.proofs.Common.{◌≡◌, ◌++◌, map, drop, All}
 use Rattle.std.specs.List.{flat_map}
 use Rattle.overlay_arrange.specs.Vectors.{plain_vector}

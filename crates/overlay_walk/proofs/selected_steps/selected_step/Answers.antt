@@ -1,4 +1,4 @@
--- An edge with the region on both sides, or on neither, has no step; another one has the step with that side on its
+-- An edge with the region on both sides, or on neither, has no step. Another edge has the step with that side on its
 -- left, or on its right.
 use Rattle.std.proofs.Common.{◌≡◌, cond, sym, ap, ◌∙◌}
 use Rattle.overlay_plane.specs.SelectedSteps.{step_with_left}

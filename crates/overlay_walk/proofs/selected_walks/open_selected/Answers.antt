@@ -1,5 +1,5 @@
--- The steps in the list are the selected ones, which lead between different points in range, along the edges with their
--- numbers.
+-- The steps in the list are the selected steps, which lead between different points in range, along the edges with
+-- their numbers.
 use Rattle.std.proofs.Common.{◌≡◌, List, map, All, sym, ap, ◌∙◌, subst}
 use Rattle.std.specs.List.Sorted.{IsPermutation}
 use Rattle.std.proofs.lemmas.List.Elements.{All-nil}

@@ -1,4 +1,4 @@
--- The steps that are cut are the selected ones in another order, and contours inside groups visit no point twice.
+-- The steps that are cut are a permutation of the selected steps, and contours inside groups visit no point twice.
 use Rattle.std.proofs.Common.{Bool, List}
 use Rattle.std.proofs.lemmas.List.Elements.{All-weaker}
 use Rattle.std.proofs.lemmas.List.Sorted.{All-permutation}

@@ -1,4 +1,4 @@
--- The steps that are cut are the selected ones in another order.
+-- The steps that are cut are a permutation of the selected steps.
 use Rattle.std.proofs.Common.{All, Contains}
 use Rattle.std.proofs.lemmas.List.Elements.{All-contains, All-weaker}
 use Rattle.overlay_geom.specs.Edges.{all_ends, subj_of, clip_of}

@@ -1,5 +1,5 @@
--- Where the merged list is settled no round is taken; else the cut is one, and the rest is split with the rounds that
--- are left.
+-- If the merged list is settled no round is taken. Otherwise the cut is a round, and the rest is split with the rounds
+-- that are left.
 use Rattle.std.proofs.Common.{◌≡◌, ℕ, ◌-◌, ◌↔◌, List, Option, Some, None, refl, sym, ◌∙◌, arith}
 use Rattle.std.proofs.lemmas.Result.{err_from_is_err_and}
 use Rattle.overlay_arrange.proofs.ArrangedLists.{forward_content, carried_at_once, carried_on}

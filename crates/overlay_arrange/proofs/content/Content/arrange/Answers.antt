@@ -1,4 +1,4 @@
--- A content that was split is arranged, and a refusal of its rounds is one of bringing it into an arrangement.
+-- A split content is arranged, and a refusal of its rounds is a refusal to arrange it.
 use Rattle.std.proofs.Common.{◌≡◌, ◌⊎◌, ⊎_elim, refl, subst}
 use Rattle.std.specs.Prelude.{Result, Err, IfErr}
 use Rattle.overlay_geom.specs.declared.error.OverlayError.{OverlayError}

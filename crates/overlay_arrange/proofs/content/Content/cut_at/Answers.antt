@@ -1,4 +1,4 @@
--- What is cut is the content as contracts see it, and what it was is given out.
+-- The cut edges are the new content, and the old content is returned.
 use Rattle.std.proofs.Common.{◌≡◌, Bool, true, false, not, refl, sym, subst, ap, ◌∙◌, List, ◌≤◌}
 use Rattle.std.specs.List.{flat_map}
 use Rattle.std.proofs.lemmas.Result.{err_from_is_err_and}

@@ -1,4 +1,4 @@
--- What is merged is the content as contracts see it.
+-- The merged edges are the content as contracts see it.
 use Rattle.overlay_arrange.proofs.CarriedEdges.{edges_in-carried, plain_edges-seen}
 use Rattle.overlay_arrange.proofs.content.Content.merge.Goals as goal
 

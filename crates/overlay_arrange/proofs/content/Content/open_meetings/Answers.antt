@@ -1,4 +1,4 @@
--- The edges are settled where all of them are counted, and else the meetings from the first other one on are found.
+-- The edges are settled if all of them are counted. Otherwise the meetings from the first other edge on are found.
 use Rattle.std.proofs.Common.{length, refl, subst}
 use Rattle.std.proofs.lemmas.List.{length-map}
 use Rattle.overlay_geom.specs.Settled.{IsSettled}

@@ -1,5 +1,4 @@
--- Where the merged list is settled no round is taken; else the edges are led once, and what is left, merged, is
--- settled.
+-- If the merged list is settled no round is taken. Otherwise the edges are led once, and the merged pieces are settled.
 use Rattle.std.proofs.Common.{◌≡◌, ◌↔◌, Option, Some, None, sym, ◌∙◌}
 use Rattle.std.proofs.lemmas.Result.{err_from_is_err_and}
 use Rattle.overlay_geom.specs.Settled.{IsSettled}

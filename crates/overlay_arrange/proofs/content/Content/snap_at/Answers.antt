@@ -1,4 +1,4 @@
--- What is cut is the content as contracts see it.
+-- The cut edges are the content as contracts see it.
 use Rattle.std.proofs.Common.{subst, ap, ◌∙◌, List, ◌≤◌}
 use Rattle.std.specs.List.{flat_map}
 use Rattle.std.proofs.lemmas.Result.{err_from_is_err_and}

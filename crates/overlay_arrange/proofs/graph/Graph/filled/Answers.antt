@@ -1,4 +1,4 @@
--- What is made is a graph.
+-- The result is a graph.
 use Rattle.overlay_arrange.proofs.FilledVectors.{graph_made}
 use Rattle.overlay_arrange.proofs.graph.Graph.filled.Goals as goal
 

@@ -1,4 +1,4 @@
--- The counts are summed, and a bit is set where one of the two has it.
+-- The counts are summed, and a bit is set if either has it.
 use Rattle.std.proofs.Common.{rules, ◌≡◌, ◌+ℤ◌, w32, pos, to_z, of_z}
 use Rattle.overlay_arrange.proofs.DirectionBits.{has_bit-or}
 use Rattle.overlay_arrange.proofs.string_count.ShapeCountStringEdgeCount.merged.Goals as goal

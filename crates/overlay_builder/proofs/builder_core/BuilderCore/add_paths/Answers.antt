@@ -1,4 +1,4 @@
--- Each path is added after those before it; where one is refused those before it stay.
+-- Each path is added after those before it; if one is refused, those before it stay.
 use Rattle.std.proofs.Common.{◌≡◌, ◌^◌, ◌<◌, false, rules, subst}
 use Rattle.std.proofs.lemmas.Result.{err_from_is_err_and}
 use Rattle.overlay_geom.specs.Points.{plain_points, AllInRange}

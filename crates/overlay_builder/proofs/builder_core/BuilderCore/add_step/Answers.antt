@@ -1,4 +1,4 @@
--- What adding the edge to the content gives; what was held is what contracts see of the core.
+-- The core's answer is that of adding the edge to the content, which contracts see as the core's edges.
 use Rattle.std.proofs.Common.{OnOk, IsErrOf, rules, subst}
 use Rattle.overlay_geom.specs.declared.error.OverlayError.TheVariants.{TooManyEdges}
 use Rattle.overlay_geom.specs.Points.{plain_point}

@@ -1,4 +1,4 @@
--- What was held is what contracts see of the core.
+-- The content is what contracts see as the core's edges.
 use Rattle.std.proofs.Common.{◌≡◌, false, [], rules, subst, ap, ◌∙◌}
 use Rattle.std.specs.Prelude.{◌↔◌, IfOk}
 use Rattle.overlay_plane.specs.Arrangements.{IsReachedBy}

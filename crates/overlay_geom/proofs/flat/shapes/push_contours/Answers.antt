@@ -1,4 +1,4 @@
--- At first no contour is added, and then one more is.
+-- No contour is added at first, and each turn adds the next.
 use Rattle.overlay_geom.proofs.FlatShapes.{none_added, contour_added}
 use Rattle.overlay_geom.proofs.flat.shapes.push_contours.Goals as goal
 

@@ -1,4 +1,4 @@
--- The coordinate is the one from which the way begins, and the rounded distance from it, and both fit.
+-- The coordinate is the start of the way plus or minus the rounded distance, and both fit.
 use Rattle.std.proofs.Common.{◌≡◌, pos, ◌+ℤ◌, ◌-ℤ◌, ◌≤ℤ◌, lit<, ap, ap₂, sym, subst, ◌∙◌, arith, FitsSigned, to_z, of_z}
 use Rattle.std.proofs.lemmas.Int.{ints, to_z-of_z, to_z_pos}
 use Rattle.std.specs.Int.RustNames.{unsigned_abs}

@@ -1,4 +1,4 @@
--- A number below the count is that of a contour, which is one of those that are counted.
+-- A number below the count is that of a counted contour.
 use Rattle.std.proofs.Common.{◌-◌, ◌^◌}
 use Rattle.overlay_geom.specs.Paths.{paths_of_shapes}
 use Rattle.overlay_geom.specs.Points.{plain_points}

@@ -1,4 +1,4 @@
--- The place that is found divides the live entries, and the one below it is live.
+-- The place found divides the live entries, and the entry below it is live.
 use Rattle.std.proofs.Common.{[], ◌∙◌}
 use Rattle.overlay_scan.proofs.LiveParts.{live_parts}
 use Rattle.overlay_scan.proofs.Searching.{looked_up, value_of_last_live}

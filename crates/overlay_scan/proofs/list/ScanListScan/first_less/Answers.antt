@@ -1,4 +1,4 @@
--- What is below the start of the edge.
+-- The entries below the start of the edge.
 use Rattle.std.proofs.Common.{◌≡◌, not, rules, List, [], ◌∷◌, sym, ap, subst, ◌∙◌}
 use Rattle.std.specs.Ordering.{is_gt}
 use Rattle.overlay_geom.specs.Lines.{plain_line}

@@ -1,4 +1,4 @@
--- What the order does not answer Greater.
+-- The entries for which the order does not answer Greater.
 use Rattle.std.proofs.Common.{subst, ◌∙◌}
 use Rattle.overlay_scan.specs.HeldEntries.{plain_sweep}
 use Rattle.overlay_scan.specs.Scan.{IsCallableOn}

@@ -1,4 +1,4 @@
--- What the closure keeps is what ends right of x.
+-- The closure keeps the edges that end right of x.
 use Rattle.std.proofs.Common.{rules, ap, ◌∙◌, int_lt}
 use Rattle.std.proofs.lemmas.Fn.{filter_same}
 use Rattle.std.specs.List.{filter}

@@ -1,4 +1,4 @@
--- What is dropped is not live.
+-- Dropped edges are not live.
 use Rattle.std.proofs.Common.{sym, ap, subst, ◌∙◌}
 use Rattle.overlay_scan.specs.HeldEntries.{live_of}
 use Rattle.overlay_scan.specs.Scan.{IsCallableOn}

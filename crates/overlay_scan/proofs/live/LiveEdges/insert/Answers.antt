@@ -1,4 +1,4 @@
--- What is dropped is not live.
+-- Dropped edges are not live.
 use Rattle.std.proofs.Common.{int_lt, ap, ◌∙◌}
 use Rattle.std.specs.List.{filter, insert}
 use Rattle.overlay_scan.specs.HeldEntries.{live_of}

@@ -1,4 +1,4 @@
--- Another edge stands in the place of one that has ended.
+-- A new edge replaces an ended edge.
 use Rattle.std.proofs.Common.{◌≡◌, ◌<◌, length, get_or, slice_set, int_lt, sym, ap, subst, ◌∙◌}
 use Rattle.std.proofs.lemmas.Bool.{not-true}
 use Rattle.overlay_scan.specs.HeldEntries.{live_of}

@@ -1,4 +1,4 @@
--- The last of the first is the one below the place.
+-- The last of the first entries is the entry below the place.
 use Rattle.std.proofs.Common.{◌-◌, get_or, sym, ap, subst, ◌≡◌}
 use Rattle.std.specs.Option.{option_map}
 use Rattle.overlay_scan.proofs.LastEntries.{last_of_first}

@@ -1,4 +1,4 @@
--- The top is read: it has ended, or the way goes on on one of its sides.
+-- The root is read: it has ended, or the descent goes on into one of its sides.
 use Rattle.std.proofs.Common.{◌≡◌, ◌<◌, ◌++◌, Some, length, slice_get, refl, sym, ap, subst, ◌∙◌, arith, rules}
 use Rattle.overlay_scan.specs.Scan.{IsCallableOn}
 use Rattle.overlay_tree.specs.declared.links.Side.TheVariants.{Left}

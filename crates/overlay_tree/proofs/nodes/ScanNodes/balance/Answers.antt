@@ -1,4 +1,4 @@
--- Turned where one side is too high by one, and else only linked.
+-- The tree is rotated where one side is too high by one, else only linked.
 use Rattle.std.proofs.Common.{Some, sym, subst, arith}
 use Rattle.overlay_tree.specs.Sides.{opposite}
 use Rattle.overlay_tree.specs.Trees.{IsTooHigh, IsRebalanced}

@@ -1,4 +1,4 @@
--- The entry of the node that is read is the one at its place.
+-- The entry that is read is the entry at the node's place.
 use Rattle.std.proofs.Common.{length, slice_get, refl, sym, ap, ◌∙◌, arith}
 use Rattle.std.specs.Option.{option_map}
 use Rattle.std.proofs.lemmas.List.{length-map}

@@ -1,4 +1,4 @@
--- One more node, or the first unused one.
+-- A new node, or the first reusable node.
 use Rattle.std.proofs.Common.{◌+◌, ◌∷◌, [], length, sym, ap, ◌∙◌}
 use Rattle.std.proofs.lemmas.List.{length-append, length-set}
 use Rattle.overlay_tree.specs.declared.links.TheConstants.{ALONE}

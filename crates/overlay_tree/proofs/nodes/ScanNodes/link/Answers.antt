@@ -1,4 +1,4 @@
--- The height that is stored is at most the number of nodes, and only one node's links change.
+-- The stored height is at most the number of nodes, and the links of a single node change.
 use Rattle.std.proofs.Common.{◌+◌, length, slice_set, ap, ap₂, ◌∙◌, arith, max}
 use Rattle.std.proofs.Math.Seq.{map-set_same}
 use Rattle.std.proofs.lemmas.List.{map-set, length-map}

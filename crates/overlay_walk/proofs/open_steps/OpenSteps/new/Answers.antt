@@ -1,4 +1,4 @@
--- Sorted, the steps are the same ones, no mark is set, and none is passed.
+-- Sorting permutes the steps, no mark is set, and no place is passed.
 use Rattle.std.proofs.Common.{List, subst, sym, rules}
 use Rattle.std.specs.List.{All}
 use Rattle.std.specs.List.Sorted.{IsPermutation}

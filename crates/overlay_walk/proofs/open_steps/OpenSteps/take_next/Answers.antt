@@ -1,4 +1,4 @@
--- Where the steps left go on a place is found, and the step there is taken.
+-- If the steps left go on, a place is found, and the step there is taken.
 use Rattle.std.proofs.Common.{ℕ, ◌<◌, Bool, ℤ, Some, List, length, All, sym, ap, ◌∙◌, subst, arith}
 use Rattle.std.proofs.lemmas.List.{length-map, length-set}
 use Rattle.overlay_geom.specs.Plane.{Step}

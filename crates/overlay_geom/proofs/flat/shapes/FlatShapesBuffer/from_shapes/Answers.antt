@@ -1,4 +1,4 @@
--- At first there is no shape, and each shape that is added is one more.
+-- A new buffer has no shape, and each push adds a shape.
 use Rattle.std.proofs.Common.{ap, sym, subst, ◌∙◌}
 use Rattle.overlay_geom.specs.Flat.{shapes_in}
 use Rattle.overlay_geom.specs.FlatShapes.{AreShapesPacked}

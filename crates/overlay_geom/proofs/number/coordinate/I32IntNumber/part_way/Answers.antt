@@ -1,4 +1,4 @@
--- The coordinate computed of the widened numbers is the one that is wanted, and fits.
+-- The coordinate computed from the widened numbers is the wanted coordinate, and fits.
 use Rattle.std.proofs.Common.{lit<, to_z, of_z}
 use Rattle.overlay_geom.proofs.Widths.{Exact}
 use Rattle.overlay_geom.proofs.OnWay.{place}
