@@ -25,7 +25,7 @@ fn points_of<I: IntNumber + From<i16>>(
     Ok(points)
 }
 
-// Whether the steps begin in these points.
+// Returns whether the steps begin in these points.
 fn begin_in<I: IntNumber + PartialEq + From<i16>>(steps: &[Step<I>], points: Places<'_>) -> bool {
     if steps.len() != points.len() {
         return false;
@@ -38,7 +38,7 @@ fn begin_in<I: IntNumber + PartialEq + From<i16>>(steps: &[Step<I>], points: Pla
     true
 }
 
-// Whether the closed walk through the points is cut into these loops.
+// Tests whether the closed walk through the points is cut into these loops.
 fn is_cut_into<I: IntNumber + PartialEq + From<i16>>(
     alloc: Global,
     points: Places<'_>,
@@ -56,7 +56,7 @@ fn is_cut_into<I: IntNumber + PartialEq + From<i16>>(
     Ok(true)
 }
 
-// A walk round two squares that touch in a point: the second one is cut off, and the first one is left.
+// A walk round two squares that touch in a point: the second is cut off, and the first is left.
 fn touching<I: IntNumber + PartialEq + From<i16>>(alloc: Global) -> Result<bool, Fail> {
     is_cut_into::<I>(
         alloc,

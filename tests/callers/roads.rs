@@ -57,8 +57,8 @@ fn along<I: OverlayInt + From<i16>>(
     }
 }
 
-// The way round both blocks. Where two roads lie on one another the smaller number stands, and what follows
-// of the same road is joined with it.
+// The way round both blocks. Where two roads lie on each other the smaller number stands, and what follows of the same
+// road is joined with it.
 fn way_round_both<I: OverlayInt + From<i16>>() -> [DataVectorEdge<I, Road>; 6] {
     [
         along((0, 4), (0, 0), 2),
@@ -70,7 +70,7 @@ fn way_round_both<I: OverlayInt + From<i16>>() -> [DataVectorEdge<I, Road>; 6] {
     ]
 }
 
-// Whether the closed contour is the wanted one, wherever it begins.
+// Returns whether the closed contour is the wanted, wherever it begins.
 fn is_round<I: OverlayInt + PartialEq>(
     path: &[DataVectorEdge<I, Road>],
     wanted: &[DataVectorEdge<I, Road>],
@@ -88,7 +88,7 @@ fn is_round<I: OverlayInt + PartialEq>(
     path.is_empty()
 }
 
-// Whether that way alone is found, with its roads.
+// Tests whether that way alone is found, with its roads.
 fn is_traced<I: OverlayInt + PartialEq + From<i16>>(
     rt: &impl Abort,
     alloc: Global,
@@ -105,7 +105,7 @@ fn is_traced<I: OverlayInt + PartialEq + From<i16>>(
     Ok(is_round(&shapes[0][0], &way_round_both::<I>()) && roads[..] == [2, 3, 4, 6, 7, 9][..])
 }
 
-// Whether nothing is traced without the last piece.
+// Tests whether nothing is traced without the last piece.
 fn is_left_open<I: OverlayInt + From<i16>>(rt: &impl Abort, alloc: Global) -> Result<bool, Fail> {
     let mut overlay = with_pieces::<I>(rt, alloc, &PIECES[..7])?;
     Ok(ways_round(&mut overlay)?.is_none())

@@ -21,7 +21,7 @@ impl<'m, I: Width> Seen for Overlay<I, Memory<'m>> {
 // Room for a square, and for two edges of another one: a growth is refused halfway.
 const ROOM: usize = 6;
 
-/// A builder with a square as subject, and the first ones of the resources as clips.
+/// A builder with a square as subject, and the first of the resources as clips.
 pub(crate) fn builder<I: Width>(
     memory: Memory<'_>,
     count: usize,

@@ -44,7 +44,7 @@ pub(crate) fn overlapping<I: Width>(memory: Memory<'_>) -> Answer<Overlay<I, Mem
     Ok(overlay)
 }
 
-// Whether each adder answers that the builder has failed.
+// Returns whether each adder answers that the builder has failed.
 fn adders_fail<I: Width>(it: &mut Overlay<I, Memory<'_>>, given: &Figures<'_, I>) -> bool {
     let more = square_at(0);
     is_failed(it.add_contour(&more, CLIP))
@@ -56,7 +56,7 @@ fn adders_fail<I: Width>(it: &mut Overlay<I, Memory<'_>>, given: &Figures<'_, I>
         && is_failed(it.add_flat_buffer(&given.buffer, CLIP))
 }
 
-// Whether each call that does not clear answers that the builder has failed.
+// Returns whether each call that does not clear answers that the builder has failed.
 pub(crate) fn has_failed<I: Width>(
     it: &mut Overlay<I, Memory<'_>>,
     given: &Figures<'_, I>,

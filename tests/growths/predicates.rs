@@ -75,7 +75,7 @@ fn builder<I: Width>(memory: Memory<'_>, count: usize) -> Answer<Built<'_, I>> {
     Ok(overlay)
 }
 
-// A builder with the first ones of a subject and the clips.
+// A builder with the first of a subject and the clips.
 fn of_both<I: Width>(memory: Memory<'_>, count: usize) -> Answer<Built<'_, I>> {
     if count == 0 {
         return PredicateOverlay::new(memory, 0);
@@ -175,7 +175,7 @@ fn constructors_of_predicate_overlay(rt: HostRuntime) -> Result<(), Fail> {
     at_a_width!(rt, check_constructors)
 }
 
-// Whether each call that does not clear answers that the builder has failed.
+// Returns whether each call that does not clear answers that the builder has failed.
 fn has_failed<I: Width>(
     it: &mut Built<'_, I>,
     shape: &IntShape<I, Memory<'_>>,

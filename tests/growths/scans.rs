@@ -22,7 +22,7 @@ fn height_at(n: u16) -> i16 {
     ((7 * n) % MOST) as i16
 }
 
-// Whether the sweep holds just the first edges: what lies below an edge that rises from each height.
+// Returns whether the sweep holds just the first edges: what lies below an edge that rises from each height.
 fn holds<I: Width, S: Scan<I, i16>>(scan: &mut S, count: u16) -> bool {
     for asked in 0..=MOST as i16 {
         let mut wanted = -1;

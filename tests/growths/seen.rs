@@ -15,7 +15,7 @@ pub(crate) trait Seen: Drop {
     fn content(&mut self) -> Answer<Self::Content>;
 }
 
-/// Whether a call was answered so, for the failed builder that it was made on.
+/// Returns whether a call was answered so, for the failed builder that it was made on.
 pub(crate) fn is_failed<T: Drop>(answer: Answer<T>) -> bool {
     match answer {
         Ok(_) => false,

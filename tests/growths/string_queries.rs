@@ -21,7 +21,7 @@ const INSIDE: ClipRule = ClipRule {
     boundary_included: true,
 };
 
-// Whether each adder answers that the builder has failed.
+// Returns whether each adder answers that the builder has failed.
 fn adders_fail<'m, I: Width>(it: &mut Built<'m, I>, shape: &IntShape<I, Memory<'m>>) -> bool {
     let line = bar_at(0);
     is_failed(it.add_shape_contour(&square_at(0)))

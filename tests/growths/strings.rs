@@ -90,7 +90,7 @@ fn adds_all<'m, I: Width, C: Fn(&mut Built<'m, I>) -> Answer<()> + Drop>(
         let (contours, strings) = if are_strings { (0, count) } else { (count, 0) };
         builder::<I>(memory, contours, strings)
     };
-    // (there is room for the first line, and not for the last one)
+    // (there is room for the first line, and not for the last)
     trial.adds_those_before(name, || roomy(memory, 6), add, PATHS, first)
 }
 

@@ -110,8 +110,8 @@ fn count_round(shapes: &[IntShape<i16, Global>], once: i64, p: Place) -> Option<
     Some(count)
 }
 
-/// Whether each of the shapes winds once, in the output direction, or zero times round each whole point off its edges
-/// in the box of all, and no two of them round one point; a box that is too wide is not looked at.
+/// Returns whether each of the shapes winds once, in the output direction, or zero times round each whole point off its
+/// edges in the box of all, and no two of them round one point; a box that is too wide is not looked at.
 pub(crate) fn are_alone(shapes: &[IntShape<i16, Global>], once: i64) -> bool {
     let Some((least, end)) = box_of(shapes) else {
         return true;

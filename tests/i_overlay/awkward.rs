@@ -101,8 +101,8 @@ fn needles_across_the_range(rt: HostRuntime) -> Result<(), Fail> {
     each_wide!(rt, check_needles)
 }
 
-// Two holes begin at one point: the lower edge of the upper one begins over the upper edge of the lower one. Beside
-// them lies an island in a hole of its own.
+// Two holes begin at one point: the lower edge of the upper begins over the upper edge of the lower. Beside them lies
+// an island in a hole of its own.
 fn check_anchors<I: Wide>(rt: &impl Abort, alloc: Global) -> Result<(), OverlayError> {
     let m = I::most();
     let contours: &[Places<'_>] = &[

@@ -63,7 +63,7 @@ fn overlays_of_a_bow(rt: HostRuntime) -> Result<(), Fail> {
     each_wide!(rt, check_overlays)
 }
 
-// Whether a clip of a line by the bow gives this path alone, or none.
+// Tests whether a clip of a line by the bow gives this path alone, or none.
 fn clips<I: Wide>(
     rt: &impl Abort,
     alloc: Global,

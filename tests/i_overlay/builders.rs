@@ -148,7 +148,7 @@ pub(crate) fn check_fills<I: OverlayInt, A: Allocator + Clone>(
     assert!(rt; have_fills(&edges, fills));
 }
 
-// Whether the edges have these fills, in order.
+// Returns whether the edges have these fills, in order.
 fn have_fills<I>(edges: &[DataVectorEdge<I, ()>], fills: &[u8]) -> bool {
     if edges.len() != fills.len() {
         return false;
@@ -171,7 +171,7 @@ pub(crate) fn edge<I>(a: IntPoint<I>, b: IntPoint<I>, fill: u8) -> DataVectorEdg
     }
 }
 
-/// Whether the builder has these edges, in order.
+/// Tests whether the builder has these edges, in order.
 pub(crate) fn has_edges<I: OverlayInt + PartialEq, A: Allocator + Clone>(
     overlay: &mut Overlay<I, A>,
     rule: FillRule,
@@ -196,7 +196,7 @@ pub(crate) fn check_answered(rt: &impl Abort, answer: Result<(), OverlayError>) 
     assert_eq!(rt; answer, Ok(()));
 }
 
-/// Whether a call was refused so.
+/// Returns whether a call was refused so.
 pub(crate) fn is_refused(answer: Result<(), OverlayError>, error: OverlayError) -> bool {
     match answer {
         Ok(()) => false,

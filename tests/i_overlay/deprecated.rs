@@ -25,10 +25,10 @@ const UPPER: Points<'static> = &[(2, 2), (6, 2), (6, 6), (2, 6)];
 // What both fill.
 const CORNER: Shapes<'static> = &[&[&[(2, 4), (2, 2), (4, 2), (4, 4)]]];
 
-// The lower one without the upper one.
+// The lower one without the upper.
 const REST: Shapes<'static> = &[&[&[(0, 4), (0, 0), (4, 0), (4, 2), (2, 2), (2, 4)]]];
 
-// The same, where the lower one has a point in the middle of a side, and keeps it.
+// The same, where the lower has a point in the middle of a side, and keeps it.
 const LOWER_BY_FIVE: Points<'static> = &[(0, 0), (2, 0), (4, 0), (4, 4), (0, 4)];
 
 const REST_BY_SEVEN: Shapes<'static> = &[&[&[

@@ -181,7 +181,7 @@ fn check_crossing<I: OverlayInt>(
     Ok(())
 }
 
-// The same, of a builder with the first contour, and of the second one.
+// The same, of a builder with the first contour, and of the second.
 fn check_crossed<I: OverlayInt>(
     rt: &impl Abort,
     overlay: &mut Overlay<I, Global>,

@@ -33,7 +33,7 @@ const NEST_GIVEN: &[Points<'static>] = &[
     &[(40, 40), (60, 40), (60, 60), (40, 60)],
 ];
 
-// Squares in one another: three shapes, of which the second and the third lie in a hole each.
+// Squares in each other: three shapes, of which the second and the third lie in a hole each.
 const NEST: Linked<'static> = Linked {
     row: Row {
         subj: NEST_GIVEN,
@@ -164,7 +164,7 @@ const TOUCHING_CLOCKWISE: Linked<'static> = Linked {
     links: &[(0, 1, 1)],
 };
 
-// Whether the hierarchy has the shapes and the links.
+// Tests whether the hierarchy has the shapes and the links.
 fn shows<I: OverlayInt + PartialEq + From<i16>>(
     alloc: Global,
     hierarchy: &FlatShapeHierarchy<I, Global>,
@@ -217,7 +217,7 @@ pub(crate) fn check<I: OverlayInt + PartialEq + From<i16>>(
     Ok(())
 }
 
-// Which contours of the hierarchy are which shape's: from the first number up to the second one.
+// Which contours of the hierarchy are which shape's: from the first number up to the second.
 fn check_ranges<I: OverlayInt + PartialEq + From<i16>>(
     rt: &impl Abort,
     alloc: Global,

@@ -1,4 +1,4 @@
-//! Many shapes with holes, side by side and in one another, at each coordinate type.
+//! Many shapes with holes, side by side and in each other, at each coordinate type.
 
 use crate::contours::Points;
 use crate::hierarchy::{Linked, check as check_links};
@@ -86,7 +86,7 @@ fn side_by_side(alloc: Global) -> Result<Vec<Square, Global>, Fail> {
     Ok(squares)
 }
 
-// Seventy squares in one another.
+// Seventy squares in each other.
 fn in_one_another(alloc: Global) -> Result<Vec<Square, Global>, Fail> {
     let mut squares = Vec::new(alloc);
     for j in 0..35u8 {

@@ -23,7 +23,7 @@ const OF_RIGHT: [u8; 4] = [8, 4, 8, 4];
 
 const OF_BOTH: [u8; 7] = [2, 1, 2, 9, 4, 8, 4];
 
-// Checks what a new builder holds, and whether it keeps points on one line.
+// Checks what a new builder holds, and whether it keeps collinear points.
 fn check_new<I: OverlayInt>(
     rt: &impl Abort,
     made: Result<Overlay<I, Global>, OverlayError>,

@@ -52,12 +52,12 @@ fn nothing<U: UIntNumber>() -> U {
     U::zero()
 }
 
-// Whether the product is below zero, of any type of the trait's.
+// Returns whether the product is below zero, of any type of the trait's.
 fn is_negative<W: WideIntNumber>(product: W) -> bool {
     product.sign().is_lt()
 }
 
-// Whether the point is in the coordinate range of its type.
+// Returns whether the point is in the coordinate range of its type.
 fn is_usable<I: OverlayInt>(point: IntPoint<I>) -> bool {
     in_range(&[point])
 }
@@ -75,7 +75,7 @@ fn traits_of_numbers(rt: HostRuntime) {
     assert!(&rt; is_negative(cross));
 }
 
-// Whether a contour in range is resolved.
+// Returns whether a contour in range is resolved.
 fn is_clean<I: OverlayInt>(rt: &impl Abort, contour: &[IntPoint<I>]) -> bool {
     assert!(rt; in_range(contour));
     is_resolved(contour)
@@ -123,7 +123,7 @@ fn left_count<D: Drop>(merge: EdgeDataMerge<ShapeCountBoolean, D>) -> ShapeCount
     merge.lhs_count
 }
 
-// Whether the data stays as it is where its edge is split.
+// Returns whether the data stays as it is where its edge is split.
 fn stays<D: OverlayEdgeData>(edge_data: D, store: &mut D::Store) -> bool {
     edge_data.split(store) == edge_data
 }
@@ -143,7 +143,7 @@ fn counts_and_data(rt: HostRuntime) {
     assert!(&rt; string.subj == 1 && string.clip == 2);
 }
 
-// Whether points may be located in it.
+// Returns whether points may be located in it.
 fn may_hold_points<R: IntPointContainment<i32>>(_holder: &R) -> bool {
     true
 }
@@ -164,7 +164,7 @@ fn flat_buffers(rt: HostRuntime) -> Result<(), Fail> {
     Ok(())
 }
 
-// Whether strings may be clipped by it.
+// Returns whether strings may be clipped by it.
 fn may_clip<R: IntClip<i32>>(_shape: &R) -> bool {
     true
 }

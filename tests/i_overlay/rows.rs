@@ -42,7 +42,7 @@ pub(crate) fn builder_of<I: OverlayInt + From<i16>>(
     Ok(overlay)
 }
 
-// Whether the builder answers the row's shapes.
+// Tests whether the builder answers the row's shapes.
 fn answers<I: OverlayInt + PartialEq + From<i16>>(
     alloc: Global,
     overlay: &mut Overlay<I, Global>,
@@ -53,8 +53,8 @@ fn answers<I: OverlayInt + PartialEq + From<i16>>(
     Ok(shapes == wanted)
 }
 
-// Whether a builder with the row's contours answers its shapes by each solver, and by rounds answers them again, and
-// whether they come with trees alone and with lists alone.
+// Tests whether a builder with the row's contours answers its shapes by each solver, and by rounds answers them again,
+// and whether they come with trees alone and with lists alone.
 fn holds<I: OverlayInt + PartialEq + From<i16>>(
     rt: &impl Abort,
     alloc: Global,
@@ -97,7 +97,7 @@ pub(crate) fn check_clockwise<I: OverlayInt + PartialEq + From<i16>>(
     Ok(())
 }
 
-/// Checks the row where points on one line stay.
+/// Checks the row where collinear points stay.
 pub(crate) fn check_kept<I: OverlayInt + PartialEq + From<i16>>(
     rt: &impl Abort,
     alloc: Global,

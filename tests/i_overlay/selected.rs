@@ -6,9 +6,8 @@ use i_overlay::fill_rule::FillRule;
 use i_overlay::overlay_rule::OverlayRule;
 use std::test::Fail;
 
-// Of the edges on y = 0 the first one has the subject above (1) and is a step as it lies; the second
-// has both above (5) and is none; the third has the subject on both sides and the clip above (7), and
-// is a step back.
+// Of the edges on y = 0 the first has the subject above (1) and is a step as it lies; the second has both above (5) and
+// is none; the third has the subject on both sides and the clip above (7), and is a step back.
 const DIFFERENCE: Row<'static> = Row {
     subj: &[&[(0, 0), (8, 0), (8, -4), (12, -4), (12, 8), (0, 8)]],
     clip: &[&[(4, 0), (12, 0), (12, 4), (4, 4)]],
@@ -27,9 +26,8 @@ fn difference_with_the_side_on_the_left(rt: HostRuntime) -> Result<(), Fail> {
     check::<i16>(&rt, rt.alloc(), &DIFFERENCE)
 }
 
-// Of the edges on x = 0 the lowest one has both on the left (5) and is no step; the next one has the
-// clip on the left (4) and is a step back; the last has the subject on the right (2), and is a step as
-// it lies.
+// Of the edges on x = 0 the lowest has both on the left (5) and is no step; the next has the clip on the left (4) and
+// is a step back; the last has the subject on the right (2), and is a step as it lies.
 const EXCLUSIVE: Row<'static> = Row {
     subj: &[
         &[(-4, 0), (0, 0), (0, 4), (-4, 4)],

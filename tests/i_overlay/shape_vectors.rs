@@ -31,7 +31,7 @@ const ROUND_BOTH: Points<'static> = &[(0, 2), (0, 0), (4, 0), (4, 2)];
 
 const ROUND_BOTH_KEPT: Points<'static> = &[(0, 2), (0, 0), (2, 0), (4, 0), (4, 2), (2, 2)];
 
-// Whether the subject fills the left side alone of each edge.
+// Returns whether the subject fills the left side alone of each edge.
 fn are_filled_on_the_left<I: OverlayInt>(edges: &[DataVectorEdge<I, ()>]) -> bool {
     let mut are = true;
     for edge in edges {
@@ -40,7 +40,7 @@ fn are_filled_on_the_left<I: OverlayInt>(edges: &[DataVectorEdge<I, ()>]) -> boo
     are
 }
 
-// Whether these are one shape of one contour, whose edges begin at these points and have the subject on the left.
+// Tests whether these are one shape of one contour, whose edges begin at these points and have the subject on the left.
 fn are_round<I: OverlayInt + PartialEq + From<i16>>(
     alloc: Global,
     shapes: &[VectorShape<I, Global>],
@@ -54,7 +54,7 @@ fn are_round<I: OverlayInt + PartialEq + From<i16>>(
     Ok(begun == contour_of::<I>(alloc, points)? && are_filled_on_the_left(contour))
 }
 
-// Whether a view of the squares shows this contour, with a store of its own and with one that is given.
+// Tests whether a view of the squares shows this contour, with a store of its own and with one that is given.
 fn shows<I: OverlayInt + PartialEq + From<i16>>(
     alloc: Global,
     view: &OverlayGraph<'_, I, (), Global>,
@@ -67,7 +67,7 @@ fn shows<I: OverlayInt + PartialEq + From<i16>>(
     Ok(are_round(alloc, &shapes, points)? && are_round(alloc, &with_store, points)?)
 }
 
-// Whether the squares are answered by this contour, and by a view too.
+// Tests whether the squares are answered by this contour, and by a view too.
 fn holds<I: OverlayInt + PartialEq + From<i16>>(
     rt: &impl Abort,
     alloc: Global,
@@ -83,7 +83,7 @@ fn holds<I: OverlayInt + PartialEq + From<i16>>(
     }
 }
 
-// Checks the squares with points on one line dropped, and with all points.
+// Checks the squares with collinear points dropped, and with all points.
 fn check<I: OverlayInt + PartialEq + From<i16>>(
     rt: &impl Abort,
     alloc: Global,
@@ -116,7 +116,7 @@ const TRIANGLES: Row<'static> = Row {
     wanted: &[],
 };
 
-// How many edges the one contour of the triangles has, where points on one line stay in the output.
+// How many edges the one contour of the triangles has, where collinear points stay in the output.
 fn edges_round_triangles<I: OverlayInt + PartialEq + From<i16>>(
     rt: &impl Abort,
     alloc: Global,

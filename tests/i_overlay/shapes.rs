@@ -172,7 +172,7 @@ const NEIGHBOURS: &[Points<'static>] = &[
     &[(2, 0), (4, 0), (4, 2), (2, 2)],
 ];
 
-// Their shape, with and without the points that lie on one line with their neighbours.
+// Their shape, with and without the points that are collinear with their neighbours.
 const SIDE_BY_SIDE: Row<'static> = Row {
     subj: NEIGHBOURS,
     clip: &[],
@@ -250,10 +250,10 @@ fn holes_of_two_shapes(rt: HostRuntime) -> Result<(), Fail> {
     check::<i32>(&rt, rt.alloc(), &FRAMES)
 }
 
-// Two holes that touch one another in (3, 3). Of all edges that are filled above, the next one below
-// (3, 1), where the first hole is found, is the lower edge of the shape round it, and not one of the
-// bar further below. The next one below (3, 3), where the second hole is found, is the upper edge of
-// the first hole, which begins in that point: so the second hole goes to the shape of the first.
+// Two holes that touch each other in (3, 3). Of all edges that are filled above, the next below (3, 1), where the first
+// hole is found, is the lower edge of the shape round it, and not one of the bar further below. The next one below (3,
+// 3), where the second hole is found, is the upper edge of the first hole, which begins in that point: so the second
+// hole goes to the shape of the first.
 const TOUCHING_HOLES: Row<'static> = Row {
     subj: &[
         &[(-1, 2), (-1, 4), (-3, 4), (-3, 2)],

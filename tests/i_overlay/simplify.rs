@@ -27,7 +27,7 @@ const WITHOUT_MIDDLE: Points<'static> = &[(0, 4), (0, 0), (4, 0), (4, 4)];
 // A square with an area of 4.
 const SMALL: Points<'static> = &[(0, 0), (2, 0), (2, 2), (0, 2)];
 
-// Whether these options simplify the contour to these shapes; to none, where it stays as it is given.
+// Tests whether these options simplify the contour to these shapes; to none, where it stays as it is given.
 fn is_answered<I: OverlayInt + PartialEq + From<i16>>(
     rt: &impl Abort,
     alloc: Global,

@@ -32,7 +32,7 @@ const AROUND_BOTH: [(i16, i16); 8] = [
     (2, -66),
 ];
 
-// A builder of the needles by a solver: the first one is the subject, and the second one the clip.
+// A builder of the needles by a solver: the first is the subject, and the second the clip.
 fn needles<I: OverlayInt + From<i16> + PartialEq>(
     rt: &impl Abort,
     alloc: Global,
@@ -45,8 +45,8 @@ fn needles<I: OverlayInt + From<i16> + PartialEq>(
     Overlay::from_subj_and_clip_custom(alloc, &first, &second, IntOverlayOptions::default(), solver)
 }
 
-// The union of the needles. The crossings of their sides round to (0, 65), by hand: the sides of the first one are led
-// through it, and the second one becomes the edge from there to (-1, 0), and the one from (-1, 0) to (1, 0).
+// The union of the needles. The crossings of their sides round to (0, 65), by hand: the sides of the first are led
+// through it, and the second becomes the edge from there to (-1, 0), and the one from (-1, 0) to (1, 0).
 fn union<I: OverlayInt + From<i16> + PartialEq>(
     rt: &impl Abort,
     alloc: Global,
@@ -95,7 +95,7 @@ fn whole<I: OverlayInt + From<i16> + PartialEq>(
     Ok(())
 }
 
-// How the needles lie to each other: they share their parts from (0, 65) to (1, 0), and the first one fills none of the
+// How the needles lie to each other: they share their parts from (0, 65) to (1, 0), and the first fills none of the
 // second.
 fn relations<I: OverlayInt + From<i16> + PartialEq>(
     rt: &impl Abort,
@@ -114,7 +114,7 @@ fn relations<I: OverlayInt + From<i16> + PartialEq>(
     Ok(())
 }
 
-// Whether these are the contours of one shape that the needles are simplified to.
+// Tests whether these are the contours of one shape that the needles are simplified to.
 fn is_union<I: OverlayInt + From<i16> + PartialEq>(
     alloc: Global,
     shapes: &IntShapes<I, Global>,

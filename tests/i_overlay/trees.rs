@@ -68,7 +68,7 @@ fn graph_of<I: OverlayInt + From<i16>>(
     content.graph(row.fill)
 }
 
-/// Whether the row's shapes are extracted with trees alone, and with lists alone.
+/// Tests whether the row's shapes are extracted with trees alone, and with lists alone.
 pub(crate) fn gives_shapes<I: OverlayInt + PartialEq + From<i16>>(
     rt: &impl Abort,
     alloc: Global,
@@ -94,7 +94,7 @@ pub(crate) fn gives_shapes<I: OverlayInt + PartialEq + From<i16>>(
     Ok(true)
 }
 
-/// Whether the hierarchy is extracted with trees alone, and with lists alone.
+/// Tests whether the hierarchy is extracted with trees alone, and with lists alone.
 pub(crate) fn gives_hierarchy<I: OverlayInt + PartialEq + From<i16>>(
     rt: &impl Abort,
     alloc: Global,

@@ -37,7 +37,7 @@ const BOTH: Points<'static> = &[
     (2, 4),
 ];
 
-// Whether the view answers one shape of one contour with these points.
+// Tests whether the view answers one shape of one contour with these points.
 fn shows<I: OverlayInt + PartialEq + From<i16>>(
     alloc: Global,
     view: &OverlayGraph<'_, I, (), Global>,
@@ -49,7 +49,7 @@ fn shows<I: OverlayInt + PartialEq + From<i16>>(
     Ok(view.extract_shapes(rule, buffer)? == wanted)
 }
 
-// Whether the view writes one contour with these points in the place of what the output held.
+// Tests whether the view writes one contour with these points in the place of what the output held.
 fn writes<I: OverlayInt + PartialEq + From<i16>>(
     alloc: Global,
     view: &OverlayGraph<'_, I, (), Global>,

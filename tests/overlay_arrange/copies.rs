@@ -18,10 +18,10 @@ use std::test::Fail;
 // The pentagon, and copies of it.
 const COUNT: i16 = 15;
 
-// The coordinates of the points at which windings are compared, in fifths of the greatest one.
+// The coordinates of the points at which windings are compared, in fifths of the greatest.
 const STEPS: [i16; 9] = [-4, -3, -2, -1, 0, 1, 2, 3, 4];
 
-// The corner of a copy: moved by at most four units, and not at all in the first one.
+// The corner of a copy: moved by at most four units, and not at all in the first.
 fn moved<I: IntNumber + From<i16>>(corner: (I, I), copy: i16, index: i16) -> IntPoint<I> {
     let (x, y) = corner;
     if copy == 0 {

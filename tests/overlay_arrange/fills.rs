@@ -11,8 +11,8 @@ use std::alloc::Global;
 use std::process::Abort;
 use std::test::Fail;
 
-// Whether the edges of an arrangement have these filled sides, in order, also where it is not tested that their counts
-// are balanced, if they are.
+// Tests whether the edges of an arrangement have these filled sides, in order, also where it is not tested that their
+// counts are balanced, if they are.
 fn check<I: IntNumber>(
     rt: &impl Abort,
     alloc: Global,

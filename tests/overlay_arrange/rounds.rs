@@ -138,7 +138,7 @@ fn a_crossing_from_corner_to_corner(rt: HostRuntime) -> Result<(), Fail> {
     Ok(())
 }
 
-// The edges are cut into the wanted ones.
+// The edges are cut into the wanted.
 fn check<I: IntNumber + PartialEq>(
     rt: &impl Abort,
     alloc: Global,

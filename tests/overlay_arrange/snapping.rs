@@ -31,7 +31,7 @@ fn arranged<I: IntNumber>(
     Ok(content)
 }
 
-// The edges are snapped to the wanted ones, and these stay as they are.
+// The edges are snapped to the wanted, and these stay as they are.
 fn check_snapped<I: IntNumber + PartialEq>(
     rt: &impl Abort,
     alloc: Global,
@@ -45,7 +45,7 @@ fn check_snapped<I: IntNumber + PartialEq>(
     Ok(())
 }
 
-// Both solvers cut the edges into the wanted ones.
+// Both solvers cut the edges into the wanted.
 fn check_alike<I: IntNumber + PartialEq>(
     rt: &impl Abort,
     alloc: Global,

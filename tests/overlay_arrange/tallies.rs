@@ -98,7 +98,7 @@ fn push<I: IntNumber>(
     content.push(CountedEdge { a, b, count })
 }
 
-// The edges are arranged to the wanted ones, with so many calls.
+// The edges are arranged to the wanted, with so many calls.
 fn check(
     rt: &impl Abort,
     alloc: Global,

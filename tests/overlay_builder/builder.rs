@@ -16,7 +16,7 @@ use std::test::Fail;
 
 type Core<I> = BuilderCore<I, ShapeCountBoolean, Global>;
 
-// A path whose second point lies on one line with its neighbours.
+// A path whose second point is collinear with its neighbours.
 fn path_with_a_straight_point<I: Copy>(zero: I, two: I, four: I) -> [IntPoint<I>; 4] {
     [
         IntPoint::new(zero, zero),

@@ -73,7 +73,7 @@ fn shapes_of<I: OverlayInt + From<i16>>(
     Ok(shapes)
 }
 
-// The graph of the contour as the subject, without points on one line, once it is arranged.
+// The graph of the contour as the subject, without collinear points, once it is arranged.
 fn graph_of<I: OverlayInt + From<i16>>(
     rt: &impl Abort,
     alloc: Global,

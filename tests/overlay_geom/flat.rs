@@ -30,7 +30,7 @@ fn buffer_of<I: IntNumber>(
     Ok(buffer)
 }
 
-// Whether contours are added one behind another, read as the paths of a resource, and dropped.
+// Tests whether contours are added one behind another, read as the paths of a resource, and dropped.
 fn holds_added_contours<I: IntNumber + PartialEq>(
     alloc: Global,
     first: &[IntPoint<I>],
@@ -51,7 +51,7 @@ fn holds_added_contours<I: IntNumber + PartialEq>(
     Ok(begins_empty && has_one && has_both && ends_empty)
 }
 
-// Whether a range that is not inside the points is an empty path, also where it is the first one.
+// Tests whether a range that is not inside the points is an empty path, also where it is the first.
 fn reads_ranges_inside_alone<I: IntNumber + PartialEq>(
     alloc: Global,
     points: &[IntPoint<I>],
@@ -70,7 +70,7 @@ fn reads_ranges_inside_alone<I: IntNumber + PartialEq>(
     Ok(second_is_empty && first_is_empty)
 }
 
-// Whether the first contour is turned round where it is lent, and the second one stays.
+// Tests whether the first contour is turned round where it is lent, and the second stays.
 fn writes_first_contour<I: IntNumber + PartialEq>(
     alloc: Global,
     first: &[IntPoint<I>],
@@ -88,7 +88,7 @@ fn writes_first_contour<I: IntNumber + PartialEq>(
     )
 }
 
-// Whether a buffer and its clone are equal, and stay apart.
+// Tests whether a buffer and its clone are equal, and stay apart.
 fn is_cloned<I: IntNumber + PartialEq>(
     alloc: Global,
     first: &[IntPoint<I>],
@@ -101,8 +101,8 @@ fn is_cloned<I: IntNumber + PartialEq>(
     Ok(begins_equal && other != buffer && buffer.path_count() == 2)
 }
 
-// Whether two shapes, the second with a contour that is not inside the points, come out as lists of
-// contours, and a third one without contours, as its range is not inside theirs.
+// Tests whether two shapes, the second with a contour that is not inside the points, come out as lists of contours, and
+// a third one without contours, as its range is not inside theirs.
 fn has_shapes<I: IntNumber + PartialEq>(
     alloc: Global,
     first: &[IntPoint<I>],
@@ -131,7 +131,7 @@ fn has_shapes<I: IntNumber + PartialEq>(
     )
 }
 
-// Whether buffers without contours are equal, whatever room was taken, and come out as no shapes.
+// Tests whether buffers without contours are equal, whatever room was taken, and come out as no shapes.
 fn are_equal_where_empty<I: IntNumber + PartialEq>(alloc: Global) -> Result<bool, OverlayError> {
     let contours: FlatContoursBuffer<I, Global> = FlatContoursBuffer::default(alloc)?;
     let shapes: FlatShapesBuffer<I, Global> = FlatShapesBuffer::default(alloc)?;
@@ -142,7 +142,7 @@ fn are_equal_where_empty<I: IntNumber + PartialEq>(alloc: Global) -> Result<bool
     )
 }
 
-// Whether all of this is so.
+// Tests whether all of this is so.
 fn works<I: IntNumber + PartialEq>(
     alloc: Global,
     first: &[IntPoint<I>],

@@ -8,7 +8,7 @@ use overlay_geom::resource::borrowed::{BorrowedContours, BorrowedShapes};
 use std::alloc::Global;
 use std::test::Fail;
 
-// Whether the resource has these points as its path with this number.
+// Returns whether the resource has these points as its path with this number.
 fn has_path<I: IntNumber + PartialEq, R: IntShapeResource<I>>(
     resource: &R,
     index: usize,
@@ -39,7 +39,7 @@ fn shape_of<I: IntNumber>(
     Ok(shape)
 }
 
-// Whether a contour, and a path that borrows it, each have it as their one path.
+// Tests whether a contour, and a path that borrows it, each have it as their one path.
 fn is_one_path<I: IntNumber + PartialEq>(
     alloc: Global,
     points: &[IntPoint<I>],
@@ -54,7 +54,7 @@ fn is_one_path<I: IntNumber + PartialEq>(
     )
 }
 
-// Whether a shape has its outline and its hole as paths, in this order.
+// Tests whether a shape has its outline and its hole as paths, in this order.
 fn has_outline_and_hole<I: IntNumber + PartialEq>(
     alloc: Global,
     outline: &[IntPoint<I>],
@@ -64,7 +64,7 @@ fn has_outline_and_hole<I: IntNumber + PartialEq>(
     Ok(shape.path_count() == 2 && has_path(&shape, 0, outline) && has_path(&shape, 1, hole))
 }
 
-// Whether shapes have the contours of each as paths, past a shape without one.
+// Tests whether shapes have the contours of each as paths, past a shape without one.
 fn has_contours_of_all<I: IntNumber + PartialEq>(
     alloc: Global,
     outline: &[IntPoint<I>],
@@ -83,7 +83,7 @@ fn has_contours_of_all<I: IntNumber + PartialEq>(
     )
 }
 
-// Whether borrowed contours are each a path, and borrowed shapes have the contours of each as paths.
+// Tests whether borrowed contours are each a path, and borrowed shapes have the contours of each as paths.
 fn lends_paths<I: IntNumber + PartialEq>(
     alloc: Global,
     outline: &[IntPoint<I>],

@@ -1,4 +1,4 @@
-//! Closed lists without the points that lie on one line with their neighbours.
+//! Closed lists without the points that are collinear with their neighbours.
 
 use overlay_geom::error::OverlayError;
 use overlay_geom::point::{IntPoint, in_range};

@@ -11,7 +11,7 @@ fn assert_in_range<I: IntNumber>(rt: &impl Abort, p: IntPoint<I>) {
     assert!(rt; p.y.is_in_range());
 }
 
-// The cross product of the ways from v to p and from v to q, by `cross_at`.
+// The cross product of the vectors from v to p and from v to q, by `cross_at`.
 fn cross_from<I: IntNumber>(
     rt: &impl Abort,
     v: IntPoint<I>,

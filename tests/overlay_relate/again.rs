@@ -51,7 +51,7 @@ fn asked<I: OverlayInt>(overlay: &mut Built<I>) -> Result<[bool; 6], OverlayErro
     ])
 }
 
-// Whether they answer so, twice.
+// Tests whether they answer so, twice.
 fn is_answered<I: OverlayInt>(
     overlay: &mut Built<I>,
     wanted: [bool; 6],

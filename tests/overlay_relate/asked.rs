@@ -46,7 +46,7 @@ pub(crate) fn assert_shapes<I: OverlayInt, A: Allocator>(
     }
 }
 
-// Whether the points lie so in the contour, by trees alone and by lists alone.
+// Tests whether the points lie so in the contour, by trees alone and by lists alone.
 fn are_in_contour<I: OverlayInt>(
     alloc: Global,
     contour: &[IntPoint<I>],
@@ -58,7 +58,7 @@ fn are_in_contour<I: OverlayInt>(
     Ok(by_trees.as_slice() == locations && by_lists.as_slice() == locations)
 }
 
-// Whether they lie so in the shape.
+// Tests whether they lie so in the shape.
 fn are_in_shape<I: OverlayInt>(
     alloc: Global,
     contours: &[IntContour<I, Global>],
@@ -70,7 +70,7 @@ fn are_in_shape<I: OverlayInt>(
     Ok(by_trees.as_slice() == locations && by_lists.as_slice() == locations)
 }
 
-// Whether they lie so among the shapes.
+// Tests whether they lie so among the shapes.
 fn are_in_shapes<I: OverlayInt>(
     alloc: Global,
     shapes: &[IntShape<I, Global>],

@@ -1,4 +1,4 @@
-//! Points in many shapes: squares with holes side by side, and squares in one another, at each width.
+//! Points in many shapes: squares with holes side by side, and squares in each other, at each width.
 
 use crate::asked::{ask_shapes, points};
 use overlay_geom::integer::OverlayInt;
@@ -44,7 +44,7 @@ fn side_by_side<I: OverlayInt + From<i16>>(rt: &impl Abort, alloc: Global) -> Re
     Ok(())
 }
 
-// Seventy squares in one another, two a shape. Only in the middle and outside all is a whole point on no edge.
+// Seventy squares in each other, two a shape. Only in the middle and outside all is a whole point on no edge.
 fn in_one_another<I: OverlayInt + From<i16>>(rt: &impl Abort, alloc: Global) -> Result<(), Fail> {
     let mut shapes: IntShapes<I, Global> = Vec::new(alloc);
     for j in 0..35u8 {

@@ -45,7 +45,7 @@ fn builder<I: OverlayInt + From<i16>>(
     Ok(overlay)
 }
 
-// Whether these are told, before a predicate is asked and afterwards.
+// Tests whether these are told, before a predicate is asked and afterwards.
 fn told<I: OverlayInt + From<i16>>(
     rt: &impl Abort,
     alloc: Global,

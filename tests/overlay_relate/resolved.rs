@@ -9,7 +9,7 @@ use std::alloc::Global;
 use std::process::Abort;
 use std::test::Fail;
 
-// Whether the contour through these points is resolved.
+// Tests whether the contour through these points is resolved.
 fn resolved<I: OverlayInt + From<i16>>(
     rt: &impl Abort,
     alloc: Global,

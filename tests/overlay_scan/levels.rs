@@ -46,7 +46,7 @@ fn level<I: SmallNumber>(x: u16, end: u16, height: u16) -> IntLine<I> {
     ]
 }
 
-// The vertical edge over x from a height to the next one.
+// The vertical edge over x from a height to the next.
 fn upright<I: SmallNumber>(x: u16, height: u16) -> IntLine<I> {
     [
         IntPoint::new(I::small(x), I::small(height)),
@@ -109,7 +109,7 @@ impl<S> Levels<S> {
         self.scan.first_less(I::small(x), NONE, line)
     }
 
-    // The height of the highest edge below a vertical one over x, from a height to the next one.
+    // The height of the highest edge below a vertical one over x, from a height to the next.
     pub(crate) fn below_upright<I: SmallNumber>(
         &mut self,
         rt: &impl Abort,
@@ -183,7 +183,7 @@ fn check_third_edge<I: SmallNumber, S: Scan<I, u16>>(
     Ok(())
 }
 
-// The highest of the three up to a height, and where the third one has ended.
+// The highest of the three up to a height, and where the third has ended.
 fn check_heights<I: SmallNumber, S: Scan<I, u16>>(rt: &impl Abort, levels: &mut Levels<S>) {
     assert_eq!(rt; levels.up_to(rt, 2, 1), NONE);
     assert_eq!(rt; levels.up_to(rt, 2, 2), 2);

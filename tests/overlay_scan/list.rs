@@ -1,4 +1,4 @@
-//! Which of two edges is under the other one, a list of no edge and of one, and one in which edges have ended.
+//! Which of two edges is under the other, a list of no edge and of one, and one in which edges have ended.
 
 use overlay_geom::error::OverlayError;
 use overlay_geom::path::IntLine;

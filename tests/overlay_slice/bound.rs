@@ -17,7 +17,7 @@ const INNER: Points<'static> = &[(-5, -5), (-5, 5), (5, 5), (5, -5), (-5, -5)];
 
 const INMOST: Points<'static> = &[(-1, -1), (-1, 1), (1, 1), (1, -1), (-1, -1)];
 
-// Whether the contours have these roles, and the holes among them these shapes.
+// Returns whether the contours have these roles, and the holes among them these shapes.
 fn are<I: IntNumber>(slices: &SliceContours<I, Global>, wanted: &[(Role, Option<usize>)]) -> bool {
     if slices.contours.len() != wanted.len() || slices.shapes.len() != wanted.len() {
         return false;

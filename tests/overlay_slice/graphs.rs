@@ -17,7 +17,7 @@ use std::process::Abort;
 /// Points by their coordinates, small enough for each coordinate type.
 pub(crate) type Points<'a> = &'a [(i16, i16)];
 
-/// The counts of a step that leads from its edge's smaller end to the larger one, and of one back.
+/// The counts of a step that leads from its edge's smaller end to the larger, and of one back.
 #[derive(Clone, Copy)]
 struct Counts {
     along: ShapeCountString,
@@ -62,7 +62,7 @@ fn push_edge<I: IntNumber>(
     content.push(CountedEdge { a, b, count })
 }
 
-// Adds the step, with the first of the counts if it leads from its edge's smaller end, and else with the other one.
+// Adds the step, with the first of the counts if it leads from its edge's smaller end, and else with the other.
 fn push<I: IntNumber + From<i16>>(
     rt: &impl Abort,
     content: &mut Content<I, ShapeCountString, Global>,
@@ -77,7 +77,7 @@ fn push<I: IntNumber + From<i16>>(
     push_edge(rt, content, q, p, counts.back)
 }
 
-// Adds the steps from each point to the next one.
+// Adds the steps from each point to the next.
 fn push_path<I: IntNumber + From<i16>>(
     rt: &impl Abort,
     content: &mut Content<I, ShapeCountString, Global>,

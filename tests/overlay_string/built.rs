@@ -12,7 +12,7 @@ use std::alloc::Global;
 use std::process::Abort;
 use std::test::Fail;
 
-// Whether the options of a builder without edges are those that are asked for.
+// Tests whether the options of a builder without edges are those that are asked for.
 fn is_empty<I: OverlayInt>(alloc: Global) -> Result<bool, Fail> {
     let overlay: StringOverlay<I, Global> = StringOverlay::new(alloc, 4)?;
     Ok(!overlay.options.ogc)
@@ -24,7 +24,7 @@ fn is_empty_with<I: OverlayInt>(alloc: Global) -> Result<bool, Fail> {
     Ok(overlay.options.ogc)
 }
 
-// Whether those of a builder with a shape are.
+// Tests whether those of a builder with a shape are.
 fn has_shape<I: OverlayInt + From<i16>>(rt: &impl Abort, alloc: Global) -> Result<bool, Fail> {
     let shape = paths_of::<I>(alloc, &[SQUARE])?;
     assert_in_range(rt, &shape);
@@ -38,7 +38,7 @@ fn has_shape_with<I: OverlayInt + From<i16>>(rt: &impl Abort, alloc: Global) -> 
     Ok(overlay.options.ogc)
 }
 
-// Whether those of one with a shape and a string are.
+// Tests whether those of one with a shape and a string are.
 fn has_both<I: OverlayInt + From<i16>>(rt: &impl Abort, alloc: Global) -> Result<bool, Fail> {
     let shape = paths_of::<I>(alloc, &[SQUARE])?;
     let string = path_of::<I>(alloc, &[(-1, 2), (5, 2)])?;
@@ -147,7 +147,7 @@ fn lists_of_shapes<I: OverlayInt + From<i16>>(rt: &impl Abort, alloc: Global) ->
     Ok(())
 }
 
-// Whether a builder that is made from a contour has the default options.
+// Tests whether a builder that is made from a contour has the default options.
 fn has_contour<I: OverlayInt + From<i16>>(rt: &impl Abort, alloc: Global) -> Result<bool, Fail> {
     let contour = path_of::<I>(alloc, SQUARE)?;
     assert!(rt; in_range(&contour));
@@ -158,7 +158,7 @@ fn has_contour<I: OverlayInt + From<i16>>(rt: &impl Abort, alloc: Global) -> Res
     )
 }
 
-// Whether one that is made from several does.
+// Tests whether one that is made from several does.
 fn has_contours<I: OverlayInt + From<i16>>(rt: &impl Abort, alloc: Global) -> Result<bool, Fail> {
     let shape = paths_of::<I>(alloc, &[SQUARE])?;
     assert_in_range(rt, &BorrowedContours { contours: &shape });
@@ -169,14 +169,14 @@ fn has_contours<I: OverlayInt + From<i16>>(rt: &impl Abort, alloc: Global) -> Re
     )
 }
 
-// Whether one that is made from a shape does.
+// Tests whether one that is made from a shape does.
 fn has_one_shape<I: OverlayInt + From<i16>>(rt: &impl Abort, alloc: Global) -> Result<bool, Fail> {
     let shape = paths_of::<I>(alloc, &[SQUARE])?;
     assert_in_range(rt, &BorrowedContours { contours: &shape });
     Ok(!StringOverlay::with_shape(alloc, &shape)?.options.ogc)
 }
 
-// Whether one that is made from several does.
+// Tests whether one that is made from several does.
 fn has_shapes<I: OverlayInt + From<i16>>(rt: &impl Abort, alloc: Global) -> Result<bool, Fail> {
     let mut shapes: IntShapes<I, Global> = Vec::new(alloc);
     shapes.push(paths_of::<I>(alloc, &[SQUARE])?)?;

@@ -140,7 +140,7 @@ fn by_source<I: OverlayInt + From<i16>>(
     Ok(shape.clip_source(alloc, &paths, FillRule::NonZero, INSIDE)?)
 }
 
-// Whether these paths are left of a line.
+// Tests whether these paths are left of a line.
 fn leaves<I: OverlayInt + PartialEq + From<i16>>(
     rt: &impl Abort,
     alloc: Global,
@@ -153,7 +153,7 @@ fn leaves<I: OverlayInt + PartialEq + From<i16>>(
     Ok(paths == paths_of(alloc, wanted)?)
 }
 
-// Whether these are left of a path.
+// Tests whether these are left of a path.
 fn leaves_of_path<I: OverlayInt + PartialEq + From<i16>>(
     rt: &impl Abort,
     alloc: Global,
@@ -166,7 +166,7 @@ fn leaves_of_path<I: OverlayInt + PartialEq + From<i16>>(
     Ok(paths == paths_of(alloc, wanted)?)
 }
 
-// Whether of lines that meet in one point the first edge in order goes on.
+// Tests whether of lines that meet in one point the first edge in order goes on.
 fn forks<I: OverlayInt + PartialEq + From<i16>>(
     rt: &impl Abort,
     alloc: Global,
@@ -181,7 +181,7 @@ fn forks<I: OverlayInt + PartialEq + From<i16>>(
     Ok(paths == paths_of(alloc, wanted)?)
 }
 
-// Whether a line that is given in both directions is passed in both.
+// Tests whether a line that is given in both directions is passed in both.
 fn turns_back<I: OverlayInt + PartialEq + From<i16>>(
     rt: &impl Abort,
     alloc: Global,
@@ -191,7 +191,7 @@ fn turns_back<I: OverlayInt + PartialEq + From<i16>>(
     Ok(paths == paths_of(alloc, &[&[(0, -10), (0, 10), (0, -10)]])?)
 }
 
-// Whether a part of one path in a list is left, and nothing of one at a distance.
+// Tests whether a part of one path in a list is left, and nothing of one at a distance.
 fn leaves_of_paths<I: OverlayInt + PartialEq + From<i16>>(
     rt: &impl Abort,
     alloc: Global,
@@ -200,7 +200,7 @@ fn leaves_of_paths<I: OverlayInt + PartialEq + From<i16>>(
     Ok(paths == paths_of(alloc, &[&[(0, -10), (0, 10)]])?)
 }
 
-// Whether the same is left of them as a resource.
+// Tests whether the same is left of them as a resource.
 fn leaves_of_source<I: OverlayInt + PartialEq + From<i16>>(
     rt: &impl Abort,
     alloc: Global,
@@ -209,7 +209,7 @@ fn leaves_of_source<I: OverlayInt + PartialEq + From<i16>>(
     Ok(paths == paths_of(alloc, &[&[(0, -10), (0, 10)]])?)
 }
 
-// Whether a line outside is left at both ends.
+// Tests whether a line outside is left at both ends.
 fn leaves_ends<I: OverlayInt + PartialEq + From<i16>>(
     rt: &impl Abort,
     alloc: Global,
@@ -218,7 +218,7 @@ fn leaves_ends<I: OverlayInt + PartialEq + From<i16>>(
     leaves::<I>(rt, alloc, SQUARE, MIDDLE, OUTSIDE, wanted)
 }
 
-// Whether a line passes a notch at its top, and nothing is left of it.
+// Tests whether a line passes a notch at its top, and nothing is left of it.
 fn passes_a_notch<I: OverlayInt + PartialEq + From<i16>>(
     rt: &impl Abort,
     alloc: Global,
@@ -227,7 +227,7 @@ fn passes_a_notch<I: OverlayInt + PartialEq + From<i16>>(
     leaves::<I>(rt, alloc, notch, &[(-3, 2), (3, 2)], INSIDE, &[])
 }
 
-// Whether a line that is a side of a square is left with the boundary, and not without it.
+// Tests whether a line that is a side of a square is left with the boundary, and not without it.
 fn lies_on_a_side<I: OverlayInt + PartialEq + From<i16>>(
     rt: &impl Abort,
     alloc: Global,

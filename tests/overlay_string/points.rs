@@ -57,7 +57,7 @@ pub(crate) fn paths_of<I: OverlayInt + From<i16>>(
     Ok(all)
 }
 
-/// Whether these are the shapes, each with its contours.
+/// Tests whether these are the shapes, each with its contours.
 pub(crate) fn are_shapes<I: OverlayInt + PartialEq + From<i16>>(
     alloc: Global,
     shapes: &IntShapes<I, Global>,

@@ -107,7 +107,7 @@ fn by_source<I: OverlayInt + From<i16>>(
     Ok(shape.slice_by_source(alloc, &paths, FillRule::NonZero)?)
 }
 
-// Whether a line cuts the contours into these shapes.
+// Tests whether a line cuts the contours into these shapes.
 fn cuts<I: OverlayInt + PartialEq + From<i16>>(
     rt: &impl Abort,
     alloc: Global,
@@ -119,7 +119,7 @@ fn cuts<I: OverlayInt + PartialEq + From<i16>>(
     Ok(are_shapes(alloc, &shapes, wanted)?)
 }
 
-// Whether the line through the middle cuts the wide square so by a fill rule.
+// Tests whether the line through the middle cuts the wide square so by a fill rule.
 fn fills<I: OverlayInt + PartialEq + From<i16>>(
     rt: &impl Abort,
     alloc: Global,
@@ -130,7 +130,7 @@ fn fills<I: OverlayInt + PartialEq + From<i16>>(
     Ok(are_shapes(alloc, &shapes, wanted)?)
 }
 
-// Whether a line that ends inside cuts nothing; its point on the side stays.
+// Tests whether a line that ends inside cuts nothing; its point on the side stays.
 fn ends_inside<I: OverlayInt + PartialEq + From<i16>>(
     rt: &impl Abort,
     alloc: Global,
@@ -139,7 +139,7 @@ fn ends_inside<I: OverlayInt + PartialEq + From<i16>>(
     cuts::<I>(rt, alloc, &[SQUARE], &[(-1, 2), (2, 2)], wanted)
 }
 
-// Whether a line through the hole of a ring cuts it into two shapes of eight points.
+// Tests whether a line through the hole of a ring cuts it into two shapes of eight points.
 fn cuts_a_ring<I: OverlayInt + PartialEq + From<i16>>(
     rt: &impl Abort,
     alloc: Global,
@@ -169,7 +169,7 @@ fn cuts_a_ring<I: OverlayInt + PartialEq + From<i16>>(
     cuts::<I>(rt, alloc, &[WIDE, NARROW], MIDDLE, wanted)
 }
 
-// Whether a line through two corners cuts a square into two triangles.
+// Tests whether a line through two corners cuts a square into two triangles.
 fn cuts_through_corners<I: OverlayInt + PartialEq + From<i16>>(
     rt: &impl Abort,
     alloc: Global,
@@ -181,7 +181,7 @@ fn cuts_through_corners<I: OverlayInt + PartialEq + From<i16>>(
     cuts::<I>(rt, alloc, &[CORNERS], &[(-5, 5), (5, -5)], wanted)
 }
 
-// Whether a line at the top of a triangle cuts nothing.
+// Tests whether a line at the top of a triangle cuts nothing.
 fn passes_the_top<I: OverlayInt + PartialEq + From<i16>>(
     rt: &impl Abort,
     alloc: Global,
@@ -191,7 +191,7 @@ fn passes_the_top<I: OverlayInt + PartialEq + From<i16>>(
     cuts::<I>(rt, alloc, &[triangle], &[(-5, 2), (5, 2)], wanted)
 }
 
-// Whether one line between two holes cuts nothing.
+// Tests whether one line between two holes cuts nothing.
 fn joins_holes<I: OverlayInt + PartialEq + From<i16>>(
     rt: &impl Abort,
     alloc: Global,
@@ -206,7 +206,7 @@ fn joins_holes<I: OverlayInt + PartialEq + From<i16>>(
     Ok(shapes.len() == 1 && shapes[0].len() == 3)
 }
 
-// Whether two lines cut out the part between them.
+// Tests whether two lines cut out the part between them.
 fn parts_holes<I: OverlayInt + PartialEq + From<i16>>(
     rt: &impl Abort,
     alloc: Global,
@@ -216,7 +216,7 @@ fn parts_holes<I: OverlayInt + PartialEq + From<i16>>(
     Ok(shapes.len() == 2 && shapes[0].len() == 2 && shapes[1].len() == 1)
 }
 
-// Whether lines along one another in both directions cut as one does.
+// Tests whether lines along each other in both directions cut as one does.
 fn cuts_by_lines<I: OverlayInt + PartialEq + From<i16>>(
     rt: &impl Abort,
     alloc: Global,
@@ -226,7 +226,7 @@ fn cuts_by_lines<I: OverlayInt + PartialEq + From<i16>>(
     Ok(are_shapes(alloc, &shapes, HALVES)?)
 }
 
-// Whether a path of two steps cuts a square, and the point between them stays.
+// Tests whether a path of two steps cuts a square, and the point between them stays.
 fn cuts_by_path<I: OverlayInt + PartialEq + From<i16>>(
     rt: &impl Abort,
     alloc: Global,
@@ -239,7 +239,7 @@ fn cuts_by_path<I: OverlayInt + PartialEq + From<i16>>(
     Ok(are_shapes(alloc, &shapes, wanted)?)
 }
 
-// Whether a path that does not come back to where it began cuts nothing out.
+// Tests whether a path that does not come back to where it began cuts nothing out.
 fn leaves_open<I: OverlayInt + PartialEq + From<i16>>(
     rt: &impl Abort,
     alloc: Global,
@@ -249,7 +249,7 @@ fn leaves_open<I: OverlayInt + PartialEq + From<i16>>(
     Ok(are_shapes(alloc, &shapes, wanted)?)
 }
 
-// Whether a list of two paths cuts a square, one of which is at a distance.
+// Tests whether a list of two paths cuts a square, one of which is at a distance.
 fn cuts_by_paths<I: OverlayInt + PartialEq + From<i16>>(
     rt: &impl Abort,
     alloc: Global,
@@ -258,7 +258,7 @@ fn cuts_by_paths<I: OverlayInt + PartialEq + From<i16>>(
     Ok(are_shapes(alloc, &shapes, HALVES)?)
 }
 
-// Whether a resource of these two does.
+// Tests whether a resource of these two does.
 fn cuts_by_source<I: OverlayInt + PartialEq + From<i16>>(
     rt: &impl Abort,
     alloc: Global,
@@ -267,7 +267,7 @@ fn cuts_by_source<I: OverlayInt + PartialEq + From<i16>>(
     Ok(are_shapes(alloc, &shapes, HALVES)?)
 }
 
-// Whether nothing comes of no contour.
+// Tests whether nothing comes of no contour.
 fn has_no_shape<I: OverlayInt + PartialEq + From<i16>>(
     rt: &impl Abort,
     alloc: Global,

@@ -66,12 +66,12 @@ fn line<I: OverlayInt + From<i16>>(rt: &impl Abort) -> IntLine<I> {
     line
 }
 
-// Whether the call was refused as not settled.
+// Returns whether the call was refused as not settled.
 fn is_not_settled<T: Drop>(answer: Result<T, OverlayError>) -> bool {
     matches!(answer, Err(OverlayError::NotSettled))
 }
 
-// Whether what is left of the line is the part that the needle has as a side, or nothing.
+// Tests whether what is left of the line is the part that the needle has as a side, or nothing.
 fn is_clipped<I: OverlayInt + PartialEq + From<i16>>(
     alloc: Global,
     answer: Clipped<I>,
@@ -152,7 +152,7 @@ fn clips_paths<I: OverlayInt + PartialEq + From<i16>>(
     Ok(())
 }
 
-// Whether the needle is cut into its one shape.
+// Tests whether the needle is cut into its one shape.
 fn is_sliced<I: OverlayInt + PartialEq + From<i16>>(
     alloc: Global,
     answer: Sliced<I>,

@@ -72,7 +72,7 @@ fn builder<I: OverlayInt + From<i16>>(
     Ok(overlay)
 }
 
-// Whether the view gives these shapes.
+// Tests whether the view gives these shapes.
 fn shows<I: OverlayInt + PartialEq + From<i16>>(
     alloc: Global,
     view: &StringGraph<'_, I, Global>,
@@ -82,7 +82,7 @@ fn shows<I: OverlayInt + PartialEq + From<i16>>(
     are_shapes(alloc, &shapes, wanted)
 }
 
-// Whether it gives these by the options.
+// Tests whether it gives these by the options.
 fn shows_by<I: OverlayInt + PartialEq + From<i16>>(
     alloc: Global,
     view: &StringGraph<'_, I, Global>,
@@ -93,7 +93,7 @@ fn shows_by<I: OverlayInt + PartialEq + From<i16>>(
     are_shapes(alloc, &shapes, wanted)
 }
 
-// Whether a view of the wide square with the narrow one as a closed string gives these, asked twice.
+// Tests whether a view of the wide square with the narrow one as a closed string gives these, asked twice.
 fn is_viewed<I: OverlayInt + PartialEq + From<i16>>(
     rt: &impl Abort,
     alloc: Global,
@@ -106,7 +106,7 @@ fn is_viewed<I: OverlayInt + PartialEq + From<i16>>(
     Ok(shows(alloc, &view, wanted)? && shows(alloc, &view, wanted)?)
 }
 
-// Whether it gives these by the options.
+// Tests whether it gives these by the options.
 fn is_viewed_by<I: OverlayInt + PartialEq + From<i16>>(
     rt: &impl Abort,
     alloc: Global,
@@ -120,7 +120,7 @@ fn is_viewed_by<I: OverlayInt + PartialEq + From<i16>>(
     Ok(shows_by(alloc, &view, options, wanted)?)
 }
 
-// Whether a view of the builder by the fill rule, with a solver, gives these.
+// Tests whether a view of the builder by the fill rule, with a solver, gives these.
 fn shows_filled<I: OverlayInt + PartialEq + From<i16>>(
     alloc: Global,
     overlay: &mut StringOverlay<I, Global>,
@@ -133,7 +133,7 @@ fn shows_filled<I: OverlayInt + PartialEq + From<i16>>(
     shows(alloc, &view, wanted)
 }
 
-// Whether what is filled depends on the rule alone, not on an earlier view of the same builder.
+// Tests whether what is filled depends on the rule alone, not on an earlier view of the same builder.
 fn is_filled_by_rules<I: OverlayInt + PartialEq + From<i16>>(
     rt: &impl Abort,
     alloc: Global,
@@ -145,7 +145,7 @@ fn is_filled_by_rules<I: OverlayInt + PartialEq + From<i16>>(
     )
 }
 
-// Whether outlines are clockwise where that is asked for.
+// Tests whether outlines are clockwise where that is asked for.
 fn is_viewed_clockwise<I: OverlayInt + PartialEq + From<i16>>(
     rt: &impl Abort,
     alloc: Global,
@@ -157,7 +157,7 @@ fn is_viewed_clockwise<I: OverlayInt + PartialEq + From<i16>>(
     is_viewed_by::<I>(rt, alloc, clockwise, CUT_CLOCKWISE)
 }
 
-// Whether contours below the minimum area are left out.
+// Tests whether contours below the minimum area are left out.
 fn is_viewed_from<I: OverlayInt + PartialEq + From<i16>>(
     rt: &impl Abort,
     alloc: Global,
@@ -171,7 +171,7 @@ fn is_viewed_from<I: OverlayInt + PartialEq + From<i16>>(
     is_viewed_by::<I>(rt, alloc, options, wanted)
 }
 
-// Whether there is a view of these.
+// Tests whether there is a view of these.
 fn has_view<I: OverlayInt + From<i16>>(
     rt: &impl Abort,
     alloc: Global,
@@ -182,7 +182,7 @@ fn has_view<I: OverlayInt + From<i16>>(
     Ok(overlay.build_graph_view(FillRule::NonZero)?.is_some())
 }
 
-// Whether there is one with a solver.
+// Tests whether there is one with a solver.
 fn has_view_with_solver<I: OverlayInt + From<i16>>(
     rt: &impl Abort,
     alloc: Global,
@@ -194,7 +194,7 @@ fn has_view_with_solver<I: OverlayInt + From<i16>>(
     Ok(view.is_some())
 }
 
-// Whether a view of a closed string alone gives no shape.
+// Tests whether a view of a closed string alone gives no shape.
 fn is_viewed_without_shape<I: OverlayInt + PartialEq + From<i16>>(
     rt: &impl Abort,
     alloc: Global,

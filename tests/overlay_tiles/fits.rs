@@ -7,7 +7,7 @@ use std::alloc::Global;
 use std::process::Abort;
 use std::test::Fail;
 
-// Whether a grid of cells of this width and height fits the contour.
+// Tests whether a grid of cells of this width and height fits the contour.
 fn fits<I: OverlayInt + From<i16>>(
     rt: &impl Abort,
     alloc: Global,

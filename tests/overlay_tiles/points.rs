@@ -27,7 +27,7 @@ pub(crate) fn contour_of<I: OverlayInt + From<i16>>(
     Ok(contour)
 }
 
-/// The corners of the square between two points on the diagonal, from the lower one on, counterclockwise.
+/// The corners of the square between two points on the diagonal, from the lower on, counterclockwise.
 pub(crate) fn corners_of<I: OverlayInt>(
     alloc: Global,
     least: I,
@@ -45,7 +45,7 @@ pub(crate) fn corners_of<I: OverlayInt>(
     Ok(corners)
 }
 
-/// Whether these are the shapes, each of one contour.
+/// Tests whether these are the shapes, each of one contour.
 pub(crate) fn are_tiles<I: OverlayInt + PartialEq + From<i16>>(
     alloc: Global,
     shapes: &IntShapes<I, Global>,

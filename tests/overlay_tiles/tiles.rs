@@ -9,7 +9,7 @@ use std::alloc::Global;
 use std::process::Abort;
 use std::test::Fail;
 
-// Whether the contour is cut by a grid of cells of this width and height into these tiles.
+// Tests whether the contour is cut by a grid of cells of this width and height into these tiles.
 fn tiles<I: OverlayInt + PartialEq + From<i16>>(
     rt: &impl Abort,
     alloc: Global,

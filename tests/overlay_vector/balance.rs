@@ -1,4 +1,4 @@
-//! Whether edges are balanced, at each coordinate type.
+//! Tests whether edges are balanced, at each coordinate type.
 
 use crate::colour::Colour;
 use crate::edges::{Place, add_way};
@@ -8,14 +8,14 @@ use std::alloc::Global;
 use std::process::Abort;
 use std::test::Fail;
 
-// A triangle, and its three sides without the last one, and that one alone.
+// A triangle, and its three sides without the last, and that one alone.
 const CLOSED: &[Place] = &[(0, 0), (4, 0), (0, 4), (0, 0)];
 
 const OPEN: &[Place] = &[(0, 0), (4, 0), (0, 4)];
 
 const BACK: &[Place] = &[(0, 4), (0, 0)];
 
-// Whether the edges along these places, of the subject and of the clip, are balanced.
+// Tests whether the edges along these places, of the subject and of the clip, are balanced.
 fn balanced<I: OverlayInt + From<i16>>(
     rt: &impl Abort,
     alloc: Global,

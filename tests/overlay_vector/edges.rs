@@ -81,7 +81,7 @@ pub(crate) fn add_each<I: OverlayInt, D: OverlayEdgeData, A: Allocator + Clone>(
     overlay.add_edges(edges.iter().copied(), ShapeType::Subject)
 }
 
-/// Adds an edge from each place to the next one, with this data.
+/// Adds an edge from each place to the next, with this data.
 pub(crate) fn add_way<I: OverlayInt + From<i16>, D: OverlayEdgeData>(
     rt: &impl Abort,
     overlay: &mut EdgeOverlay<I, D, Global>,
@@ -129,7 +129,7 @@ pub(crate) fn ends_in<I: OverlayInt, D: OverlayEdgeData>(
     Ok(ends)
 }
 
-/// Whether the closed contour is the wanted one, wherever it begins.
+/// Returns whether the closed contour is the wanted, wherever it begins.
 pub(crate) fn is_round<I: OverlayInt + PartialEq, D: Copy + PartialEq>(
     path: &[DataVectorEdge<I, D>],
     wanted: &[DataVectorEdge<I, D>],

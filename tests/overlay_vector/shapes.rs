@@ -12,10 +12,10 @@ use overlay_vector::path::{DataVectorPath, DataVectorShape};
 use std::alloc::Global;
 use std::process::Abort;
 
-/// A colour, and places: an edge of the colour leads from each to the next one.
+/// A colour, and places: an edge of the colour leads from each to the next.
 pub(crate) type Way<'a> = (Colour, &'a [Place]);
 
-/// Where an edge of a contour begins, its filled sides and its colour. It ends where the next one begins.
+/// Where an edge of a contour begins, its filled sides and its colour. It ends where the next begins.
 pub(crate) type Begun = (Place, SideFill, Colour);
 
 /// What is asked of an overlay, and the shapes that it is to give.
@@ -29,7 +29,7 @@ pub(crate) struct Row<'a> {
     pub(crate) rule: OverlayRule,
     /// The fill rule.
     pub(crate) fill: FillRule,
-    /// Whether edges on one line stay as they are, and are not joined.
+    /// Tests whether collinear edges stay as they are, and are not joined.
     pub(crate) keeps_edges: bool,
     /// The contours of each shape, wherever they begin.
     pub(crate) wanted: &'a [&'a [&'a [Begun]]],
@@ -84,7 +84,7 @@ fn contour_of<I: OverlayInt + From<i16>>(
     Ok(contour)
 }
 
-// Whether the shape has these contours.
+// Tests whether the shape has these contours.
 fn is_shape<I: OverlayInt + PartialEq + From<i16>>(
     alloc: Global,
     shape: &[DataVectorPath<I, Colour, Global>],
@@ -101,7 +101,7 @@ fn is_shape<I: OverlayInt + PartialEq + From<i16>>(
     Ok(true)
 }
 
-/// Whether these are the shapes with these contours.
+/// Tests whether these are the shapes with these contours.
 pub(crate) fn are_shapes<I: OverlayInt + PartialEq + From<i16>>(
     alloc: Global,
     shapes: &[DataVectorShape<I, Colour, Global>],

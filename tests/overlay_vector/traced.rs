@@ -191,7 +191,7 @@ pub(crate) const HOLES: Row<'static> = Row {
     ],
 };
 
-// Whether a builder with the row's edges answers its shapes.
+// Tests whether a builder with the row's edges answers its shapes.
 fn holds<I: OverlayInt + PartialEq + From<i16>>(
     rt: &impl Abort,
     alloc: Global,

@@ -104,8 +104,8 @@ fn answered<I: OverlayInt + From<i16>>(
     Ok(overlay)
 }
 
-// Whether the graph of the row's edges, lent the buffer of another builder, gives the row's shapes, where a tree is
-// taken from so many shapes on.
+// Tests whether the graph of the row's edges, lent the buffer of another builder, gives the row's shapes, where a tree
+// is taken from so many shapes on.
 fn gives<I: OverlayInt + PartialEq + From<i16>>(
     rt: &impl Abort,
     alloc: Global,

@@ -64,7 +64,7 @@ pub(crate) fn graph_of<I: IntNumber + From<i16>>(
     content.graph(FillRule::EvenOdd)
 }
 
-/// Whether the steps begin at these points, one after another.
+/// Returns whether the steps begin at these points, one after another.
 pub(crate) fn begin_at<I: IntNumber + From<i16>>(steps: &[Step<I>], points: &[(i16, i16)]) -> bool {
     if steps.len() != points.len() {
         return false;

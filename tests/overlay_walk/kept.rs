@@ -92,7 +92,7 @@ fn options<I: IntNumber>(ogc: bool) -> IntOverlayOptions<I::WideUInt> {
     }
 }
 
-// Whether the contours have these roles.
+// Returns whether the contours have these roles.
 fn have_roles<I: IntNumber>(contours: &[Contour<I, Global>], roles: &[Role]) -> bool {
     contours.len() == roles.len() && contours.iter().zip(roles.iter()).all(|(c, r)| c.role == *r)
 }
@@ -127,8 +127,7 @@ fn check_touching<I: IntNumber + From<i16>>(
     Ok(())
 }
 
-// With groups the triangle is a shape of its own, in the hole of the first one; without them it is part of
-// the hole.
+// With groups the triangle is a shape of its own, in the hole of the first; without them it is part of the hole.
 fn check_island<I: IntNumber + From<i16>>(
     rt: &impl Abort,
     alloc: Global,

@@ -51,13 +51,12 @@ fn open_triangle<I: IntNumber>(
     OpenSteps::new(steps)
 }
 
-// Whether these are the numbers of the steps, in order.
+// Returns whether these are the numbers of the steps, in order.
 fn has_numbers<I: IntNumber>(walk: &[Step<I>], numbers: &[usize]) -> bool {
     walk.len() == numbers.len() && walk.iter().zip(numbers.iter()).all(|(s, n)| s.edge == *n)
 }
 
-// A walk by the hand begins along the left edge, the top one at the leftmost lowest point, and takes all
-// steps.
+// A walk by the hand begins along the left edge, the top at the leftmost lowest point, and takes all steps.
 fn check_walk<I: IntNumber>(
     rt: &impl Abort,
     alloc: Global,

@@ -87,7 +87,7 @@ fn check_slowly(rt: &(impl Abort + Alloc), input: &[u8], wanted: &[u8], exit: Ex
     assert!(rt; is_flushed);
 }
 
-// The lines, so many times, and then the last one.
+// The lines, this number of times, and then the last.
 fn repeated<T: Abort + Alloc>(rt: &T, count: usize, lines: &[u8], last: &[u8]) -> Vec<u8, T::A> {
     let mut input = Vec::new(rt.alloc());
     for _ in 0..count {
