@@ -22,5 +22,6 @@ IsLookedUpBy whole post default fs value = (answer : Edge → Ordering) → IsAn
 
 -- two values that are looked up by one order with these post, whose answers rise, are one
 abbrev pub OneLookUp : {I : Type 0} → (I → ℤ) → (List (IntPoint I) → Ordering → Type 0) → Type 0 → Type 0
-OneLookUp whole post V = (default : V) (fs : List (Entry V)) (answer : Edge → Ordering) → IsAnsweredBy whole post answer fs → AnswersRise answer fs → (first second : V) →
+OneLookUp whole post V = (default : V) (fs : List (Entry V)) (answer : Edge → Ordering) →
+    IsAnsweredBy whole post answer fs → AnswersRise answer fs → (first second : V) →
     IsLookedUpBy whole post default fs first → IsLookedUpBy whole post default fs second → first ≡ second
