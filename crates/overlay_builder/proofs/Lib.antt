@@ -5,6 +5,7 @@ pub mod FirstPoints
 pub mod Fronts
 pub mod LeftOut
 pub mod Mapped
+pub mod OneAdding
 pub mod PassedEdges
 pub mod PathLists
 pub mod Queries

@@ -1,5 +1,6 @@
 pub mod AddedSteps
 pub mod BuilderCalls
+pub mod Determined
 pub mod GivenPaths
 pub mod Held
 pub mod Passing

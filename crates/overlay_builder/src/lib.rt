@@ -4,6 +4,7 @@
 pub mod balanced_graph;
 pub mod boolean;
 pub mod builder_core;
+pub mod only_contents;
 pub mod path;
 pub mod points;
 mod single_step;

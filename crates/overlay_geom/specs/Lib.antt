@@ -8,6 +8,7 @@ pub mod Merged
 pub mod Narrowed
 pub mod Numbered
 pub mod Numbers
+pub mod OrderedPoints
 pub mod Packed
 pub mod Paths
 pub mod Placed

@@ -6,6 +6,7 @@ pub mod edge_pair;
 pub mod error;
 pub mod flat;
 pub mod integer;
+pub mod laws;
 pub mod number;
 pub mod path;
 pub mod point;

@@ -129,7 +129,9 @@ pub mod NodeWindings
 pub mod NodesMakeBalance
 pub mod NumberedContours
 pub mod OnceOrNot
+pub mod OneArrangement
 pub mod OneHoleRound
+pub mod OneRound
 pub mod OrbitSteps
 pub mod OrbitWalks
 pub mod OrbitsApart
@@ -163,6 +165,7 @@ pub mod RoundWalks
 pub mod RoundedAlong
 pub mod RoundedHalves
 pub mod RoundedMixtures
+pub mod SameMapped
 pub mod SameOrder
 pub mod SameSector
 pub mod SameWay

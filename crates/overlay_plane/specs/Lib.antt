@@ -14,6 +14,7 @@ pub mod Contours
 pub mod CutPoints
 pub mod Cutting
 pub mod DerivedData
+pub mod Determined
 pub mod EdgeLists
 pub mod EdgePredicates
 pub mod GreatestBelow

@@ -21,6 +21,7 @@ pub mod meeting;
 pub mod next_step;
 pub mod next_winding;
 pub mod node;
+pub mod only_arrangement;
 pub mod orbit;
 pub mod order;
 pub mod predicates;

@@ -8,6 +8,7 @@ pub mod LastEntries
 pub mod LinesFit
 pub mod LiveParts
 pub mod Moving
+pub mod OneSweep
 pub mod Passing
 pub mod Prefixes
 pub mod PutIn

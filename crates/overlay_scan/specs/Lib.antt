@@ -1,3 +1,4 @@
+pub mod Determined
 pub mod HeldEntries
 pub mod Laws
 pub mod Lists

@@ -4,5 +4,6 @@
 pub mod laws;
 pub mod list;
 mod live;
+pub mod only_sweeps;
 pub mod scan;
 mod search;

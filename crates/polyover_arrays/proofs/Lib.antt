@@ -1,2 +1,4 @@
+pub mod ComeBack
+pub mod OneTest
 pub mod PointCounts
 pub mod WithinPoints

@@ -6,6 +6,7 @@
 
 pub mod fault;
 pub mod flatten;
+pub mod laws;
 pub mod read;
 pub mod test;
 pub mod write;

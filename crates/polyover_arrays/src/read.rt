@@ -24,6 +24,8 @@ pub fn read_contours<I: IntNumber, A: Allocator + Copy>(
     ensures read { MatchResult result
         (λ b. AreContours I.whole I.limit coordinates.now ends.now)
         (HaveFault I.whole I.limit coordinates.now ends.now) }
+    ensures points { IfOk result (λ b. b.points.items ≡ points_of coordinates.now) }
+    ensures ranges { IfOk result (λ b. b.ranges.items ≡ ranges_from 0 ends.now) }
     ensures contours { IfOk result (λ b. paths_in I.whole b.points.items b.ranges.items
         ≡ contours_at I.whole coordinates.now ends.now) }
     ensures in_range { IfOk result (λ b. All (AllInRange I.limit) (paths_in I.whole b.points.items b.ranges.items)) }
@@ -41,6 +43,8 @@ pub fn tested_contours<I: IntNumber, A: Allocator + Copy>(
     ends: &[usize],
 ) -> Result<FlatContoursBuffer<I, A>, Fault>
     requires { AreContours I.whole I.limit coordinates.now ends.now }
+    ensures points { IfOk result (λ b. b.points.items ≡ points_of coordinates.now) }
+    ensures ranges { IfOk result (λ b. b.ranges.items ≡ ranges_from 0 ends.now) }
     ensures contours { IfOk result (λ b. paths_in I.whole b.points.items b.ranges.items
         ≡ contours_at I.whole coordinates.now ends.now) }
     ensures in_range { IfOk result (λ b. All (AllInRange I.limit) (paths_in I.whole b.points.items b.ranges.items)) }

@@ -1,0 +1,32 @@
+-- What a builder holds after a call is determined, where all points of paths are taken. Left open is which of several
+-- points on one line is dropped first, and whether memory is refused.
+use Rattle.std.specs.Prelude.{◌≡◌, Bool, true, false, List, All, Result, IsErrOf}
+use Rattle.overlay_geom.specs.Edges.{CountedEdge, weight}
+use Rattle.overlay_geom.specs.declared.error.OverlayError.{OverlayError}
+use Rattle.overlay_geom.specs.declared.error.OverlayError.TheVariants.{Memory}
+use Rattle.overlay_builder.specs.Held.{Held}
+use Rattle.overlay_builder.specs.PathLists.{AddedPath, AddsPaths, AddsAsAsked}
+use Rattle.overlay_builder.specs.declared.path.PathKind.{PathKind}
+use Rattle.overlay_builder.specs.declared.path.PathKind.TheVariants.{Open, Closed, Thinned}
+
+-- all points of a path of this kind are taken
+abbrev pub takes_all : PathKind → Bool
+takes_all Open = true
+takes_all Closed = true
+takes_all Thinned = false
+
+-- all points of all paths are
+abbrev pub AreTakenWhole : {E : Type 0} → List (AddedPath E) → Type 0
+AreTakenWhole paths = All (λ p. takes_all p.kind ≡ true) paths
+
+-- two contents to which the paths lead are one
+abbrev pub OneContent : Type 0 → Type 0
+OneContent E = (paths : List (AddedPath E)) → AreTakenWhole paths → (old new newer : List E) → AddsPaths paths old new →
+    AddsPaths paths old newer → new ≡ newer
+
+-- two builders to which the paths were added are one, and so are the answers, where memory is not refused
+abbrev pub OneAdding : Type 0
+OneAdding = (paths : List (AddedPath CountedEdge)) → AreTakenWhole paths → (old new newer : Held CountedEdge)
+    (result other : Result (Unit {0}) OverlayError) → AddsAsAsked weight paths old new result →
+    AddsAsAsked weight paths old newer other → ¬ (IsErrOf result Memory) → ¬ (IsErrOf other Memory) →
+    (result ≡ other) × (new ≡ newer)

@@ -1,0 +1,100 @@
+-- The rounds that a solver takes leave the same pieces one after another, and end together: an arrangement takes none.
+use Rattle.std.proofs.Common.{◌≡◌, inl, inr, true, List, [], ◌∷◌, ◌++◌, sym, subst, ◌∙◌}
+use Rattle.std.specs.Bool.{⊤}
+use Rattle.std.proofs.lemmas.List.Elements.{All-contains, All-head, All-tail}
+use Rattle.overlay_geom.specs.Edges.{CountedEdge, ends_of}
+use Rattle.overlay_geom.specs.Merged.{IsMerged}
+use Rattle.overlay_geom.specs.Plane.{Point, PlanePoint, Step, point_lt, steps_through}
+use Rattle.overlay_geom.specs.Settled.{IsSettled}
+use Rattle.overlay_geom.specs.declared.solver.Solver.TheVariants.{Rounds, Snapping}
+use Rattle.overlay_geom.proofs.MergedOnce.{IsMerged-unique}
+use Rattle.overlay_plane.specs.Cutting.{pieces_through, piece_along}
+use Rattle.overlay_plane.specs.Determined.{RoundAs, OneArrangement, OneSnappedArrangement}
+use Rattle.overlay_plane.specs.EdgeLists.{IsForwardBy}
+use Rattle.overlay_plane.specs.Meetings.{MeetInWholePoints}
+use Rattle.overlay_plane.specs.RoundLists.{AreEachRounds, IsSnapRound}
+use Rattle.overlay_plane.specs.Rounds.{Round, IsRound, pieces_of, whole_cuts, after_rounds}
+use Rattle.overlay_plane.proofs.AnyRounds.{IsAnyRound, any_round}
+use Rattle.overlay_plane.proofs.Entries.{all_of_entries, Contains-from_flat_map, Contains-from_map}
+use Rattle.overlay_plane.proofs.LinksKept.{IsLong}
+use Rattle.overlay_plane.proofs.NearChains.{long_forward}
+use Rattle.overlay_plane.proofs.OneRound.{one_round, one_whole_round, one_snap}
+use Rattle.overlay_plane.proofs.StepsAlong.{long_through}
+
+-- ---- rounds of one kind
+
+module _ (Is : List CountedEdge → Round → Type 0) (Fit : List CountedEdge → Type 0)
+    (any : (old : List CountedEdge) (r : Round) → Is old r → IsAnyRound old r)
+    (one : (old : List CountedEdge) (r s : Round) → Fit old → Is old r → Is old s → pieces_of r ≡ pieces_of s)
+    (fits : (r : Round) → Fit (pieces_of r)) where
+  -- an arrangement takes no round
+  none_on_settled : (old new : List CountedEdge) (r : Round) → IsMerged old new → IsSettled new → ¬ (Is old r)
+  none_on_settled old new r merged settled is =
+      (any old r is).unsettled (subst IsSettled (IsMerged-unique old new r.edges merged (any old r is).merged) settled)
+
+  -- so two arrangements by rounds of the kind are one
+  pub one_reached : (old : List CountedEdge) (rounds others : List Round) (new newer : List CountedEdge) → Fit old →
+      AreEachRounds Is old rounds → AreEachRounds Is old others → IsMerged (after_rounds old rounds) new →
+      IsMerged (after_rounds old others) newer → IsSettled new → IsSettled newer → new ≡ newer
+  one_reached old [] [] new newer fit are are' merged merged' settled settled' =
+      IsMerged-unique old new newer merged merged'
+  one_reached old [] (s ∷ others) new newer fit are are' merged merged' settled settled' =
+      absurd (none_on_settled old new s merged settled are'.0)
+  one_reached old (r ∷ rounds) [] new newer fit are are' merged merged' settled settled' =
+      absurd (none_on_settled old newer r merged' settled' are.0)
+  one_reached old (r ∷ rounds) (s ∷ others) new newer fit are are' merged merged' settled settled' =
+      let same : pieces_of s ≡ pieces_of r = sym (one old r s fit are.0 are'.0) in
+      one_reached (pieces_of r) rounds others new newer (fits r) are.1
+      (subst (λ es. AreEachRounds Is es others) same are'.1) merged
+      (subst (λ es. IsMerged (after_rounds es others) newer) same merged') settled settled'
+
+-- ---- rounds that round alike
+
+module _ (whole_at : PlanePoint → Point) where
+  -- a cutting round that takes each point of the plane to this whole point
+  abbrev IsRoundAs : List CountedEdge → Round → Type 0
+  IsRoundAs old r = IsRound old r × ((p : PlanePoint) → r.whole_at p ≡ whole_at p)
+
+  -- rounds that do so
+  are_so : (old : List CountedEdge) (rounds : List Round) → AreEachRounds IsRound old rounds →
+      RoundAs whole_at rounds → AreEachRounds IsRoundAs old rounds
+  are_so old [] are so = tt
+  are_so old (r ∷ rounds) are so = (
+    (are.0, All-head (λ (r : Round). (p : PlanePoint) → r.whole_at p ≡ whole_at p) r rounds so),
+    are_so (pieces_of r) rounds are.1
+        (All-tail (λ (r : Round). (p : PlanePoint) → r.whole_at p ≡ whole_at p) r rounds so),
+  )
+
+pub one_arrangement : OneArrangement
+one_arrangement whole_at rounds others old new newer so so' reached reached' =
+    one_reached (IsRoundAs whole_at) (λ es. ⊤) (λ es r is. any_round Rounds es r is.0)
+    (λ es r s fit a b. one_round es r s a.0 b.0 (λ p. a.1 p ∙ sym (b.1 p))) (λ r. tt) old rounds others new newer tt
+    (are_so whole_at old rounds reached.cut so) (are_so whole_at old others reached'.cut so') reached.merged
+    reached'.merged reached.settled reached'.settled
+
+-- ---- snap rounding
+
+-- each piece that a round leaves leads forward
+pieces_forward : (r : Round) → IsForwardBy ends_of (pieces_of r)
+pieces_forward r = all_of_entries (λ g. point_lt g.a g.b ≡ true) (pieces_of r) (λ g has.
+    let from = Contains-from_flat_map (pieces_through (whole_cuts r)) r.edges g has in
+    let e : CountedEdge = from.0 in
+    let ss : List Step = steps_through e.a (whole_cuts r e ++ e.b ∷ []) in
+    let along = Contains-from_map (piece_along e) ss g from.2 in
+    subst (λ (h : CountedEdge). point_lt h.a h.b ≡ true) along.2 (long_forward along.0
+    (All-contains IsLong ss along.0 (long_through e.a (whole_cuts r e ++ e.b ∷ [])) along.1)))
+
+-- snap rounding takes one round
+one_of_snaps : (old : List CountedEdge) (r s : Round) → IsForwardBy ends_of old → IsSnapRound old r →
+    IsSnapRound old s → pieces_of r ≡ pieces_of s
+one_of_snaps old r s forward (inl (whole, a)) (inl (whole', b)) = one_whole_round old r s whole a b
+one_of_snaps old r s forward (inl (whole, a)) (inr (not_whole, b)) = absurd (not_whole
+    (subst MeetInWholePoints (IsMerged-unique old r.edges s.edges a.merged b.merged) whole))
+one_of_snaps old r s forward (inr (not_whole, a)) (inl (whole, b)) = absurd (not_whole
+    (subst MeetInWholePoints (IsMerged-unique old s.edges r.edges b.merged a.merged) whole))
+one_of_snaps old r s forward (inr (not_whole, a)) (inr (not_whole', b)) = one_snap old r s forward a b
+
+pub one_snapped_arrangement : OneSnappedArrangement
+one_snapped_arrangement rounds others old new newer forward reached reached' =
+    one_reached IsSnapRound (IsForwardBy ends_of) (any_round Snapping) one_of_snaps pieces_forward old rounds others new
+    newer forward reached.cut reached'.cut reached.merged reached'.merged reached.settled reached'.settled

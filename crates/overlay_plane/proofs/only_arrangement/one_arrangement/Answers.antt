@@ -1,0 +1,9 @@
+-- The laws are proved in proofs/OneArrangement.antt.
+use Rattle.overlay_plane.proofs.OneArrangement.{one_arrangement, one_snapped_arrangement}
+use Rattle.overlay_plane.proofs.only_arrangement.one_arrangement.Goals as goal
+
+pub returns-clause-rounds : goal.returns-clause-rounds
+returns-clause-rounds c = one_arrangement
+
+pub returns-clause-snapped : goal.returns-clause-snapped
+returns-clause-snapped c = one_snapped_arrangement

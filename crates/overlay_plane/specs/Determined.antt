@@ -1,0 +1,24 @@
+-- Arrangements are determined: by snap rounding outright, and by rounds once it is told how each point of the plane is
+-- rounded.
+use Rattle.std.specs.Prelude.{◌≡◌, List, All}
+use Rattle.overlay_geom.specs.Edges.{CountedEdge, ends_of}
+use Rattle.overlay_geom.specs.Plane.{Point, PlanePoint}
+use Rattle.overlay_geom.specs.declared.solver.Solver.TheVariants.{Rounds, Snapping}
+use Rattle.overlay_plane.specs.Arrangements.{IsReachedBy}
+use Rattle.overlay_plane.specs.EdgeLists.{IsForwardBy}
+use Rattle.overlay_plane.specs.Rounds.{Round}
+
+-- the rounds take each point of the plane to this whole point
+abbrev pub RoundAs : (PlanePoint → Point) → List Round → Type 0
+RoundAs whole_at rounds = All (λ r. (p : PlanePoint) → r.whole_at p ≡ whole_at p) rounds
+
+-- two arrangements of one list, by rounds that round alike, are one
+abbrev pub OneArrangement : Type 0
+OneArrangement = (whole_at : PlanePoint → Point) (rounds others : List Round) (old new newer : List CountedEdge) →
+    RoundAs whole_at rounds → RoundAs whole_at others → IsReachedBy Rounds rounds old new →
+    IsReachedBy Rounds others old newer → new ≡ newer
+
+-- two arrangements of a list of forward edges by snap rounding are one
+abbrev pub OneSnappedArrangement : Type 0
+OneSnappedArrangement = (rounds others : List Round) (old new newer : List CountedEdge) → IsForwardBy ends_of old →
+    IsReachedBy Snapping rounds old new → IsReachedBy Snapping others old newer → new ≡ newer
