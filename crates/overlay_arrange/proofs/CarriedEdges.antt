@@ -1,4 +1,4 @@
--- Held edges with what they carry, and their counted edges alone.
+-- Held edges with their values, and their counted edges alone.
 use Rattle.std.proofs.Common.{◌≡◌, ℤ, List, sym, ap, ◌∙◌}
 use Rattle.std.proofs.lemmas.Simd.{map-map}
 use Rattle.overlay_geom.specs.Counts.{Counts}

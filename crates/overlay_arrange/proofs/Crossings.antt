@@ -25,7 +25,7 @@ is_ge-point_cmp p q = by (point_lt p q) (point_lt q p)
     by false true = refl
     by false false = refl
 
--- so a program finds it that asks for the order of the two
+-- a program finds it that asks for the order of the two
 pub not_before : (p q : Point) (o : Ordering) (r : Bool) → o ≡ point_cmp p q → r ≡ is_ge o → (t : Bool) → r ≡ t →
     not (point_lt p q) ≡ t
 not_before p q o r order answer t is = sym (is_ge-point_cmp p q) ∙ ap is_ge (sym order) ∙ sym answer ∙ is

@@ -10,7 +10,7 @@ use Rattle.overlay_arrange.specs.Content.{plain_edge, plain_edges}
 use Rattle.overlay_arrange.specs.declared.edge.CountedEdge.{CountedEdge as HeldEdge}
 
 module _ {I C : Type 0} (whole : I → ℤ) (counts : C → Counts) where
-  -- what one edge weighs
+  -- the weight of one edge
   abbrev pub held_weight : HeldEdge I C → ℕ
   held_weight e = weight_of_counts (counts e.count)
 

@@ -85,7 +85,7 @@ module _ (es : List CountedEdge) (ms : List Meeting) (meetings : AreMeetings es 
           (Contains-append_right (both_ends led.0) (cut_points es led.0) v
           (subst (Contains (cut_points es led.0)) m.2 led.2))
 
-  -- so a list with the same members that ascends holds the hot points
+  -- a list with the same members that ascends holds the hot points
   pub are_hot_points : (vs : List Point) → HaveSameMembers ends_and_met vs → ArePointsAscending vs → AreHotPoints es vs
   are_hot_points vs members up = record {
     members = record {

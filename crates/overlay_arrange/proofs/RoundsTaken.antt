@@ -20,7 +20,7 @@ split_at_once most old new merged settled = record {
   reached = record { cut = tt; merged = merged; settled = settled };
 }
 
--- and the answer that it was not cut is right
+-- the answer that it was not cut is right
 pub uncut_where_settled : {solver : Solver} {old new : List CountedEdge} → IsMerged old new → IsSettled new →
     (false ≡ false) ↔ IsReachedBy solver [] old new
 uncut_where_settled merged settled = (λ same. record { cut = tt; merged = merged; settled = settled }, λ reached. refl)

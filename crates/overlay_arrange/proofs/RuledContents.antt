@@ -33,7 +33,7 @@ neither_is_taken Difference = refl
 neither_is_taken InverseDifference = refl
 neither_is_taken Xor = refl
 
--- so the rules do not hold of two windings 0
+-- the rules do not hold of two windings 0
 pub none_of_zero : (fill : FillRule) (rule : OverlayRule) → rules_hold fill rule (pos 0) (pos 0) ≡ false
 none_of_zero fill rule = ap (λ t. rule_holds rule t t) (zero_is_empty fill) ∙ neither_is_taken rule
 

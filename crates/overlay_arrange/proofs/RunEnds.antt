@@ -93,7 +93,7 @@ module _ {I C : Type 0} (whole : I → ℤ) (counts : C → Counts) where
         by true d = absurd (none (d.0 refl))
         by false d = refl
 
-    -- so the test passes in the front of the list alone
+    -- the test passes in the front of the list alone
     pub starts-parted : (x : ℤ) → IsPartitionedBy (starts_up_to x) es
     starts-parted x j k d le within passes =
         let further = no_further_left j k d le within in

@@ -71,7 +71,7 @@ module _ (es : List CountedEdge) where
           let is : e ≡ f = sym at_e.1 ∙ get_or_default es has_e.0 e f at_e.0 ∙ there in
           subst (λ (g : CountedEdge). edge_eq (ends_of e) (ends_of g) ≡ true) is (edge_eq-itself (ends_of e))
 
-  -- and each edge of an ascending settled list meets the later ones in ends alone
+  -- each edge of an ascending settled list meets the later ones in ends alone
   pub settled_with_later : IsSettled es → IsAscending es → (i : ℕ) → AreSettledUpTo es i (length es)
   settled_with_later settled up i k e f past less at_e at_f =
       let comes : edge_lt (ends_of e) (ends_of f) ≡ true =

@@ -81,7 +81,7 @@ module _ (count : CountedEdge → ℤ) (fs : List CountedEdge) (r : IsBalancedAr
     left : turns_left (ends_of p) (ends_of e) ≡ true
     left = leads_left i (i + 1) p e (omega arith) within here next together
 
-    -- so the first is not vertical
+    -- the first is not vertical
     over : covers (ends_of p) p.a.x (pos 1) ≡ true
     over =
         let wide = wide_before_left (ends_of p) (ends_of e) (forward p at_p) (forward e at_e)

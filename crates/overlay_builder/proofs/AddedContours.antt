@@ -34,7 +34,7 @@ pub of_contour : (keep : Bool) (f : Step → CountedEdge) (ps : List Point) (old
 of_contour true f ps old new h = record { taken = h.taken; is_taken = h.thinned; content = h.content }
 of_contour false f ps old new h = record { taken = h.taken; is_taken = h.thinned; content = h.content }
 
--- an edge with what it carries, without that
+-- an edge with its value, without that
 abbrev edge_alone : {C : Type 0} → Carried C → CountedEdge
 edge_alone x = x.edge
 
@@ -63,7 +63,7 @@ dataless_pass_once t pass is s = ap (λ (p : StepCounts (CountWithData (Unit {0}
 module _ (keep : Bool) (t : ShapeType) {C : Type 0} (counts : C → Counts) (kind : PathKind) (pass : StepCounts C)
     (kind_is : kind ≡ contour_kind keep)
     (once : PassesOnce counts t pass) where
-  -- the edges of its steps, without what they carry
+  -- the edges of its steps, without their values
   edges_alone : (λ (s : Step). (passed_edge counts pass s).edge) ≡ edge_for t
   edges_alone = λ i s. edge_with (edge_of s).a (edge_of s).b (once s i)
 

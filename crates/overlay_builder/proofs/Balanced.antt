@@ -60,7 +60,7 @@ contour_is_balanced Clip ps =
     subst HasBalancedCounts (same_edges clip_edge (edge_for Clip) as_clip (steps_of ps))
     (added_contours_are_balanced.clip ps)
 
--- so a content with them added has balanced counts
+-- a content with them added has balanced counts
 pub contour_keeps_balance : (keep : Bool) (t : ShapeType) (ps : List Point) (old new : List CountedEdge)
     → AddsPath (contour_kind keep) (edge_for t) ps old new → HasBalancedCounts old → HasBalancedCounts new
 contour_keeps_balance true t ps old new h before =

@@ -27,7 +27,7 @@ refusal_of_path weigh path old new NotSettled h = absurd (h.no_query refl)
 refusal_of_path weigh path old new TooManyEdges h = inr (h.too_many refl)
 refusal_of_path weigh path old new Failed h = inl refl
 
--- ---- edges with what they carry, seen as edges alone, by a call that answers something else
+-- ---- edges with their values, seen as edges alone, by a call that answers something else
 
 module _ {E F V W : Type 0} (see : E → F) (weigh : List F → ℕ) (Adds : List E → List E → Type 0)
     (AddsSeen : List F → List F → Type 0) (WeighsTooMuch : List E → Type 0) (SeenWeighsTooMuch : List F → Type 0)

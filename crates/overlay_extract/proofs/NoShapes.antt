@@ -49,7 +49,7 @@ no_contours true filled keeps contours is = is.are
     none_zipped R [] (y ∷ ys) same each = absurd each
     none_zipped R (x ∷ xs) (y ∷ ys) same each = let long = ap length same in absurd (omega arith)
 
--- so the result over no edges has no shape
+-- the result over no edges has no shape
 pub no_shapes : (q : Asked) (result : List (List (List Point))) → IsResult q [] result → result ≡ []
 no_shapes q result is =
     let none = no_contours q.ogc (filled_asked q) (is_kept q) is.contours is.cut in

@@ -112,6 +112,6 @@ module _ (filled : Hand) (contours : List Contour) (can : CanBeBound filled (wal
       by false s t first second = one_found filled (walks_in contours) can.contours can.single can.distinct_above
           can.settled (known_in contours) i s t first second
 
-  -- so the contours are bound to the same shapes
+  -- the contours are bound to the same shapes
   pub one_bound : shapes_bound (contours_bound contours shapes) ≡ shapes_bound (contours_bound contours others)
   one_bound = shapes_alike contours shapes others found.counted found'.counted agree_at_holes

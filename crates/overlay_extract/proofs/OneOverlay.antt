@@ -40,7 +40,7 @@ module _ (q : Asked) (es : List CountedEdge) (are : AreArrangedWithBalance es) w
   alternate : Alternates (selected_of q es)
   alternate = selected_alternate (region_asked q) subj_of clip_of es (ruled_of q es are) (filled_asked q)
 
-  -- so the contours that they are cut into are one list, and so are the shapes to which these are bound
+  -- the contours that they are cut into are one list, and so are the shapes to which these are bound
   pub cut_alike : (grouped : Bool) (contours others : List Contour) →
       IsCutBy grouped (filled_asked q) (is_kept q) (selected_of q es) contours →
       IsCutBy grouped (filled_asked q) (is_kept q) (selected_of q es) others → contours ≡ others

@@ -86,7 +86,7 @@ module _ (q : Asked) (es : List CountedEdge) (kept : List (List Step)) (are : Ar
       (all_kept q.area_width are.walks
       (walks_are_contours (region_asked q) subj_of clip_of es (filled_asked q) are.walks are.cut))
 
-  -- so the selected steps are cut into the walks that are kept
+  -- the selected steps are cut into the walks that are kept
   cut_all : q.min_output_area ≡ 0 → AreCutFrom (region_asked q) subj_of clip_of es (filled_asked q) kept
   cut_all all = subst (AreCutFrom (region_asked q) subj_of clip_of es (filled_asked q)) (sym (all_walks all)) are.cut
 

@@ -20,7 +20,7 @@ module _ {X : Type 0} (R : X → X → Type 0) (apart : (x : X) → ¬ (R x x))
         ]
       ]
 
-  -- and the rest has the same entries
+  -- the rest has the same entries
   same_rest : (x : X) (xs ys : List X) → All (R x) xs → All (Contains (x ∷ ys)) xs → All (Contains ys) xs
   same_rest x xs ys first has = λ k d l.
       elim (Contains-cases x ys (get_or xs k d) (has k d l)) [

@@ -64,7 +64,7 @@ module _ {I : Type 0} (whole : I → ℤ) (ps c : List (IntPoint I)) where
       ap₂ (λ p qs. plain_points whole p ∷ qs) (part_longer ps c r (All-head (IsInside (length ps)) r rs all))
       (paths_longer rs (All-tail (IsInside (length ps)) r rs all))
 
-  -- so a contour that is added is one path more
+  -- a contour that is added is one path more
   pub paths_added : (rs : List (Range ℕ)) → AreInside (length ps) rs
       → paths_in whole (ps ++ c) (rs ++ range_behind ps c ∷ []) ≡ paths_in whole ps rs ++ plain_points whole c ∷ []
   paths_added rs all =

@@ -88,7 +88,7 @@ module _ {I : Type 0} (whole : I → ℤ) (ps points : List (IntPoint I)) (rs ra
       ap₂ (λ a b. a ∷ b) (shape_stays all s (All-head (IsInside (length rs)) s hs inside))
       (shapes_stay all hs (All-tail (IsInside (length rs)) s hs inside))
 
-  -- and the range of the new is one shape more
+  -- the range of the new is one shape more
   shapes_joined : (hs : List (Range ℕ)) → AreShapesPacked ps rs hs →
       shapes_in whole (ps ++ points) (rs ++ ranges) (hs ++ range_behind rs ranges ∷ [])
       ≡ shapes_in whole ps rs hs ++ paths_in whole (ps ++ points) ranges ∷ []

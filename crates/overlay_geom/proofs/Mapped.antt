@@ -78,7 +78,7 @@ map-filter f p (x ∷ xs) =
       | false ↦ rest
     ]
 
--- the part of a list from a place to its end, mapped, is what is left from there
+-- the part of a list from a place to its end, mapped, is the rest from there
 pub mapped_from : {X Y : Type 0} (f : X → Y) (xs : List X) (i : ℕ) →
     map f (slice_range xs i (length xs)) ≡ map f (drop i xs)
 mapped_from f xs i =

@@ -63,7 +63,7 @@ list_any-filter_shuffled mark p xs ys h =
 
 -- ---- weights
 
--- what a mark weighs
+-- the weight of a mark
 abbrev pub mark_weight : Bool → ℕ
 mark_weight b = cond b 1 0
 

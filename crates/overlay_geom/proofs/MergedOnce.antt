@@ -31,7 +31,7 @@ same_first x xs y ys x_first y_first has_x has_y =
       ]
     ]
 
--- and the rest has the same edges
+-- the rest has the same edges
 same_rest : (x : CountedEdge) (xs ys : List CountedEdge) → All (ComesBefore x) xs → All (Contains (x ∷ ys)) xs →
     All (Contains ys) xs
 same_rest x xs ys first has = λ k d l.

@@ -30,7 +30,7 @@ nearest-shifted v z d p =
 size-nonneg : (z : ℤ) → pos 0 ≤ℤ z → pos (unsigned_abs z) ≡ z
 size-nonneg z h = omega (arith, ints)
 
--- and the size of one that is not positive is that number with the other sign
+-- the size of one that is not positive is that number with the other sign
 size-nonpos : (z : ℤ) → z ≤ℤ pos 0 → neg_ℤ (pos (unsigned_abs z)) ≡ z
 size-nonpos z h = omega (arith, ints)
 

@@ -67,7 +67,7 @@ edge_eq-is_tie e f =
 
 -- ---- what follows
 
--- points with the same coordinates are one point
+-- points with the same coordinates are equal
 pub same_point : (p q : Point) → p.x ≡ q.x → p.y ≡ q.y → p ≡ q
 same_point p q same_x same_y = λ i. record { x = same_x i; y = same_y i }
 

@@ -62,7 +62,7 @@ before_after_up_to p q r h k = record {
     both : r.x ≤ℤ p.x → q.x ≤ℤ p.x → r.x ≤ℤ q.x → p.y <ℤ r.y
     both le here there = let a = h.y here in let b = k.y there in omega linear
 
--- three points, each up to the next round, are one point
+-- three points, each up to the next round, are equal
 pub same_round : (p q r : Point) → IsUpTo p q → IsUpTo q r → IsUpTo r p →
     (p.x ≡ q.x) × (p.y ≡ q.y) × (p.x ≡ r.x) × (p.y ≡ r.y)
 same_round p q r pq qr rp =

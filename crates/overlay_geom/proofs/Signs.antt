@@ -57,7 +57,7 @@ mul-lt k a b p q =
     let negated = mul-neg_ℤ k a in
     omega linear
 
--- and the other, also where it is 0
+-- the other, also where it is 0
 pub mul-le : (k a b : ℤ) → pos 0 ≤ℤ k → a ≤ℤ b → (k *ℤ a) ≤ℤ (k *ℤ b)
 mul-le k a b p q =
     let nonneg = mul-nonneg k (b -ℤ a) p (omega linear) in

@@ -14,7 +14,7 @@ use Rattle.overlay_geom.proofs.Between.{without, between_without}
 use Rattle.overlay_geom.proofs.Marks.{mark_weight-or}
 use Rattle.overlay_geom.proofs.Merging.{ComesBefore, Ascends, all_joined, AllPairs-head, AllPairs-tail}
 
--- what one edge weighs
+-- the weight of one edge
 abbrev pub edge_weight : CountedEdge → ℕ
 edge_weight e = weight_of_counts e.counts
 

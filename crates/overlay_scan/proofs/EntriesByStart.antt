@@ -23,7 +23,7 @@ use Rattle.overlay_plane.proofs.Tests.{ge_from_test, lt_from_test, test_from_le,
 use Rattle.overlay_scan.specs.Scan.{Entry, Sweep, live_at, IsOver, MeetsOthers, IsNewAmong}
 use Rattle.overlay_scan.specs.Sweeps.{IsByStart, IsSwept}
 
--- a fact of all from a place on holds of what stands there
+-- a fact of all from a place on holds of the entry there
 pub at_front : {X : Type 0} (P : X → Type 0) (xs : List X) (i : ℕ) (x : X) → i < length xs → x ≡ get_or xs i x →
     All P (drop i xs) → P x
 at_front P xs i x lt is all = subst P (sym is)

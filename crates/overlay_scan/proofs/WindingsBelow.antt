@@ -63,7 +63,7 @@ module _ (count : CountedEdge → ℤ) (es : List CountedEdge) (r : IsBalancedAr
           (starts_elsewhere f strict) ∙ +ℤ_idr (count f)
       by false other = +ℤ_idl (cond (point_eq f.a e.a && turns_left (ends_of f) (ends_of e)) (count f) (pos 0))
 
-  -- so the winding below the edge is the sum of the counts of the edges below its start
+  -- the winding below the edge is the sum of the counts of the edges below its start
   pub winding_counts_below : winding_below count es e ≡ total_taken below count es
   winding_counts_below = winding_from_a_start count es r e at_e
       ∙ sym (total-add (λ f. cond (is_strictly_below (ends_of f) (in_plane e.a)) (count f) (pos 0))

@@ -1,4 +1,4 @@
--- A cut under way: the walks so far, before each cut of what is left, are a cut of all steps.
+-- A cut under way: the walks so far, before each cut of the rest, are a cut of all steps.
 use Rattle.std.proofs.Common.{◌≡◌, ◌<◌, not, List, [], ◌∷◌, ◌++◌, length, sym, ap, ◌∙◌, subst, arith}
 use Rattle.std.proofs.lemmas.List.{append-nil, append_assoc, length-append}
 use Rattle.std.proofs.lemmas.List.Sorted.{length_permutation}

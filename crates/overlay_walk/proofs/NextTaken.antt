@@ -1,4 +1,4 @@
--- The step at the place that a search for the next step finds, and what is left once it is taken.
+-- The step at the place that a search for the next step finds, and the rest once it is taken.
 use Rattle.std.proofs.Common.{◌≡◌, ℕ, ◌<◌, Bool, true, ℤ, List, [], ◌∷◌, length, get_or, sym, ap, ◌∙◌, subst}
 use Rattle.std.specs.Prelude.{Any, Contains, None, set}
 use Rattle.std.proofs.lemmas.List.{length-map}

@@ -93,7 +93,7 @@ module _ {I : Type 0} (whole : I → ℤ) where
         (point_lt-itself (plain_step whole (get_or ss i d)).from))
         (cases_lt i j)
 
-    -- so each test passes in the front of the list alone
+    -- each test passes in the front of the list alone
     pub below-parted : IsPartitionedBy (leaves_below p) ss
     below-parted i j d up h less =
         point_lt-after_up_to (plain_step whole (get_or ss i d)).from (plain_step whole (get_or ss j d)).from p

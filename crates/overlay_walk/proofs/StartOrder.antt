@@ -52,7 +52,7 @@ turned : (e f : Edge) → is_left_at_start e f ≡ true → turns_left f e ≡ t
 turned e f both = (and_parts (point_eq e.a f.a) (turns_left f e) both).1
 
 module _ (e f g : Edge) (he : IsForward e) (hf : IsForward f) (hg : IsForward g) where
-  -- left of what is left
+  -- left of the rest
   left_of_left : turns_left f e ≡ true → turns_left g f ≡ true → turns_left g e ≡ true
   left_of_left ef fg = test_from_lt (pos 0) (edge_turn g e)
       (left_after_left g f e hg hf he (lt_from_test (pos 0) (edge_turn g f) fg)

@@ -22,7 +22,7 @@ use Rattle.overlay_plane.proofs.OrbitsApart.{is_step_of_decides}
 use Rattle.overlay_plane.proofs.OrbitsSoFar.{orbits_grow}
 use Rattle.overlay_plane.proofs.TurnOrder.{met_total}
 
--- ---- what is left
+-- ---- the rest
 
 -- lists with the same steps leave the same
 without-same : (steps xs ys : List Step) → ((s : Step) → is_step_of xs s ≡ is_step_of ys s) →

@@ -93,7 +93,7 @@ module _ {I : Type 0} (whole : I → ℤ) (limit : ℕ) (all : List (StepTaken I
           next taken same)
 
       module _ (among : Contains left t) (fewer : All (Contains left) after) where
-        -- what is left was there
+        -- the entries left were there
         pub fewer_taken : All (Contains all) after
         fewer_taken = All-weaker (Contains left) (Contains all)
             (λ u c. All-contains (Contains all) left u taking.fewer c) after fewer
