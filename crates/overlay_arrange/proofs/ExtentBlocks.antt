@@ -17,18 +17,18 @@ use Rattle.overlay_arrange.proofs.GatheredMeetings.{one_entry}
 
 -- ---- enclosing
 
--- an extent encloses itself
+-- a box encloses itself
 pub covers_itself : (s : Extent) → Encloses s s
 covers_itself s = record { low = omega linear; high = omega linear; first = omega arith; last = omega arith }
 
--- what encloses an extent that encloses a third one encloses that one
+-- what encloses a box that encloses a third one encloses that one
 pub covers_through : (s t u : Extent) → Encloses s t → Encloses t u → Encloses s u
 covers_through s t u one two =
     let a = one.low in let b = two.low in let c = one.high in let d = two.high in
     let e = one.first in let f = two.first in let g = one.last in let h = two.last in
     record { low = omega linear; high = omega linear; first = omega (arith, e, f); last = omega (arith, g, h) }
 
--- what lies apart from an extent lies apart from each one that this encloses
+-- what lies apart from a box lies apart from each one that this encloses
 pub apart_under : (s t u : Extent) → Encloses t u → IsApart s t → IsApart s u
 apart_under s t u covers = by
   where
@@ -87,7 +87,7 @@ blocks_of_blocks n m ss blocks over cover cover_over = λ k s d at_s.
 
 -- ---- making blocks
 
--- each extent at one of the first places is enclosed by that of its block; and there are so many blocks as these places
+-- each box at one of the first places is enclosed by that of its block; and there are so many blocks as these places
 -- need
 pub record AreBlocksUpTo (ss blocks : List Extent) (i : ℕ) : Type 0 where
   pub enough : i ≤ length blocks * 8
@@ -110,7 +110,7 @@ module _ (ss blocks : List Extent) (i : ℕ) (some : AreBlocksUpTo ss blocks i) 
   or_before : (k : ℕ) → k < i + 1 → (k ≡ i) ⊎ (k < i)
   or_before k lt = eq-or-lt_of_le (let le : k ≤ i = omega (arith, lt) in le)
 
-  -- the extent at place i is s
+  -- the box at place i is s
   is_s : (k : ℕ) (t : Extent) → k ≡ i → IsAt ss k t → t ≡ s
   is_s k t same at_t = one_entry ss i t s (subst (λ n. IsAt ss n t) same at_t) at_s
 

@@ -43,7 +43,7 @@ no_places ss from js = record {
   all = λ k s past less. absurd (omega (arith, past, less));
 }
 
--- that of one extent more
+-- that of one box more
 pub one_place : (ss : List Extent) (from at : ℕ) (s : Extent) → IsAt ss at s → from ≤ at → (old js : List ℕ) →
     AddsPlaces ss from at old js → AddsPlaces ss from (at + 1) old (js ++ s.first ∷ [])
 one_place ss from at s at_s past old js adds = record {
@@ -75,7 +75,7 @@ one_place ss from at s at_s past old js adds = record {
 
 -- ---- the run
 
--- the places of the extents that are passed neither above nor below
+-- the places of the boxes that are passed neither above nor below
 pub run_added : (left right first last : ℤ) (e : CountedEdge) (ss : List Extent) (from low high to : ℕ)
     (old new : List ℕ) → e.a.x ≤ℤ e.b.x → from ≤ low → high ≤ to →
     ((x : ℤ) → left ≤ℤ x → x ≤ℤ right → IsAmidX e x →

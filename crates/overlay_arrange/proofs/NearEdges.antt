@@ -38,7 +38,7 @@ module _ (es : List CountedEdge) (first end : ℕ) (e : CountedEdge) (limit : �
         (λ (behind : end ≤ j). inr (settled j f at_f (inl (right_of_run j f behind at_f)))) (cases_lt j end);
   }
 
-  -- a search for what does not lie apart from the extent of its run finds them
+  -- a search for what does not lie apart from the box of its run finds them
   pub searched_near : (ss : List Extent) (js : List ℕ) → IsPermutation (extents_of es) ss →
       IsSearchedTo ss (run_of e first end) (length ss) js → AreNearBehind es e first js
   searched_near ss js moved searched = record { within = within; all = all }

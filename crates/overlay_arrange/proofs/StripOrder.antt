@@ -21,7 +21,7 @@ use Rattle.overlay_arrange.specs.Near.{AreApartFrom}
 use Rattle.overlay_arrange.proofs.ExtentBlocks.{same_block}
 use Rattle.overlay_arrange.proofs.GatheredMeetings.{one_entry}
 
--- with an extent at its place behind them they are in strips
+-- with a box at its place behind them they are in strips
 strips_pushed : (width : ℕ) (ss : List Extent) (t : Extent) → t.first ≡ length ss → t.last ≡ length ss →
     AreInStrips width ss → AreInStrips width (ss ++ t ∷ [])
 strips_pushed width ss t first last are k s at_s = ⊎_elim here before
@@ -124,7 +124,7 @@ module _ (width : ℕ) (some : 0 < width) where
 
 -- ---- strip by strip
 
--- the given extents: those in finished strips, and those in the strip so far
+-- the given boxes: those in finished strips, and those in the strip so far
 pub record StripsSoFar (width : ℕ) (given xs ys : List Extent) : Type 0 where
   pub permutation : IsPermutation given (xs ++ ys)
   pub strips : AreInStrips width (xs ++ ys)
@@ -233,7 +233,7 @@ module _ (width : ℕ) (some : 0 < width) (ss : List Extent) (of : Extent) where
         absurd (omega (arith, k_low, product, next, past))) (cases_lt of.last s.first)) ends
 
   module _ (are : AreByHeights width ss) where
-    -- where the extent at a place lies above, so do those after it in its strip
+    -- where the box at a place lies above, so do those after it in its strip
     pub rest_above_apart : (at : ℕ) (s : Extent) → IsAt ss at s → of.high <ℤ s.low →
         AreApartFrom ss of at (at + (width - at % width))
     rest_above_apart at s at_s above k t past less at_t =
