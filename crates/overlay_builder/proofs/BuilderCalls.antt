@@ -64,7 +64,7 @@ module _ {E F V W : Type 0} (see : E → F) (weigh : List F → ℕ) (Adds : Lis
     no_query = λ same. h.no_query (ap Err (ap error_of same));
   }
 
--- ---- what an iterator gives
+-- ---- the items of an iterator
 
 module _ {X S E V : Type 0} (weigh : List E → ℕ) (steps : S → Option X → S → Type 0) (iter : S)
     (Adds : List X → List E → List E → Type 0) (WeighsTooMuch : List X → List E → Type 0) (old new : Held E) where

@@ -17,7 +17,7 @@ no_walks : (hand_of : Step → Hand) (walks : List (List Step)) → IsCutInto ha
 no_walks hand_of walks done = refl
 no_walks hand_of walks (next start orbit others) = let inside = start.among.1 in absurd (omega arith)
 
--- and what is mapped to none is none
+-- only an empty list is mapped to an empty list
 none_of_none : {X Y : Type 0} (f : X → Y) (xs : List X) → map f xs ≡ [] → xs ≡ []
 none_of_none f [] same = refl
 none_of_none f (x ∷ xs) same = let long = ap length same in absurd (omega arith)

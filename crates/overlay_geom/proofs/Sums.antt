@@ -1,4 +1,4 @@
--- Sums of counts by ends: they are settled by what the edges between each two ends add up to.
+-- Sums of counts by ends, determined by the sums over the edges between each two ends.
 use Rattle.std.proofs.Common.{◌≡◌, ℕ, zero, suc, ◌+◌, ◌≤◌, Bool, true, false, cond, ℤ, pos, ◌+ℤ◌, List, [], ◌∷◌, length}
 use Rattle.std.proofs.Common.{refl, ap, sym, ◌∙◌, arith, inl, inr}
 use Rattle.std.specs.List.{All}

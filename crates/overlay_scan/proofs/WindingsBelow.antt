@@ -22,7 +22,7 @@ use Rattle.overlay_plane.proofs.Totals.{total-same, total-zero, total-add}
 use Rattle.overlay_plane.proofs.WhereEdgesStart.{covers_start}
 use Rattle.overlay_scan.proofs.BelowStarts.{IsBeside, below_through}
 
--- an edge below the start of another one is over that start
+-- an edge below the start of an edge is over that start
 pub below_is_over : (e f : Edge) → point_lt e.a e.b ≡ true → point_lt f.a f.b ≡ true → is_below_anchor e f ≡ true →
     covers f e.a.x (pos 1) ≡ true
 below_is_over e f forward_e forward_f below = ⊎_elim
@@ -91,7 +91,7 @@ module _ (count : CountedEdge → ℤ) (es : List CountedEdge) (r : IsBalancedAr
         (meets_under (ends_of g) (ends_of f) e.a.x (pos 1) (r.planar.settled g f at_g at_f) under) under is;
   }
 
-  -- and it is the winding above the greatest edge below
+  -- the winding is that above the greatest edge below
   pub winding_above_the_greatest : (g : CountedEdge) → IsGreatestTaken es e.a.x (pos 1) below g →
       winding_below count es e ≡ winding_above count es g
   winding_above_the_greatest g h = winding_counts_below

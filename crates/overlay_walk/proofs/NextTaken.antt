@@ -41,7 +41,7 @@ module _ {I : Type 0} (whole : I → ℤ) (steps : List (StepTaken I)) (marks : 
     found_left = subst (λ u. Contains (unmarked steps marks) u) (sym is)
         (unmarked_at steps marks t m same within next.untaken)
 
-    -- and the next of them
+    -- the step found is the next of them
     pub found_next : IsNextStep (plain_steps whole (unmarked steps marks)) hand s (plain_step whole t)
     found_next = subst (λ ss. IsNextStep ss hand s (plain_step whole t))
         (sym (unmarked-map (plain_step whole) steps marks))

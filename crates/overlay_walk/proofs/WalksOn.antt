@@ -143,7 +143,7 @@ module _ (steps : List Step) (hand : Hand) (leads : LeadsOn steps hand) (start :
     comes_round same = round.closes
         (subst (λ u. IsNextStep steps hand (last_of all) u) (same ∙ sym way.begins) on_from_last)
 
-    -- and has taken all its steps
+    -- the walk has taken all its steps
     pub takes_all : t ≡ start → after ≡ without steps all
     takes_all same = taken ∙ ap (λ ss. without ss (t ∷ [])) way.rest ∙ by all (let l = longer in omega arith)
         (way.begins ∙ sym same)
