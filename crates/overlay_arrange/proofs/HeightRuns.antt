@@ -28,7 +28,7 @@ module _ (e : CountedEdge) (x : ℤ) (ss : List Extent) (from to : ℕ) where
     above_to less passes k t past lt at_t v under =
         passes v (let le = up k at t s past (omega (arith, lt)) less at_t at_s in omega (linear, le, under))
 
-    -- and one that passes below it passes below those behind it
+    -- an edge that passes below a box passes below those behind it
     pub below_from : from ≤ at → PassesBelow e x s.low → ArePassedBelow e x ss at to
     below_from past passes k t behind less at_t v over =
         passes v (let le = up at k s t past behind less at_s at_t in omega (linear, le, over))

@@ -72,7 +72,7 @@ module _ {X : Type 0} (extent : X → ℕ → Extent) where
           sym (get_or-map (λ (n : Numbered X). extent n.item n.place) (numbered 0 xs) has.0 d s inside) ∙ has.2,
         )
 
-    -- and that of each item is there
+    -- the box of each item is there
     pub extent_there : (j : ℕ) (x : X) → IsAt xs j x → Contains ss (extent x j)
     extent_there j x at_x =
         let has = are_numbered.all j at_x.0 in

@@ -37,7 +37,7 @@ strips_pushed width ss t first last are k s at_s = ⊎_elim here before
     before : k < length ss → (s.first / width ≡ k / width) × (s.last ≡ s.first)
     before less = are k s (less, sym (get_or-append ss (t ∷ []) s k less) ∙ at_s.1)
 
--- what stands in the second part of a list stands there further on
+-- an item in the second part of a list is there further on
 in_second : (xs ys : List Extent) (k : ℕ) (s : Extent) → length xs ≤ k → IsAt (xs ++ ys) k s → Contains ys s
 in_second xs ys k s past at_s =
     let from : length xs + (k - length xs) ≡ k = omega (arith, past) in (
@@ -202,7 +202,7 @@ module _ (width : ℕ) (some : 0 < width) where
 
 module _ (width : ℕ) (some : 0 < width) (ss : List Extent) (of : Extent) where
   module _ (are : AreInStrips width ss) where
-    -- what stands before the first strip lies apart
+    -- the boxes before the first strip lie apart
     pub strips_before_apart : AreApartFrom ss of 0 (of.first / width * width)
     strips_before_apart k s past less at_s =
         let strip = (are k s at_s).0 in
@@ -213,7 +213,7 @@ module _ (width : ℕ) (some : 0 < width) (ss : List Extent) (of : Extent) where
         let whole = div-add-mod' of.first width in
         inr (inr (inr (omega (arith, one, first, whole))))
 
-    -- and what stands behind the last
+    -- the boxes behind the last strip lie apart
     pub strips_behind_apart : (stop : ℕ) → (stop ≡ length ss) ⊎ (stop ≡ of.last / width * width + width) →
         AreApartFrom ss of stop (length ss)
     strips_behind_apart stop ends k s past less at_s = ⊎_elim
