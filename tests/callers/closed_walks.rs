@@ -77,7 +77,8 @@ fn touching<I: IntNumber + PartialEq + From<i16>>(alloc: Global) -> Result<bool,
     )
 }
 
-// The same with steps there and back at both ends: these are dropped, and the walk begins outside the first square.
+// Tests that walk with steps there and back at both ends: these are dropped, and the walk begins outside the first
+// square.
 fn with_steps_back<I: IntNumber + PartialEq + From<i16>>(alloc: Global) -> Result<bool, Fail> {
     is_cut_into::<I>(
         alloc,

@@ -1,4 +1,4 @@
-//! What callers of the library, which are proved, answer on worked rows.
+//! Tests of the proved callers of the library, on worked rows.
 
 mod closed_walks;
 mod places;

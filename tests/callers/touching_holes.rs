@@ -1,4 +1,4 @@
-//! The shape of two holes that touch its outline, the one by way of the other.
+//! The shape of two holes that touch its outline, one of them by way of the other.
 
 use callers::touching_holes::outlines_of_holes;
 use overlay_geom::error::OverlayError;

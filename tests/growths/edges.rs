@@ -21,7 +21,7 @@ const RULE: FillRule = FillRule::NonZero;
 
 const CLIP: ShapeType = ShapeType::Clip;
 
-// Data whose store counts how often an edge was turned round.
+// Data whose store counts the times that an edge was reversed.
 #[derive(Debug, Clone, Copy, PartialEq, Eq)]
 struct Street(u8);
 
@@ -46,7 +46,7 @@ impl OverlayEdgeData for Street {
 
 type Built<'m, I> = EdgeOverlay<I, Street, Memory<'m>>;
 
-// How many edges are held, and how often one of them was turned round.
+// Number of held edges, and number of times that an edge was reversed.
 impl<'m, I: Width> Seen for EdgeOverlay<I, Street, Memory<'m>> {
     type Content = (usize, usize);
 
@@ -70,7 +70,7 @@ fn edges_of<I: Width>(contour: [IntPoint<I>; 4]) -> [InputEdge<I, Street>; 4] {
     [edge(a, b), edge(b, c), edge(c, d), edge(d, a)]
 }
 
-// A builder with the square of a subject, the first edges of another one, and room for no more.
+// A builder with the square of a subject, the first edges of another square, and no room for more.
 fn builder<I: Width>(memory: Memory<'_>, count: usize) -> Answer<Built<'_, I>> {
     let mut overlay = EdgeOverlay::new(memory, 0)?;
     for edge in edges_of(square(0, 2)) {
@@ -90,7 +90,7 @@ fn check_adders<I: Width>(trial: &Trial<'_, impl Abort>) -> Result<(), Fail> {
         || builder::<I>(memory, 0),
         |it| it.add_edge(turned, CLIP),
     )?;
-    // (so many edges that some are added before there is no room)
+    // (enough edges that some are added before there is no room)
     let edges = edges_of::<I>(square_at(0));
     trial.adds_those_before(
         "EdgeOverlay::add_edges",
@@ -117,8 +117,8 @@ fn adders_of_edge_overlay(rt: HostRuntime) -> Result<(), Fail> {
     at_a_width!(rt, check_adders)
 }
 
-// Refuses the growths of a query, of a builder with so many edges of a clip, closed or open: it has failed for good,
-// and answers so at each call.
+// Refuses the growths of a query, of a builder with `count` edges of a clip, closed or open. The builder has then
+// failed for good, and each call answers so.
 fn refuses<'m, I: Width, T: PartialEq + Drop, Q: Fn(&mut Built<'m, I>) -> Answer<T> + Drop>(
     trial: &Trial<'m, impl Abort>,
     name: &str,

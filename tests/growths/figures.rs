@@ -33,7 +33,7 @@ pub(crate) fn square<I: Width>(low: i16, high: i16) -> [IntPoint<I>; 4] {
     ]
 }
 
-/// How many paths each resource has.
+/// Number of paths of each resource.
 pub(crate) const PATHS: usize = 3;
 
 /// The square at a place among those of the resources: none of them meets another.

@@ -1,6 +1,6 @@
 //! Each growth refused in turn, at every public call that answers a `Result`.
 
-// Makes a check at one coordinate type, in memory that may be refused: which type it is changes no request.
+// Makes a check at one coordinate type, in memory that may be refused. The type changes no request.
 macro_rules! at_a_width {
     ($rt:expr, $check:ident) => {{
         let memory = refusing_alloc::refusing::Refusing::new($rt.alloc(), crate::refusals::PLENTY);
@@ -12,7 +12,7 @@ macro_rules! at_a_width {
     }};
 }
 
-// Makes a check at each coordinate type: what a refusal leaves there is kept and read by code of that type.
+// Makes a check at each coordinate type, since code of that type keeps and reads the state after a refusal.
 macro_rules! at_each_width {
     ($rt:expr, $check:ident) => {{
         let memory = refusing_alloc::refusing::Refusing::new($rt.alloc(), crate::refusals::PLENTY);

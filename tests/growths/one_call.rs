@@ -82,7 +82,7 @@ fn overlays_in_one_call(rt: HostRuntime) -> Result<(), Fail> {
     at_a_width!(rt, check_overlays)
 }
 
-// How many paths or shapes a call gives whose growths are refused.
+// Number of paths or shapes that a call gives, with its growths refused in turn.
 pub(crate) fn count_of<T: Drop, A: Allocator, C: Fn() -> Answer<Vec<T, A>> + Drop>(
     trial: &Trial<'_, impl Abort>,
     name: &str,
@@ -153,7 +153,7 @@ fn slices_in_one_call(rt: HostRuntime) -> Result<(), Fail> {
     at_a_width!(rt, check_slices)
 }
 
-// Refuses the growths of both calls on what holds the first square, of one point in it and one outside.
+// Refuses the growths of both calls on `area`, for a point in the first square and a point outside.
 fn locates<I: Width, T: IntPointContainment<I>>(
     trial: &Trial<'_, impl Abort>,
     names: [&str; 2],

@@ -18,7 +18,7 @@ impl<'m, I: Width> Seen for Overlay<I, Memory<'m>> {
     }
 }
 
-// Room for a square, and for two edges of another one: a growth is refused halfway.
+// Room for a square, and for two edges of another square: a growth is refused halfway.
 const ROOM: usize = 6;
 
 /// A builder with a square as subject, and the first of the resources as clips.

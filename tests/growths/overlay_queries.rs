@@ -18,7 +18,7 @@ const RULE: FillRule = FillRule::NonZero;
 
 const CLIP: ShapeType = ShapeType::Clip;
 
-// What calls on a failed builder are given.
+// Arguments of calls on a failed builder.
 #[derive(Drop)]
 pub(crate) struct Figures<'m, I: Width> {
     pub(crate) shape: IntShape<I, Memory<'m>>,
@@ -122,8 +122,8 @@ fn queries_of_overlay(rt: HostRuntime) -> Result<(), Fail> {
     at_a_width!(rt, check_queries)
 }
 
-// Refuses the growths of a query that writes: the output is empty, and the builder has failed. What a failed builder is
-// asked for leaves the output empty, too.
+// Refuses the growths of a query that writes: the output is empty, and the builder has failed. Queries of a failed
+// builder leave the output empty, too.
 fn check_overlay_into<I: Width>(trial: &Trial<'_, impl Abort>) -> Result<(), Fail> {
     let memory = trial.memory;
     let given = figures_of::<I>(memory)?;

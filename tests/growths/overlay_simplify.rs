@@ -14,7 +14,7 @@ use std::test::Fail;
 
 const RULE: FillRule = FillRule::NonZero;
 
-// The first square, clockwise: one that does not stay as it is.
+// The first square, clockwise: a contour that does not stay as it is.
 fn turned<I: Width>() -> [IntPoint<I>; 4] {
     let [a, b, c, d] = square_at(0);
     [d, c, b, a]

@@ -1,4 +1,4 @@
-//! What is extracted from views of `Overlay`.
+//! Extractions from views of `Overlay`.
 
 use crate::figures::{Width, flat_squares, square};
 use crate::overlay_adders::builder;
@@ -49,7 +49,7 @@ fn extracts<'m, I: Width, T: PartialEq + Drop, E: Fn(&mut Buffer<'m, I>) -> Answ
     Ok(())
 }
 
-// The same of an extraction that writes: what is left is empty.
+// Refuses the growths of an extraction that writes: the output is empty then.
 fn check_contours_into<'m, I: Width>(
     trial: &Trial<'m, impl Abort>,
     view: &View<'_, 'm, I>,

@@ -16,7 +16,7 @@ const CLIP: ShapeType = ShapeType::Clip;
 
 type Built<'m, I> = PredicateOverlay<I, Memory<'m>>;
 
-// What the predicates tell shows what is held: each clip below changes it.
+// The predicates show the content: each clip below changes their answers.
 impl<'m, I: Width> Seen for PredicateOverlay<I, Memory<'m>> {
     type Content = [bool; 6];
 
@@ -37,7 +37,7 @@ fn subject<I: Width>() -> [IntPoint<I>; 4] {
     square(0, 4)
 }
 
-// A clip that meets it in a point, one that runs along its border, and one inside it.
+// A clip that meets it in a point, a clip along its border, and a clip inside it.
 fn clip_at<I: Width>(place: usize) -> [IntPoint<I>; 4] {
     match place {
         0 => square(4, 6),
@@ -83,7 +83,7 @@ fn of_both<I: Width>(memory: Memory<'_>, count: usize) -> Answer<Built<'_, I>> {
     builder(memory, count - 1)
 }
 
-// A builder of which each predicate was asked.
+// A builder after each predicate was asked.
 fn asked<I: Width>(memory: Memory<'_>, count: usize) -> Answer<Built<'_, I>> {
     let mut overlay = builder(memory, count)?;
     overlay.content()?;
@@ -245,7 +245,7 @@ fn predicates_of_predicate_overlay(rt: HostRuntime) -> Result<(), Fail> {
     at_a_width!(rt, check_predicates)
 }
 
-// What was found once answers each predicate without memory, and under another rule none.
+// Answers found once serve each predicate without memory; under another rule they do not.
 fn check_asked_again<'m, I: Width>(trial: &Trial<'m, impl Abort>) -> Result<(), Fail> {
     let memory = trial.memory;
     let mut overlay = builder::<I>(memory, PATHS)?;

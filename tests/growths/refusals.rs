@@ -12,7 +12,7 @@ pub(crate) const PLENTY: u64 = 10000;
 /// Memory that may be refused.
 pub(crate) type Memory<'a> = &'a Refusing<Global>;
 
-/// What a call answers.
+/// The answer of a call.
 pub(crate) type Answer<T> = Result<T, OverlayError>;
 
 /// A test, and what it stops by.
@@ -25,10 +25,10 @@ pub(crate) struct Trial<'a, R: Abort> {
 }
 
 impl<'a, R: Abort> Trial<'a, R> {
-    /// Makes a call with no request granted, then with one, and so on until it is answered, and gives that answer.
+    /// Makes a call with no request granted, then with one, and so on until it answers, and returns that answer.
     ///
-    /// Each run begins with a state of its own. A refusal is `Memory`, once all that was granted is spent, and leaves
-    /// the state so that `is_kept` holds. What is answered takes just as many requests where more are granted.
+    /// Each run begins with a new state. A refusal is `Memory`, comes once all granted requests are spent, and leaves
+    /// the state so that `is_kept` holds. An answer takes equally many requests where more are granted.
     pub(crate) fn refuse_each<
         S: Drop,
         T: Drop,
@@ -67,7 +67,7 @@ impl<'a, R: Abort> Trial<'a, R> {
         Err(OverlayError::Memory.into())
     }
 
-    // How many requests a call makes where each is granted.
+    // Number of requests of a call where each is granted.
     fn requests_of<S: Drop, T: Drop, C: Fn(&mut S) -> Answer<T> + Drop>(
         &self,
         mut state: S,

@@ -9,7 +9,7 @@ use overlay_tree::tree::ScanTree;
 use std::process::Abort;
 use std::test::Fail;
 
-// How many edges there are, more than a list grows to at once.
+// Number of edges, more than a list grows to at once.
 const MOST: u16 = 40;
 
 // A level edge at a height, from zero on.
@@ -22,7 +22,7 @@ fn height_at(n: u16) -> i16 {
     ((7 * n) % MOST) as i16
 }
 
-// Returns whether the sweep holds just the first edges: what lies below an edge that rises from each height.
+// Returns whether the sweep holds exactly the first edges, by look-ups below an edge that rises from each height.
 fn holds<I: Width, S: Scan<I, i16>>(scan: &mut S, count: u16) -> bool {
     for asked in 0..=MOST as i16 {
         let mut wanted = -1;
@@ -52,7 +52,7 @@ fn insert_more<I: Width, S: Scan<I, i16>>(scan: &mut S, count: &mut u16) -> Answ
     Ok(())
 }
 
-// A refused edge leaves those that are live; it and the later ones can be put in then.
+// A refused edge leaves the live edges; it and the later edges can be inserted then.
 fn inserts<I: Width, S: Scan<I, i16> + Drop, N: Fn() -> S + Drop>(
     trial: &Trial<'_, impl Abort>,
     name: &str,

@@ -8,10 +8,10 @@ use std::test::Fail;
 
 /// A builder whose content can be seen.
 pub(crate) trait Seen: Drop {
-    /// What is seen of it.
+    /// The content that queries show.
     type Content: PartialEq + Drop;
 
-    /// What the builder holds, as queries show it.
+    /// Returns the builder's content, as queries show it.
     fn content(&mut self) -> Answer<Self::Content>;
 }
 
@@ -24,7 +24,7 @@ pub(crate) fn is_failed<T: Drop>(answer: Answer<T>) -> bool {
 }
 
 impl<'a, R: Abort> Trial<'a, R> {
-    /// Refuses the growths of a constructor of a builder that then holds what another one holds.
+    /// Refuses the growths of a constructor of a builder, and compares its content with that of another builder.
     pub(crate) fn makes<B: Seen, C: Fn() -> Answer<B> + Drop>(
         &self,
         name: &str,
@@ -39,7 +39,7 @@ impl<'a, R: Abort> Trial<'a, R> {
         Ok(())
     }
 
-    /// Refuses the growths of an adder of one path: the content stays, and the path can be added then.
+    /// Refuses the growths of an adder of a path: the content stays, and the path can be added afterwards.
     pub(crate) fn adds_or_keeps<
         B: Seen,
         P: Fn() -> Answer<B> + Drop,
@@ -58,9 +58,9 @@ impl<'a, R: Abort> Trial<'a, R> {
         self.refuse_each(name, &prepare, &add, is_kept)
     }
 
-    /// Refuses the growths of an adder of several paths: the content is that of those before the refused one.
+    /// Refuses the growths of an adder of several paths: the content is then that of the paths before the refused path.
     ///
-    /// `with_first(n)` is a builder as it is once n of all paths are added.
+    /// `with_first(n)` is the builder after the first n paths are added.
     pub(crate) fn adds_those_before<
         B: Seen,
         P: Fn() -> Answer<B> + Drop,
@@ -90,7 +90,7 @@ impl<'a, R: Abort> Trial<'a, R> {
         Ok(())
     }
 
-    /// Refuses the growths of a query: the builder has failed, and answers as a new one once it is mended.
+    /// Refuses the growths of a query: the builder has failed, and answers as a new builder once it is mended.
     ///
     /// `has_failed` makes all calls that answer `Failed` then, for which no memory is granted.
     pub(crate) fn answers_or_fails<

@@ -78,7 +78,7 @@ fn views_of_string_overlay(rt: HostRuntime) -> Result<(), Fail> {
     at_a_width!(rt, check_views)
 }
 
-// The builder that is asked, which is dropped then. A failed one answers so.
+// Takes the builder that is asked, which is dropped afterwards. A failed builder answers so.
 fn taken<'m, I: Width>(it: &mut Option<Built<'m, I>>) -> Answer<Built<'m, I>> {
     match it.take() {
         Some(overlay) => Ok(overlay),

@@ -55,7 +55,7 @@ pub(crate) fn lines<I: Width>() -> [IntLine<I>; PATHS] {
     [bar_at(0), bar_at(1), bar_at(2)]
 }
 
-// A builder with the square, and room for so many edges.
+// A builder with the square, and room for `capacity` edges.
 fn roomy<I: Width>(memory: Memory<'_>, capacity: usize) -> Answer<Built<'_, I>> {
     let mut overlay = StringOverlay::new(memory, capacity)?;
     overlay.add_shape_contour(&plate())?;

@@ -52,7 +52,7 @@ fn is_on(a: Place, b: Place, p: Place) -> bool {
     cross(a, b, p) == 0 && is_between(a.0, b.0, p.0) && is_between(a.1, b.1, p.1)
 }
 
-// What a step from a to b adds to the winding at p.
+// Winding that a step from a to b adds at p.
 fn passing(a: Place, b: Place, p: Place) -> i64 {
     if a.0 <= p.0 && p.0 < b.0 && cross(a, b, p) > 0 {
         1
@@ -79,7 +79,7 @@ fn winding(shape: &[IntContour<i16, Global>], p: Place) -> Option<i64> {
     Some(sum)
 }
 
-// The least and the greatest x and y of the points, one wider on each side; none where that box is too wide.
+// The bounding box of the points, one wider on each side; none if it is too wide.
 fn box_of(shapes: &[IntShape<i16, Global>]) -> Option<(Place, Place)> {
     let (mut least, mut greatest) = ((0, 0), (0, 0));
     for shape in shapes {
@@ -97,7 +97,7 @@ fn box_of(shapes: &[IntShape<i16, Global>]) -> Option<(Place, Place)> {
     Some(((least.0 - 1, least.1 - 1), (greatest.0 + 2, greatest.1 + 2)))
 }
 
-// How many of the shapes wind round p, each once in the output direction; none where one winds otherwise.
+// Number of shapes that wind round p, each once in the output direction; none if a shape winds otherwise.
 fn count_round(shapes: &[IntShape<i16, Global>], once: i64, p: Place) -> Option<usize> {
     let mut count = 0;
     for shape in shapes {
@@ -110,8 +110,8 @@ fn count_round(shapes: &[IntShape<i16, Global>], once: i64, p: Place) -> Option<
     Some(count)
 }
 
-/// Returns whether each of the shapes winds once, in the output direction, or zero times round each whole point off its
-/// edges in the box of all, and no two of them round one point; a box that is too wide is not looked at.
+/// Returns whether each shape winds once, in the output direction, or zero times round each whole point off its edges
+/// in the box of all. No two of them may wind round one point. A box that is too wide is not tested.
 pub(crate) fn are_alone(shapes: &[IntShape<i16, Global>], once: i64) -> bool {
     let Some((least, end)) = box_of(shapes) else {
         return true;
@@ -127,7 +127,7 @@ pub(crate) fn are_alone(shapes: &[IntShape<i16, Global>], once: i64) -> bool {
     true
 }
 
-/// The same of shapes by the coordinates of their points.
+/// Tests `are_alone` for shapes by the coordinates of their points.
 pub(crate) fn rows_are_alone(
     alloc: Global,
     shapes: &[&[Points<'_>]],

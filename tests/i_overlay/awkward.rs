@@ -172,8 +172,8 @@ fn a_comb_whose_teeth_end_on_one_point(rt: HostRuntime) -> Result<(), Fail> {
     each_wide!(rt, check_comb)
 }
 
-// The n-th of 64 needles from the ends of the range to the point in its middle: 32 from the left, from below, and 32
-// from the right, from above; and the contour that an overlay gives of it.
+// The n-th of 64 needles from the ends of the range to the point in its middle, and its contour in an overlay. 32 come
+// from the left, from below, and 32 from the right, from above.
 fn needle_at(m: i64, n: i64) -> ([(i64, i64); 3], [(i64, i64); 3]) {
     if n < 32 {
         let (low, high) = ((-m, 2 * n - 32), (-m, 2 * n - 31));

@@ -169,7 +169,7 @@ fn relations_of_a_bow(rt: HostRuntime) -> Result<(), Fail> {
     each_wide!(rt, check_relations)
 }
 
-// Where the corners of the bow lie, and points beside and between them, in the two triangles that it fills.
+// Locations of the corners of the bow, and of points beside and between them, in the two triangles that it fills.
 fn check_points<I: Wide>(rt: &impl Abort, alloc: Global) -> Result<(), OverlayError> {
     let m = I::most();
     let halves: &[Places<'_>] = &[&[(-m, m), (-m, -m), (0, 0)], &[(m, m), (0, 0), (m, -m)]];

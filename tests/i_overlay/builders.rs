@@ -84,7 +84,7 @@ pub(crate) fn from_subj<I: OverlayInt, A: Allocator + Clone, R0: IntShapeResourc
     Overlay::from_subj(alloc, subj)
 }
 
-/// The same, which keeps all points.
+/// Makes that builder with all points kept.
 pub(crate) fn from_subj_custom<I: OverlayInt, A: Allocator + Clone, R0: IntShapeResource<I>>(
     rt: &impl Abort,
     alloc: A,
@@ -107,7 +107,7 @@ pub(crate) fn from_subj_and_clip<
     Overlay::from_subj_and_clip(alloc, subj, clip)
 }
 
-/// The same, which keeps all points.
+/// Makes that builder with all points kept.
 pub(crate) fn from_subj_and_clip_custom<
     I: OverlayInt,
     A: Allocator + Clone,
@@ -128,7 +128,7 @@ pub(crate) fn edges<I: OverlayInt, A: Allocator + Clone>(
     overlay.build_separate_vectors(rule)
 }
 
-/// How many edges the builder has.
+/// Number of edges of the builder.
 pub(crate) fn edge_count<I: OverlayInt, A: Allocator + Clone>(
     overlay: &mut Overlay<I, A>,
     rule: FillRule,

@@ -1,4 +1,4 @@
-//! What tests share: contours and shapes from small coordinates, and calls on builders.
+//! Contours and shapes from small coordinates, and calls on builders, shared by tests.
 
 use crate::builders::{add, empty};
 use i_overlay::overlay::{Overlay, ShapeType};

@@ -22,13 +22,13 @@ const LOWER: Points<'static> = &[(0, 0), (4, 0), (4, 4), (0, 4)];
 
 const UPPER: Points<'static> = &[(2, 2), (6, 2), (6, 6), (2, 6)];
 
-// What both fill.
+// Points that both fill.
 const CORNER: Shapes<'static> = &[&[&[(2, 4), (2, 2), (4, 2), (4, 4)]]];
 
 // The lower one without the upper.
 const REST: Shapes<'static> = &[&[&[(0, 4), (0, 0), (4, 0), (4, 2), (2, 2), (2, 4)]]];
 
-// The same, where the lower has a point in the middle of a side, and keeps it.
+// The lower square with a point in the middle of a side, which it keeps.
 const LOWER_BY_FIVE: Points<'static> = &[(0, 0), (2, 0), (4, 0), (4, 4), (0, 4)];
 
 const REST_BY_SEVEN: Shapes<'static> = &[&[&[
@@ -41,7 +41,7 @@ const REST_BY_SEVEN: Shapes<'static> = &[&[&[
     (2, 4),
 ]]];
 
-// The lower square alone, and with another one apart from it.
+// The lower square alone, and with another square apart from it.
 const LOWER_ALONE: Shapes<'static> = &[&[&[(0, 4), (0, 0), (4, 0), (4, 4)]]];
 
 const APART: Points<'static> = &[(10, 0), (14, 0), (14, 4), (10, 4)];
@@ -65,7 +65,7 @@ fn check<I: OverlayInt + PartialEq + From<i16>>(
     Ok(())
 }
 
-// Builders with a contour as the subject and one as the clip.
+// Builders with a contour as the subject and a contour as the clip.
 fn check_contour<I: OverlayInt + PartialEq + From<i16>>(
     rt: &impl Abort,
     alloc: Global,

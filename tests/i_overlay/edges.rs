@@ -161,14 +161,14 @@ fn a_clip_fills_its_own_bits(rt: HostRuntime) -> Result<(), Fail> {
     )
 }
 
-// Checks how many edges the builder has, also when asked again.
+// Checks the number of edges of the builder, also when asked again.
 fn check_count<I: OverlayInt>(rt: &impl Abort, overlay: &mut Overlay<I, Global>, count: usize) {
     assert!(rt; edge_count(overlay, FillRule::NonZero) == Ok(count));
     assert!(rt; edge_count(overlay, FillRule::NonZero) == Ok(count));
 }
 
-// Checks how many edges a contour has that crosses itself between the corners of a square, and how
-// many the square has after that.
+// Checks the number of edges of a contour that crosses itself between the corners of a square, and of the square after
+// that.
 fn check_crossing<I: OverlayInt>(
     rt: &impl Abort,
     alloc: Global,
@@ -181,7 +181,7 @@ fn check_crossing<I: OverlayInt>(
     Ok(())
 }
 
-// The same, of a builder with the first contour, and of the second.
+// Checks those numbers for a builder with the first contour, and then the second.
 fn check_crossed<I: OverlayInt>(
     rt: &impl Abort,
     overlay: &mut Overlay<I, Global>,

@@ -15,7 +15,7 @@ use std::cell::Cell;
 use std::process::Abort;
 use std::test::Fail;
 
-// Contours whose edges cross near so many whole points that splitting them does not settle.
+// Contours whose edges cross near many whole points, so that splitting them does not settle.
 const NEEDLES: &[Points<'static>] = &[&[(2, 0), (0, 66), (2, -66)], &[(1, 0), (0, 67), (-1, 0)]];
 
 // Checks that the builder does not settle, and answers again once it is cleared.

@@ -1,4 +1,4 @@
-//! Which shape lies in which hole, at each coordinate type and in both output directions.
+//! Shapes in holes of other shapes, at each coordinate type and in both output directions.
 
 use crate::alone::rows_are_alone;
 use crate::contours::{Points, add_contours, shapes_of};
@@ -16,7 +16,7 @@ use std::alloc::Global;
 use std::process::Abort;
 use std::test::Fail;
 
-/// What is asked of an overlay, and the links that it is to tell beside the shapes.
+/// The query of an overlay, and the expected links beside the shapes.
 #[derive(Drop)]
 pub(crate) struct Linked<'a> {
     /// The overlay, and its shapes.
@@ -33,7 +33,7 @@ const NEST_GIVEN: &[Points<'static>] = &[
     &[(40, 40), (60, 40), (60, 60), (40, 60)],
 ];
 
-// Squares in each other: three shapes, of which the second and the third lie in a hole each.
+// Nested squares: three shapes; the second and the third lie in a hole each.
 const NEST: Linked<'static> = Linked {
     row: Row {
         subj: NEST_GIVEN,
@@ -55,7 +55,7 @@ const NEST: Linked<'static> = Linked {
     links: &[(0, 1, 1), (1, 3, 2)],
 };
 
-// The same, clockwise.
+// The nested squares, clockwise.
 const NEST_CLOCKWISE: Linked<'static> = Linked {
     row: Row {
         subj: NEST_GIVEN,
@@ -103,7 +103,7 @@ const PAIR: Linked<'static> = Linked {
     links: &[(0, 1, 1), (0, 1, 2)],
 };
 
-// The same, clockwise.
+// The pair, clockwise.
 const PAIR_CLOCKWISE: Linked<'static> = Linked {
     row: Row {
         subj: PAIR_GIVEN,
@@ -146,7 +146,7 @@ const TOUCHING: Linked<'static> = Linked {
     links: &[(0, 1, 1)],
 };
 
-// The same, clockwise.
+// The touching shapes, clockwise.
 const TOUCHING_CLOCKWISE: Linked<'static> = Linked {
     row: Row {
         subj: TOUCHING_GIVEN,
@@ -190,8 +190,8 @@ fn turn_of(direction: ContourDirection) -> i64 {
     }
 }
 
-/// The builder and a view of it tell the same, by trees and by lists and by snapping, a copy is equal, and each shape
-/// winds by itself.
+/// Checks that the builder and a view of it have equal answers, by trees, by lists and by snapping. A copy is equal,
+/// and each shape winds by itself.
 pub(crate) fn check<I: OverlayInt + PartialEq + From<i16>>(
     rt: &impl Abort,
     alloc: Global,
@@ -217,7 +217,7 @@ pub(crate) fn check<I: OverlayInt + PartialEq + From<i16>>(
     Ok(())
 }
 
-// Which contours of the hierarchy are which shape's: from the first number up to the second.
+// Checks the ranges of the contours of each shape, from a first number up to a second.
 fn check_ranges<I: OverlayInt + PartialEq + From<i16>>(
     rt: &impl Abort,
     alloc: Global,
@@ -299,7 +299,7 @@ fn cell(column: u8, row: u8) -> [(i16, i16); 4] {
     [(x, y), (x + 1, y), (x + 1, y + 1), (x, y + 1)]
 }
 
-// A board of eight by eight squares, of which every other one is filled: these touch in corners.
+// A board of eight by eight squares with every other square filled: these touch in corners.
 fn check_board<I: OverlayInt + PartialEq + From<i16>>(
     rt: &impl Abort,
     alloc: Global,

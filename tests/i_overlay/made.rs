@@ -13,10 +13,10 @@ use std::alloc::Global;
 use std::process::Abort;
 use std::test::Fail;
 
-// How many inputs there are.
+// Number of inputs.
 const INPUTS: u64 = 200;
 
-// How many contours each has.
+// Number of contours of each input.
 const CONTOURS: u64 = 6;
 
 // The side of the square in which all points lie.
@@ -57,7 +57,7 @@ fn point(x: i16, y: i16) -> IntPoint<i16> {
     IntPoint { x, y }
 }
 
-// The n-th contour of points that are drawn: three to eight, which may be equal or on one line.
+// The n-th contour of points drawn at random: three to eight points, some of them perhaps equal or collinear.
 fn polygon_at(alloc: Global, n: u64) -> Result<IntContour<i16, Global>, OverlayError> {
     let mut contour = Vec::new(alloc);
     for i in 0..3 + drawn(n) % 6 {
@@ -67,7 +67,7 @@ fn polygon_at(alloc: Global, n: u64) -> Result<IntContour<i16, Global>, OverlayE
     Ok(contour)
 }
 
-// A rectangle by two opposite corners, in one direction or in the other.
+// A rectangle by two opposite corners, in either direction.
 fn rectangle(
     alloc: Global,
     (a, b): (i16, i16),
@@ -120,8 +120,8 @@ fn direction_at(n: u64) -> (ContourDirection, i64) {
     }
 }
 
-// How many shapes, and how many holes, the answer to the n-th input has, by the rules whose turn it is; none where its
-// shapes do not each wind by themselves.
+// Numbers of shapes and of holes in the answer to the n-th input, by the rules of its turn; none if its shapes do not
+// each wind by themselves.
 fn counts_at(
     rt: &impl Abort,
     alloc: Global,
@@ -144,7 +144,7 @@ fn counts_at(
     Ok(are_alone(&shapes, once).then_some(counts))
 }
 
-// Checks all inputs, with groups or without: there are so many shapes and holes that this says something.
+// Checks all inputs, with groups or without. The test needs many shapes and holes to be of use, and counts them.
 fn check(rt: &impl Abort, alloc: Global, ogc: bool) -> Result<(), Fail> {
     let (mut shapes, mut holes) = (0, 0);
     for n in 0..INPUTS {

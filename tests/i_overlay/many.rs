@@ -19,7 +19,7 @@ fn outline(low: (i16, i16), high: (i16, i16)) -> Square {
     [(low.0, high.1), low, (high.0, low.1), high]
 }
 
-// The same as a hole.
+// The square as a hole.
 fn hole(low: (i16, i16), high: (i16, i16)) -> Square {
     [low, (low.0, high.1), high, (high.0, low.1)]
 }

@@ -6,7 +6,7 @@ use i_overlay::fill_rule::FillRule;
 use i_overlay::overlay_rule::OverlayRule;
 use std::test::Fail;
 
-// What the corner of two squares has in common: an area of 4.
+// The intersection of two squares at a corner: an area of 4.
 const CORNER: Row<'static> = Row {
     subj: &[&[(0, 0), (4, 0), (4, 4), (0, 4)]],
     clip: &[&[(2, 2), (6, 2), (6, 6), (2, 6)]],
@@ -15,7 +15,7 @@ const CORNER: Row<'static> = Row {
     wanted: &[&[&[(2, 4), (2, 2), (4, 2), (4, 4)]]],
 };
 
-// The same, too small.
+// The intersection, too small.
 const NO_CORNER: Row<'static> = Row {
     subj: &[&[(0, 0), (4, 0), (4, 4), (0, 4)]],
     clip: &[&[(2, 2), (6, 2), (6, 6), (2, 6)]],
@@ -33,7 +33,7 @@ const SMALL: Row<'static> = Row {
     wanted: &[&[&[(0, 2), (0, 0), (2, 0), (2, 2)]]],
 };
 
-// The same, too small.
+// The small square, too small.
 const NO_SMALL: Row<'static> = Row {
     subj: &[&[(0, 0), (2, 0), (2, 2), (0, 2)]],
     clip: &[],
@@ -99,7 +99,7 @@ const BOTH_HOLES: Row<'static> = Row {
     ],
 };
 
-// The hole that lay next below the large one is gone; that one stays in its shape.
+// The hole next below the large hole is gone; the large hole stays in its shape.
 const LARGE_HOLE: Row<'static> = Row {
     subj: TWO_SHAPES,
     clip: &[],

@@ -32,7 +32,7 @@ const NOTCH_CUT: Row<'static> = Row {
     wanted: &[&[&[(0, 0), (6, 0), (6, 6), (0, 6)], &[(0, 3), (2, 4), (2, 2)]]],
 };
 
-// The same, clockwise.
+// The notched square, clockwise.
 const NOTCH_CUT_CLOCKWISE: Row<'static> = Row {
     subj: NOTCH,
     clip: &[],
@@ -54,7 +54,7 @@ const BOTH_CORNERS: Row<'static> = Row {
     ]],
 };
 
-// The same, clockwise.
+// Both corners, clockwise.
 const BOTH_CORNERS_CLOCKWISE: Row<'static> = Row {
     subj: CORNERS,
     clip: &[],
@@ -88,7 +88,7 @@ const ISLAND_JOINED: Row<'static> = Row {
     ]],
 };
 
-// The same, clockwise.
+// The joined island, clockwise.
 const ISLAND_JOINED_CLOCKWISE: Row<'static> = Row {
     subj: ISLAND,
     clip: &[],
@@ -124,7 +124,7 @@ const ISLAND_CUT: Row<'static> = Row {
     ],
 };
 
-// The same, clockwise.
+// The island cut off, clockwise.
 const ISLAND_CUT_CLOCKWISE: Row<'static> = Row {
     subj: ISLAND,
     clip: &[],

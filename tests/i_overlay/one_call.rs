@@ -10,7 +10,7 @@ use std::alloc::Global;
 use std::process::Abort;
 use std::test::Fail;
 
-// The lower square without the upper. Where the two are exchanged, it is the upper without the lower.
+// The lower square without the upper. With the two exchanged, it is the upper without the lower.
 fn check_difference<I: OverlayInt + PartialEq + From<i16>>(
     rt: &impl Abort,
     alloc: Global,

@@ -1,4 +1,4 @@
-//! Contours in one list, at each coordinate type.
+//! Contours in a flat list, at each coordinate type.
 
 use crate::contours::{Points, contour_of};
 use crate::rows::{Row, builder_of};
@@ -32,7 +32,7 @@ const ONE_CONTOUR: Points<'static> = &[
     (2, 2),
 ];
 
-// Checks that one contour with these points is all that the buffer holds.
+// Checks that the buffer holds a single contour, with these points.
 fn check_one<I: OverlayInt + PartialEq + From<i16>>(
     rt: &impl Abort,
     alloc: Global,
@@ -46,7 +46,7 @@ fn check_one<I: OverlayInt + PartialEq + From<i16>>(
     Ok(())
 }
 
-// What was in the buffer is gone, and the contour stands there as it was walked.
+// Checks that the old content of the buffer is gone, and that the contour is there as it was walked.
 fn check_into<I: OverlayInt + PartialEq + From<i16>>(
     rt: &impl Abort,
     alloc: Global,

@@ -15,7 +15,7 @@ use std::alloc::Global;
 use std::process::Abort;
 use std::test::Fail;
 
-// The square on the right of the one that is the subject: the clip.
+// The square on the right of the subject: the clip.
 const RIGHT: Points<'static> = &[(2, 0), (4, 0), (4, 2), (2, 2)];
 
 // The fills of the edges of the clip alone, and of both.
@@ -34,7 +34,7 @@ fn check_new<I: OverlayInt>(
     check_held(rt, &mut overlay, keeps_points, fills);
 }
 
-// The same, of the builder.
+// Checks the content of the builder, and whether it keeps collinear points.
 fn check_held<I: OverlayInt>(
     rt: &impl Abort,
     overlay: &mut Overlay<I, Global>,
@@ -90,7 +90,7 @@ fn check_reinits<I: OverlayInt>(
     Ok(())
 }
 
-// The same, of such a builder.
+// Checks that for this builder.
 fn check_reinits_of<I: OverlayInt>(
     rt: &impl Abort,
     bare: &mut Overlay<I, Global>,
@@ -103,7 +103,7 @@ fn check_reinits_of<I: OverlayInt>(
     check_bare(rt, bare, &OF_SQUARE);
 }
 
-// An iterator and a source, added to an empty builder; and nothing is left of them in the end.
+// Checks an iterator and a source, added to an empty builder; at the end nothing is left of them.
 fn check_adders<I: OverlayInt>(
     rt: &impl Abort,
     alloc: Global,
@@ -115,7 +115,7 @@ fn check_adders<I: OverlayInt>(
     Ok(())
 }
 
-// The same, of such a builder.
+// Checks that for this builder.
 fn check_adders_of<I: OverlayInt>(
     rt: &impl Abort,
     overlay: &mut Overlay<I, Global>,

@@ -184,7 +184,7 @@ fn strings(rt: HostRuntime) -> Result<(), Fail> {
     Ok(())
 }
 
-// How many edges are still to come.
+// Number of edges still to come.
 fn count_of(edges: Edges<'_, i32, ()>) -> usize {
     let mut count: usize = 0;
     for _ in edges {
@@ -215,7 +215,7 @@ fn edges_with_data(rt: HostRuntime) -> Result<(), Fail> {
     Ok(())
 }
 
-// How many contours the shape has.
+// Number of contours of the shape.
 fn contour_count<D: Drop>(shape: &DataVectorShape<i32, D, Global>) -> usize {
     shape.len()
 }

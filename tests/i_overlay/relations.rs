@@ -1,4 +1,4 @@
-//! How two resources lie to each other, in one call each, at each coordinate type.
+//! Relations of two resources, in one call each, at each coordinate type.
 
 use crate::contours::{assert_in_range, contour_of, shape_of};
 use i_overlay::relate::IntRelate;
@@ -8,8 +8,8 @@ use std::alloc::Global;
 use std::process::Abort;
 use std::test::Fail;
 
-// What the calls answer of a contour and of a shape of one, in the order intersects,
-// interiors_intersect, touches, point_intersects, within, disjoint, covers.
+// Answers of the calls for a contour and for a shape of one contour, in the order intersects, interiors_intersect,
+// touches, point_intersects, within, disjoint, covers.
 fn answers<I: OverlayInt + From<i16>>(
     rt: &impl Abort,
     alloc: Global,
@@ -44,7 +44,7 @@ fn rows<I: OverlayInt + From<i16>>(rt: &impl Abort, alloc: Global) -> Result<(),
     let outer = [(0, 0), (4, 0), (4, 4), (0, 4)];
     let inside = answers::<I>(rt, alloc, &[(1, 1), (3, 1), (3, 3), (1, 3)], &outer)?;
     assert!(rt; inside == [true, true, false, false, true, false, false]);
-    // of no edges nothing holds but that the two are disjoint, and so of an empty subject
+    // without edges, the two are only disjoint; an empty subject is so too
     let disjoint_alone = [false, false, false, false, false, true, false];
     assert!(rt; answers::<I>(rt, alloc, &[], &[])? == disjoint_alone);
     assert!(rt; answers::<I>(rt, alloc, &[], &square)? == disjoint_alone);

@@ -1,4 +1,4 @@
-//! What is asked of overlays and what they are to answer, row by row.
+//! Queries of overlays and their expected answers, row by row.
 
 use crate::alone::rows_are_alone;
 use crate::builders::check_fills;
@@ -14,7 +14,7 @@ use std::alloc::Global;
 use std::process::Abort;
 use std::test::Fail;
 
-/// What is asked of an overlay, and the shapes that it is to give.
+/// The query of an overlay, and the expected shapes.
 #[derive(Drop)]
 pub(crate) struct Row<'a> {
     /// The contours of the subject.
@@ -53,8 +53,8 @@ fn answers<I: OverlayInt + PartialEq + From<i16>>(
     Ok(shapes == wanted)
 }
 
-// Tests whether a builder with the row's contours answers its shapes by each solver, and by rounds answers them again,
-// and whether they come with trees alone and with lists alone.
+// Tests whether a builder with the row's contours answers its shapes by each solver, and again by rounds. They must
+// also come with trees alone and with lists alone.
 fn holds<I: OverlayInt + PartialEq + From<i16>>(
     rt: &impl Abort,
     alloc: Global,

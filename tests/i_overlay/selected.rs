@@ -1,13 +1,13 @@
-//! Which edges become steps of contours, and which way, told by the sides that they have filled: at
-//! each coordinate type.
+//! The edges that become steps of contours, and the direction of these steps, by their filled sides, at each coordinate
+//! type.
 
 use crate::rows::{Row, check, check_clockwise, check_edges};
 use i_overlay::fill_rule::FillRule;
 use i_overlay::overlay_rule::OverlayRule;
 use std::test::Fail;
 
-// Of the edges on y = 0 the first has the subject above (1) and is a step as it lies; the second has both above (5) and
-// is none; the third has the subject on both sides and the clip above (7), and is a step back.
+// Edges on y = 0. The first has the subject above (1) and is a step from left to right. The second has both above (5)
+// and is not a step. The third has the subject on both sides and the clip above (7), and is a step back.
 const DIFFERENCE: Row<'static> = Row {
     subj: &[&[(0, 0), (8, 0), (8, -4), (12, -4), (12, 8), (0, 8)]],
     clip: &[&[(4, 0), (12, 0), (12, 4), (4, 4)]],
@@ -26,8 +26,8 @@ fn difference_with_the_side_on_the_left(rt: HostRuntime) -> Result<(), Fail> {
     check::<i16>(&rt, rt.alloc(), &DIFFERENCE)
 }
 
-// Of the edges on x = 0 the lowest has both on the left (5) and is no step; the next has the clip on the left (4) and
-// is a step back; the last has the subject on the right (2), and is a step as it lies.
+// Edges on x = 0. The lowest has both on the left (5) and is not a step. The next has the clip on the left (4) and is a
+// step back. The last has the subject on the right (2), and is a step upwards.
 const EXCLUSIVE: Row<'static> = Row {
     subj: &[
         &[(-4, 0), (0, 0), (0, 4), (-4, 4)],
@@ -49,9 +49,9 @@ fn exclusive_with_the_side_on_the_right(rt: HostRuntime) -> Result<(), Fail> {
     check_clockwise::<i32>(&rt, rt.alloc(), &EXCLUSIVE)
 }
 
-// The edge that rises from (0, 0) has the subject above and the clip below (9), and is no step; the
-// one from (8, 0) has both above (5), and is a step; the one from (16, 0), where the subject lies
-// twice, has nothing on either side, and is none.
+// The edge that rises from (0, 0) has the subject above and the clip below (9), and is not a step. The edge from (8, 0)
+// has both above (5), and is a step. At the edge from (16, 0) the subject lies twice; it fills no side and is not a
+// step.
 const UNION: Row<'static> = Row {
     subj: &[
         &[(0, 0), (4, 1), (4, 5), (0, 4)],

@@ -1,4 +1,4 @@
-//! What options and solvers are made of.
+//! Tests of options and solvers.
 
 use i_overlay::i_float::int::number::uint::UIntNumber;
 use i_overlay::overlay::{ContourDirection, IntOverlayOptions};

@@ -54,7 +54,7 @@ fn are_round<I: OverlayInt + PartialEq + From<i16>>(
     Ok(begun == contour_of::<I>(alloc, points)? && are_filled_on_the_left(contour))
 }
 
-// Tests whether a view of the squares shows this contour, with a store of its own and with one that is given.
+// Tests whether a view of the squares shows this contour, with its own store and with a given store.
 fn shows<I: OverlayInt + PartialEq + From<i16>>(
     alloc: Global,
     view: &OverlayGraph<'_, I, (), Global>,
@@ -107,7 +107,7 @@ fn edges_on_one_line_are_joined_unless_kept(rt: HostRuntime) -> Result<(), Fail>
     check::<i64>(&rt, rt.alloc())
 }
 
-// A triangle, and one that runs the other way inside it and touches its longest side.
+// A triangle, and a triangle inside it in the opposite direction that touches its longest side.
 const TRIANGLES: Row<'static> = Row {
     subj: &[&[(-5, 0), (0, 0), (0, 5)], &[(-3, 2), (-1, 2), (-1, 1)]],
     clip: &[],
@@ -116,7 +116,7 @@ const TRIANGLES: Row<'static> = Row {
     wanted: &[],
 };
 
-// How many edges the one contour of the triangles has, where collinear points stay in the output.
+// Number of edges of the single contour of the triangles, where collinear points stay in the output.
 fn edges_round_triangles<I: OverlayInt + PartialEq + From<i16>>(
     rt: &impl Abort,
     alloc: Global,

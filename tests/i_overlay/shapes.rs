@@ -11,7 +11,7 @@ const LOWER_SQUARE: &[Points<'static>] = &[&[(0, 0), (4, 0), (4, 4), (0, 4)]];
 
 const UPPER_SQUARE: &[Points<'static>] = &[&[(2, 2), (6, 2), (6, 6), (2, 6)]];
 
-// What both fill, for either output direction.
+// Points that both fill, for either output direction.
 const CORNER: Row<'static> = Row {
     subj: LOWER_SQUARE,
     clip: UPPER_SQUARE,
@@ -90,8 +90,7 @@ fn frame_at_i64(rt: HostRuntime) -> Result<(), Fail> {
     check::<i64>(&rt, rt.alloc(), &FRAME_AND_BAR)
 }
 
-// A contour that crosses itself, and its halves: the left one is wound once, the right one minus
-// once.
+// A contour that crosses itself, and its halves: the left half is wound once, the right half minus once.
 const BOW: &[Points<'static>] = &[&[(0, 0), (10, 10), (10, 0), (0, 10)]];
 
 const LEFT_HALF: Points<'static> = &[(0, 10), (0, 0), (5, 5)];
@@ -250,9 +249,9 @@ fn holes_of_two_shapes(rt: HostRuntime) -> Result<(), Fail> {
     check::<i32>(&rt, rt.alloc(), &FRAMES)
 }
 
-// Two holes that touch each other in (3, 3). Of all edges that are filled above, the next below (3, 1), where the first
-// hole is found, is the lower edge of the shape round it, and not one of the bar further below. The next one below (3,
-// 3), where the second hole is found, is the upper edge of the first hole, which begins in that point: so the second
+// Two holes that touch each other in (3, 3). The first hole is found at (3, 1). The next filled-above edge below it is
+// the lower edge of the shape round it, and not an edge of the bar further below. The second hole is found at (3, 3).
+// The next filled-above edge below it is the upper edge of the first hole, which begins in that point. So the second
 // hole goes to the shape of the first.
 const TOUCHING_HOLES: Row<'static> = Row {
     subj: &[

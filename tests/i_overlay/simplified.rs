@@ -1,4 +1,4 @@
-//! Sources, shapes and flat buffers that are simplified, at each coordinate type.
+//! Simplified sources, shapes and flat buffers, at each coordinate type.
 
 use crate::builders::edge_count;
 use crate::contours::{Points, add_contours, assert_in_range, shape_of, shapes_of};
@@ -51,7 +51,7 @@ const VISITED_TWICE: Points<'static> = &[(0, 0), (-3, 2), (-3, -2), (0, 0), (-2,
 
 const VISITED_ONCE: Points<'static> = &[(-3, 2), (-3, -2), (0, 0)];
 
-// What a builder held before: contours that do not settle, so that it has failed, or a square far off.
+// Earlier content of a builder: contours that do not settle, so that it has failed, or a square far off.
 const HELD: [&[Points<'static>]; 2] = [
     &[&[(2, 0), (0, 66), (2, -66)], &[(1, 0), (0, 67), (-1, 0)]],
     &[&[(20, 20), (30, 20), (30, 30), (20, 30)]],
@@ -71,7 +71,7 @@ fn used<I: OverlayInt + From<i16>>(
     Ok(overlay)
 }
 
-// Checks what a source is simplified to, and how many edges the builder has afterwards.
+// Checks the shapes that a source is simplified to, and the number of edges of the builder afterwards.
 fn check_source<I: OverlayInt + PartialEq + From<i16>>(
     rt: &impl Abort,
     alloc: Global,

@@ -59,7 +59,7 @@ fn check_contour<I: OverlayInt + PartialEq + From<i16>>(
     Ok(())
 }
 
-// A contour that is reversed, and one that visits a point twice.
+// A contour that is reversed, and a contour that visits a point twice.
 fn check_more_contours<I: OverlayInt + PartialEq + From<i16>>(
     rt: &impl Abort,
     alloc: Global,

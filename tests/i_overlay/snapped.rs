@@ -45,8 +45,8 @@ fn needles<I: OverlayInt + From<i16> + PartialEq>(
     Overlay::from_subj_and_clip_custom(alloc, &first, &second, IntOverlayOptions::default(), solver)
 }
 
-// The union of the needles. The crossings of their sides round to (0, 65), by hand: the sides of the first are led
-// through it, and the second becomes the edge from there to (-1, 0), and the one from (-1, 0) to (1, 0).
+// The union of the needles. The crossings of their sides round to (0, 65), by hand. The sides of the first are led
+// through it. The second becomes the edges from there to (-1, 0) and from (-1, 0) to (1, 0).
 fn union<I: OverlayInt + From<i16> + PartialEq>(
     rt: &impl Abort,
     alloc: Global,
@@ -62,7 +62,7 @@ fn union<I: OverlayInt + From<i16> + PartialEq>(
     Ok(())
 }
 
-// What a second query finds: the arrangement, which both solvers leave as it is.
+// Result of a second query: the arrangement, which both solvers leave as it is.
 fn once_more<I: OverlayInt + From<i16> + PartialEq>(
     rt: &impl Abort,
     alloc: Global,
@@ -95,8 +95,7 @@ fn whole<I: OverlayInt + From<i16> + PartialEq>(
     Ok(())
 }
 
-// How the needles lie to each other: they share their parts from (0, 65) to (1, 0), and the first fills none of the
-// second.
+// Relations of the needles: they share their parts from (0, 65) to (1, 0), and the first fills none of the second.
 fn relations<I: OverlayInt + From<i16> + PartialEq>(
     rt: &impl Abort,
     alloc: Global,
@@ -114,7 +113,7 @@ fn relations<I: OverlayInt + From<i16> + PartialEq>(
     Ok(())
 }
 
-// Tests whether these are the contours of one shape that the needles are simplified to.
+// Tests whether these are the contours of the single shape that the needles are simplified to.
 fn is_union<I: OverlayInt + From<i16> + PartialEq>(
     alloc: Global,
     shapes: &IntShapes<I, Global>,
@@ -123,8 +122,8 @@ fn is_union<I: OverlayInt + From<i16> + PartialEq>(
     Ok(shapes.len() == 1 && shapes[0].len() == 1 && shapes[0][0].as_slice() == outline.as_slice())
 }
 
-// Simplified as one shape, and as a resource, the needles are refused by the default solver, rounds, and united by
-// snap rounding.
+// Simplifies the needles as a shape, and as a resource. The default solver, rounds, refuses them, and snap rounding
+// unites them.
 fn simplified<I: OverlayInt + From<i16> + PartialEq>(
     rt: &impl Abort,
     alloc: Global,
@@ -159,7 +158,7 @@ fn simplified<I: OverlayInt + From<i16> + PartialEq>(
     Ok(())
 }
 
-// So the contour is simplified to the same shape.
+// Simplifies the contour to that shape.
 fn one_contour<I: OverlayInt + From<i16> + PartialEq>(
     rt: &impl Abort,
     alloc: Global,

@@ -1,4 +1,4 @@
-//! What is extracted of a row where the live edges are kept in trees alone, and in lists alone.
+//! Extractions of a row with live edges in trees alone, and in lists alone.
 
 use crate::contours::{Points, contour_of, shapes_of};
 use crate::rows::Row;

@@ -49,7 +49,7 @@ fn shows<I: OverlayInt + PartialEq + From<i16>>(
     Ok(view.extract_shapes(rule, buffer)? == wanted)
 }
 
-// Tests whether the view writes one contour with these points in the place of what the output held.
+// Tests whether the view writes one contour with these points over the old content of the output.
 fn writes<I: OverlayInt + PartialEq + From<i16>>(
     alloc: Global,
     view: &OverlayGraph<'_, I, (), Global>,
@@ -78,7 +78,7 @@ fn check_asked_again<I: OverlayInt + PartialEq + From<i16>>(
     Ok(())
 }
 
-// How many edges the view has; it gives the same with the data that they carry, which is none.
+// Number of edges of the view; with the data that they carry, which is none, they are equal.
 fn edges_viewed<I: OverlayInt + PartialEq>(
     rt: &impl Abort,
     view: &OverlayGraph<'_, I, (), Global>,
@@ -89,7 +89,7 @@ fn edges_viewed<I: OverlayInt + PartialEq>(
     Ok(edges.len())
 }
 
-// Views the builder, checks what the view answers, and tells how many edges it has.
+// Views the builder, checks the answers of the view, and returns its number of edges.
 fn check_view<I: OverlayInt + PartialEq + From<i16>>(
     rt: &impl Abort,
     alloc: Global,
@@ -117,7 +117,7 @@ fn check_squares<I: OverlayInt + PartialEq + From<i16>>(
     Ok(())
 }
 
-// A builder without edges has no view, and neither has one whose edges cancel each other.
+// A builder without edges has no view, and neither has a builder whose edges cancel each other.
 fn check_no_edges<I: OverlayInt + From<i16>>(
     rt: &impl Abort,
     alloc: Global,

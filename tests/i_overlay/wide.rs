@@ -116,7 +116,7 @@ pub(crate) fn wide_builder<I: Wide>(
     Ok(overlay)
 }
 
-/// Checks the shapes of one contour each that an overlay gives, with `ogc` and without.
+/// Checks the shapes of one contour each in an overlay, with `ogc` and without.
 pub(crate) fn check_lone<I: Wide>(
     rt: &impl Abort,
     alloc: Global,

@@ -1,5 +1,5 @@
-//! Copies of one pentagon, each of whose corners is moved by up to four units, as of a boundary that was drawn several
-//! times. Their sides cross so flatly that rounds make ever more edges; snap rounding makes few, once.
+//! Copies of one pentagon, with each corner moved by up to four units, like a boundary that was drawn several times.
+//! Their sides cross so flatly that rounds make ever more edges; snap rounding makes few, once.
 
 use crate::edges::{Held, edge, push};
 use overlay_arrange::content::Content;
@@ -73,7 +73,7 @@ fn sides<I: IntNumber + From<i16>>(
     Ok(content)
 }
 
-// How often the edges wind round a point that lies on none of them: those below it count.
+// Winding of the edges round a point that lies on none of them: those below it count.
 fn winding<I: IntNumber>(edges: &[CountedEdge<I, ShapeCountBoolean>], point: IntPoint<I>) -> i32 {
     let mut winding = 0;
     for e in edges {
@@ -86,7 +86,7 @@ fn winding<I: IntNumber>(edges: &[CountedEdge<I, ShapeCountBoolean>], point: Int
     winding
 }
 
-// The copies are snapped to so many edges, which stay as they are, and wind round each point as before.
+// The copies are snapped to this number of edges, which stay as they are, and keep the winding round each point.
 macro_rules! check_copies {
     ($rt:expr, $number:ident, $greatest:expr, $corners:expr, $count:expr) => {{
         let given = sides(&$rt, $rt.alloc(), $corners)?;

@@ -1,4 +1,4 @@
-//! The filled sides of edges, where live ones are kept in trees alone and in lists alone.
+//! The filled sides of edges, with live edges in trees alone and in lists alone.
 
 use crate::edges::{Held, edge, with_edges};
 use overlay_arrange::fill::{fills_of_balanced, fills_with_trees_from};
@@ -11,8 +11,8 @@ use std::alloc::Global;
 use std::process::Abort;
 use std::test::Fail;
 
-// Tests whether the edges of an arrangement have these filled sides, in order, also where it is not tested that their
-// counts are balanced, if they are.
+// Tests whether the edges of an arrangement have these filled sides, in order. Balanced edges must have them also by
+// the call that does not test the balance.
 fn check<I: IntNumber>(
     rt: &impl Abort,
     alloc: Global,
@@ -32,8 +32,8 @@ fn check<I: IntNumber>(
     Ok(())
 }
 
-// Twice round a square, whose inner sides are filled; and one edge alone, whose counts are not balanced and whose left
-// side is filled.
+// Two turns round a square, whose inner sides are filled; and a single edge, with counts that are not balanced and with
+// a filled left side.
 fn rows<I: IntNumber>(
     rt: &impl Abort,
     alloc: Global,

@@ -17,8 +17,8 @@ use std::test::Fail;
 
 type Found<I> = Graph<I, ShapeCountBoolean, Global>;
 
-// A square of the side `two` from the origin, arranged, round which the subject winds so often, and once more round its
-// lower edge back and forth, of which nothing is left.
+// An arranged square with side `two` at the origin, which the subject winds round `often` times. It also runs along its
+// lower edge back and forth, which leaves nothing.
 fn square<I: IntNumber>(
     rt: &impl Abort,
     alloc: Global,

@@ -42,7 +42,7 @@ fn bow_tie<I: Copy>(low: I, high: I) -> [IntPoint<I>; 4] {
     ]
 }
 
-// The contour from corner to corner of a square, split in so many rounds at most, with this answer.
+// The contour from corner to corner of a square, split in at most this number of rounds, with this answer.
 fn split_bow_tie(
     rt: &impl Abort,
     alloc: Global,
@@ -100,7 +100,7 @@ fn check_contour<I: IntNumber + PartialEq>(
     Ok(())
 }
 
-// What the contour from corner to corner of a square round (0, 0) is cut into.
+// The edges of the contour from corner to corner of a square round (0, 0).
 fn bow_tie_edges<I: Copy>(low: I, zero: I, high: I) -> [CountedEdge<I, ShapeCountBoolean>; 6] {
     [
         edge(low, low, low, high, -1),

@@ -132,7 +132,7 @@ fn a_foreign_end_bends_an_edge_where_some_point_is_rounded(rt: HostRuntime) -> R
     Ok(())
 }
 
-// Two thin triangles, one down to the lowest height and one up to the highest, which cross near their long sides.
+// Two thin triangles, one down to the lowest height and the other up to the highest, which cross near their long sides.
 fn zipper<I: Copy>(low: I, numbers: [I; 4], high: I, highest: I) -> [Edge<I>; 6] {
     let [minus_one, zero, one, two] = numbers;
     [

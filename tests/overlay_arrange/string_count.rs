@@ -1,4 +1,4 @@
-//! String counts: what is merged, reversed and weighed.
+//! String counts: merged, reversed and weighed.
 
 use overlay_arrange::count::EdgeCount;
 use overlay_arrange::string_count::{STRING_AGAINST, STRING_ALONG, ShapeCountString};

@@ -14,7 +14,7 @@ use std::alloc::Global;
 use std::process::Abort;
 use std::test::Fail;
 
-// How often data was split, reversed and merged; as a store, how often each was called.
+// Numbers of splits, reversals and merges of data; in a store, numbers of calls.
 #[derive(Debug, Clone, Copy, PartialEq, Default)]
 struct Tally {
     splits: u32,
@@ -98,7 +98,7 @@ fn push<I: IntNumber>(
     content.push(CountedEdge { a, b, count })
 }
 
-// The edges are arranged to the wanted, with so many calls.
+// The edges are arranged to the wanted edges, with these numbers of calls.
 fn check(
     rt: &impl Abort,
     alloc: Global,

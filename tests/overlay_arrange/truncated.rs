@@ -1,4 +1,4 @@
-//! A content of which the first edges are left.
+//! A content truncated to its first edges.
 
 use crate::rounds::with_subject;
 use overlay_geom::point::IntPoint;

@@ -26,8 +26,7 @@ fn path_with_a_straight_point<I: Copy>(zero: I, two: I, four: I) -> [IntPoint<I>
     ]
 }
 
-// A core to which a path of the subject is added; whether a point was left out, and how many edges
-// there are.
+// Adds a path of the subject to a core, and checks whether a point was left out and the number of edges.
 fn check_path<I: IntNumber>(
     rt: &impl Abort,
     alloc: Global,

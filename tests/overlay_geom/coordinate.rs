@@ -4,7 +4,7 @@ use overlay_geom::number::IntNumber;
 use std::cmp::Ordering;
 use std::process::Abort;
 
-// The coordinate nearest the one that lies t / d of the way from one to another.
+// The coordinate nearest to the point t / d of the way from one to another.
 fn part_i16(rt: &impl Abort, from: i16, to: i16, t: i32, d: i32) -> i16 {
     assert!(rt; from.is_in_range());
     assert!(rt; to.is_in_range());

@@ -8,7 +8,7 @@ use overlay_geom::point::IntPoint;
 use overlay_geom::resource::IntShapeResource;
 use std::alloc::Global;
 
-// The square with its lower left corner at (low, low) and its upper right one at (high, high).
+// The square with its lower left corner at (low, low) and its upper right corner at (high, high).
 fn square<I: Copy>(low: I, high: I) -> [IntPoint<I>; 4] {
     [
         IntPoint::new(low, low),
@@ -101,8 +101,8 @@ fn is_cloned<I: IntNumber + PartialEq>(
     Ok(begins_equal && other != buffer && buffer.path_count() == 2)
 }
 
-// Tests whether two shapes, the second with a contour that is not inside the points, come out as lists of contours, and
-// a third one without contours, as its range is not inside theirs.
+// Tests the lists of three shapes: the second has a contour whose range is not inside the points, and the third a range
+// that is not inside the contours.
 fn has_shapes<I: IntNumber + PartialEq>(
     alloc: Global,
     first: &[IntPoint<I>],

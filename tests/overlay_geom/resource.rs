@@ -1,4 +1,4 @@
-//! Each kind of resource at each coordinate type: how many paths it has, and which.
+//! Each kind of resource at each coordinate type: the number of paths and the paths.
 
 use overlay_geom::number::IntNumber;
 use overlay_geom::path::{IntContour, IntShape, IntShapes, PathRef};
@@ -39,7 +39,7 @@ fn shape_of<I: IntNumber>(
     Ok(shape)
 }
 
-// Tests whether a contour, and a path that borrows it, each have it as their one path.
+// Tests whether a contour, and a path that borrows it, each have it as their only path.
 fn is_one_path<I: IntNumber + PartialEq>(
     alloc: Global,
     points: &[IntPoint<I>],
@@ -64,7 +64,7 @@ fn has_outline_and_hole<I: IntNumber + PartialEq>(
     Ok(shape.path_count() == 2 && has_path(&shape, 0, outline) && has_path(&shape, 1, hole))
 }
 
-// Tests whether shapes have the contours of each as paths, past a shape without one.
+// Tests whether shapes have the contours of each as paths, past a shape without contours.
 fn has_contours_of_all<I: IntNumber + PartialEq>(
     alloc: Global,
     outline: &[IntPoint<I>],

@@ -24,7 +24,7 @@ fn cross_from<I: IntNumber>(
     cross_at(v, p, q)
 }
 
-// The same as a product of differences.
+// The cross product as a product of differences.
 fn cross_of_ways<I: IntNumber>(
     rt: &impl Abort,
     v: IntPoint<I>,

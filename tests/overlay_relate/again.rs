@@ -20,8 +20,8 @@ const ALONG: [[i16; 2]; 4] = [[4, 0], [6, 0], [6, 4], [4, 4]];
 
 const INSIDE: [[i16; 2]; 4] = [[1, 1], [3, 1], [3, 3], [1, 3]];
 
-// What is answered of shapes that are apart, that meet in a corner, along an edge, of a subject in the clip, of one
-// round it, and of equal shapes.
+// Answers for shapes that are apart, that meet in a corner or along an edge, for a subject in the clip or round it, and
+// for equal shapes.
 const APART: [bool; 6] = [false, false, false, false, false, false];
 
 const CORNERED: [bool; 6] = [true, false, true, true, false, false];
@@ -38,8 +38,8 @@ const EQUAL: [bool; 6] = [true, true, false, false, true, true];
 
 type Built<I> = PredicateOverlay<I, Global>;
 
-// What the six predicates answer, in the order intersects, interiors_intersect, touches,
-// point_intersects, within, covers.
+// Answers of the six predicates, in the order intersects, interiors_intersect, touches, point_intersects, within,
+// covers.
 fn asked<I: OverlayInt>(overlay: &mut Built<I>) -> Result<[bool; 6], OverlayError> {
     Ok([
         overlay.intersects()?,
@@ -155,7 +155,7 @@ fn asked_before<I: OverlayInt + From<i16>>(
     Ok(overlay)
 }
 
-// Whatever adds the clip, it is heard of.
+// Any call that adds the clip changes the answers.
 #[test]
 fn after_each_adder(rt: HostRuntime) -> Result<(), Fail> {
     let alloc = rt.alloc();

@@ -1,5 +1,5 @@
-//! Questions to contours and shapes, which stop the test where a condition does not hold, or where the locations
-//! are others by lists or by trees alone.
+//! Queries of contours and shapes. They stop the test where a condition does not hold, or where locations differ by
+//! lists or by trees alone.
 
 use overlay_geom::integer::OverlayInt;
 use overlay_geom::path::{IntContour, IntShape, IntShapes};
@@ -13,7 +13,7 @@ use std::alloc::{Allocator, Global};
 use std::process::Abort;
 use std::test::Fail;
 
-/// What was answered: whether each point is inside, and where it lies.
+/// The answers: whether each point is inside, and its location.
 #[derive(Drop)]
 pub(crate) struct Answers {
     pub(crate) inside: Vec<bool, Global>,
@@ -26,7 +26,7 @@ pub(crate) fn assert_contour<I: OverlayInt>(rt: &impl Abort, contour: &[IntPoint
     assert!(rt; is_resolved(contour));
 }
 
-/// The same for each contour.
+/// Stops the test unless each contour is in range and resolved.
 pub(crate) fn assert_shape<I: OverlayInt, A: Allocator>(
     rt: &impl Abort,
     contours: &[IntContour<I, A>],
@@ -36,7 +36,7 @@ pub(crate) fn assert_shape<I: OverlayInt, A: Allocator>(
     }
 }
 
-/// The same for each shape.
+/// Stops the test unless each shape is in range and resolved.
 pub(crate) fn assert_shapes<I: OverlayInt, A: Allocator>(
     rt: &impl Abort,
     shapes: &[IntShape<I, A>],

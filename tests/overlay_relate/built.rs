@@ -71,7 +71,7 @@ fn again<I: OverlayInt + From<i16>>(rt: &impl Abort, alloc: Global) -> Result<()
     Ok(())
 }
 
-// So is each deprecated one.
+// Each deprecated adder is granted.
 fn lists<I: OverlayInt + From<i16>>(rt: &impl Abort, alloc: Global) -> Result<(), Fail> {
     let shape = square::<I>(alloc)?;
     assert_shape(rt, &shape);

@@ -25,8 +25,8 @@ fn shape<I: OverlayInt + From<i16>>(
     Ok(shape)
 }
 
-// What the six predicates answer, in the order intersects, interiors_intersect, touches,
-// point_intersects, within, covers.
+// Answers of the six predicates, in the order intersects, interiors_intersect, touches, point_intersects, within,
+// covers.
 fn answers<I: OverlayInt + From<i16>>(
     rt: &impl Abort,
     alloc: Global,
@@ -77,7 +77,7 @@ fn rows<I: OverlayInt + From<i16>>(rt: &impl Abort, alloc: Global) -> Result<(),
     Ok(())
 }
 
-// Of no edges, of a subject without any, and of a clip without any.
+// Answers without edges, with an empty subject, and with an empty clip.
 fn empty<I: OverlayInt + From<i16>>(rt: &impl Abort, alloc: Global) -> Result<(), Fail> {
     assert!(rt; answers::<I>(rt, alloc, &[], &[])? == [false; 6]);
     assert!(rt; answers::<I>(rt, alloc, &[], &SQUARE)? == [false; 6]);

@@ -11,7 +11,7 @@ use std::test::Fail;
 
 const SQUARE: [[i16; 2]; 4] = [[0, 0], [4, 0], [4, 4], [0, 4]];
 
-// What holds of no relation but that they are apart.
+// Relations of shapes that are apart: only disjoint.
 const APART: Relations = Relations {
     intersects: false,
     interiors_intersect: false,
@@ -22,7 +22,7 @@ const APART: Relations = Relations {
     covers: false,
 };
 
-// And of shapes whose interiors meet.
+// Relations of shapes whose interiors meet.
 const OVER: Relations = Relations {
     intersects: true,
     interiors_intersect: true,

@@ -1,4 +1,4 @@
-//! Which contours are resolved, at each width.
+//! Resolved contours, at each width.
 
 use crate::asked::points;
 use overlay_geom::integer::OverlayInt;

@@ -10,7 +10,7 @@ use std::alloc::Global;
 use std::process::Abort;
 use std::test::Fail;
 
-// A saw of so many edges along its teeth, and its back.
+// A saw with this number of edges along its teeth, and its back.
 fn saw_of<I: OverlayInt + From<i16>>(
     alloc: Global,
     edges: i16,

@@ -92,7 +92,7 @@ impl<S> Levels<S> {
         self.scan.insert(line, height, I::small(x))
     }
 
-    // The height of the highest edge under one from x to `end` at another height.
+    // The height of the highest edge under an edge from x to `end` at another height.
     pub(crate) fn below<I: SmallNumber>(
         &mut self,
         rt: &impl Abort,
@@ -109,7 +109,7 @@ impl<S> Levels<S> {
         self.scan.first_less(I::small(x), NONE, line)
     }
 
-    // The height of the highest edge below a vertical one over x, from a height to the next.
+    // The height of the highest edge below a vertical edge over x, from a height to the next.
     pub(crate) fn below_upright<I: SmallNumber>(
         &mut self,
         rt: &impl Abort,
@@ -165,7 +165,7 @@ fn check_two_edges<I: SmallNumber, S: Scan<I, u16>>(
     Ok(())
 }
 
-// What is found below vertical edges, under both, between them and above both.
+// Look-ups below vertical edges, under both, between them and above both.
 fn check_uprights<I: SmallNumber, S: Scan<I, u16>>(rt: &impl Abort, levels: &mut Levels<S>) {
     assert_eq!(rt; levels.below_upright(rt, 1, 0), NONE);
     assert_eq!(rt; levels.below_upright(rt, 1, 3), 2);

@@ -1,4 +1,4 @@
-//! Which of two edges is under the other, a list of no edge and of one, and one in which edges have ended.
+//! The lower of two edges, a list without edges, a list of one edge, and a list in which edges have ended.
 
 use overlay_geom::error::OverlayError;
 use overlay_geom::path::IntLine;

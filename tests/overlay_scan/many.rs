@@ -10,16 +10,16 @@ use refusing_alloc::refusing::Refusing;
 use std::alloc::Global;
 use std::process::Abort;
 
-// How many edges are put in after a refusal.
+// Number of edges inserted after a refusal.
 const LATER: u16 = 100;
 
-// Where the n-th edge starts and ends. They reach to different ends, so that some have ended later on.
+// Start and end of the n-th edge. Ends differ, so that some edges have ended later on.
 fn span_at(n: u16) -> (u16, u16) {
     let x = n / 100;
     (x, x + 1 + n % 89)
 }
 
-// The n-th height, or one that no edge has.
+// The n-th height, or a height that no edge has.
 fn height_at(heights: &[u16], n: u16) -> u16 {
     match heights.get(usize::from(n)) {
         Some(height) => *height,
@@ -27,7 +27,8 @@ fn height_at(heights: &[u16], n: u16) -> u16 {
     }
 }
 
-// What each look-up finds where the n-th edge starts: up to some height, below a level edge and below a vertical one.
+// Answers of each look-up at the start of the n-th edge: up to some height, below a level edge and below a vertical
+// edge.
 fn answers<I: SmallNumber, S: Scan<I, u16>>(
     levels: &mut Levels<S>,
     rt: &impl Abort,
@@ -57,7 +58,7 @@ fn put_and_ask<I: SmallNumber, S: Scan<I, u16>, T: Scan<I, u16>>(
     Ok(())
 }
 
-// Puts the edges from one to before another into both, and asks both after each.
+// Inserts the edges of a range into both, and asks both after each.
 fn check_order<I: SmallNumber, S: Scan<I, u16>, T: Scan<I, u16>>(
     rt: &impl Abort,
     list: &mut Levels<S>,
@@ -124,7 +125,7 @@ fn check_refused<I: SmallNumber, S: Scan<I, u16>, T: Scan<I, u16>>(
     Ok(false)
 }
 
-// The same, where so many requests of the tree are granted before one is refused.
+// Makes that check with this number of requests of the tree granted, and returns whether one was refused.
 fn is_refused_after<I: SmallNumber>(
     rt: &impl Abort,
     alloc: Global,

@@ -3,7 +3,7 @@
 use overlay_geom::error::OverlayError;
 use std::alloc::Global;
 
-// How many heights there are.
+// Number of heights.
 pub(crate) const COUNT: u16 = 10_000;
 
 // In which order they come.
@@ -52,7 +52,7 @@ fn place_at(order: Order, n: u16) -> u16 {
     }
 }
 
-// Adds the n-th height, at random in the place of a drawn one, which comes last.
+// Adds the n-th height in place of a height drawn at random, which moves to the end.
 fn add_height(heights: &mut Vec<u16, Global>, order: Order, n: u16) -> Result<(), OverlayError> {
     heights.push(height_of(place_at(order, n)))?;
     let count = heights.len();

@@ -10,7 +10,7 @@ use std::alloc::Global;
 use std::process::Abort;
 use std::test::Fail;
 
-// A square of 20 round the origin, a square of 10 in it as a closed string, and one of 2 in that.
+// A square of 20 round the origin, a square of 10 in it as a closed string, and a square of 2 in that.
 const SQUARE: Points<'static> = &[(-10, 10), (-10, -10), (10, -10), (10, 10)];
 
 const INNER: Points<'static> = &[(-5, -5), (-5, 5), (5, 5), (5, -5), (-5, -5)];

@@ -17,7 +17,7 @@ use std::process::Abort;
 /// Points by their coordinates, small enough for each coordinate type.
 pub(crate) type Points<'a> = &'a [(i16, i16)];
 
-/// The counts of a step that leads from its edge's smaller end to the larger, and of one back.
+/// The counts of a step that leads from its edge's smaller end to the larger, and of a step back.
 #[derive(Clone, Copy)]
 struct Counts {
     along: ShapeCountString,

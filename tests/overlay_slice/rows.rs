@@ -39,7 +39,7 @@ fn check<I: IntNumber + PartialEq + From<i16>>(
     Ok(())
 }
 
-// A line through a square cuts it in two; one that ends inside cuts nothing, and its point on the side stays.
+// A line through a square cuts it in two; a line that ends inside cuts nothing, and its point on the side stays.
 fn lines<I: IntNumber + PartialEq + From<i16>>(rt: &impl Abort, alloc: Global) -> Result<(), Fail> {
     check::<I>(rt, alloc, &[SQUARE], &[MIDDLE], &[&[LOWER], &[UPPER]])?;
     check::<I>(

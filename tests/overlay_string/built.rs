@@ -38,7 +38,7 @@ fn has_shape_with<I: OverlayInt + From<i16>>(rt: &impl Abort, alloc: Global) -> 
     Ok(overlay.options.ogc)
 }
 
-// Tests whether those of one with a shape and a string are.
+// Tests whether a builder with a shape and a string has the default options.
 fn has_both<I: OverlayInt + From<i16>>(rt: &impl Abort, alloc: Global) -> Result<bool, Fail> {
     let shape = paths_of::<I>(alloc, &[SQUARE])?;
     let string = path_of::<I>(alloc, &[(-1, 2), (5, 2)])?;
@@ -125,7 +125,7 @@ fn sources<I: OverlayInt + From<i16>>(rt: &impl Abort, alloc: Global) -> Result<
     Ok(())
 }
 
-// So is each deprecated one of contours and of paths.
+// Each deprecated adder of contours and of paths is granted.
 fn lists<I: OverlayInt + From<i16>>(rt: &impl Abort, alloc: Global) -> Result<(), Fail> {
     let mut overlay: StringOverlay<I, Global> = StringOverlay::new(alloc, 0)?;
     let paths = paths_of::<I>(alloc, &[SQUARE, &[(0, 0), (3, 1)]])?;
@@ -136,7 +136,7 @@ fn lists<I: OverlayInt + From<i16>>(rt: &impl Abort, alloc: Global) -> Result<()
     Ok(())
 }
 
-// And that of shapes.
+// The deprecated adder of shapes is granted.
 fn lists_of_shapes<I: OverlayInt + From<i16>>(rt: &impl Abort, alloc: Global) -> Result<(), Fail> {
     let mut overlay: StringOverlay<I, Global> = StringOverlay::new(alloc, 0)?;
     let mut shapes: IntShapes<I, Global> = Vec::new(alloc);
@@ -158,7 +158,7 @@ fn has_contour<I: OverlayInt + From<i16>>(rt: &impl Abort, alloc: Global) -> Res
     )
 }
 
-// Tests whether one that is made from several does.
+// Tests whether a builder made from several contours has the default options.
 fn has_contours<I: OverlayInt + From<i16>>(rt: &impl Abort, alloc: Global) -> Result<bool, Fail> {
     let shape = paths_of::<I>(alloc, &[SQUARE])?;
     assert_in_range(rt, &BorrowedContours { contours: &shape });
@@ -169,14 +169,14 @@ fn has_contours<I: OverlayInt + From<i16>>(rt: &impl Abort, alloc: Global) -> Re
     )
 }
 
-// Tests whether one that is made from a shape does.
+// Tests whether a builder made from a shape has the default options.
 fn has_one_shape<I: OverlayInt + From<i16>>(rt: &impl Abort, alloc: Global) -> Result<bool, Fail> {
     let shape = paths_of::<I>(alloc, &[SQUARE])?;
     assert_in_range(rt, &BorrowedContours { contours: &shape });
     Ok(!StringOverlay::with_shape(alloc, &shape)?.options.ogc)
 }
 
-// Tests whether one that is made from several does.
+// Tests whether a builder made from several shapes has the default options.
 fn has_shapes<I: OverlayInt + From<i16>>(rt: &impl Abort, alloc: Global) -> Result<bool, Fail> {
     let mut shapes: IntShapes<I, Global> = Vec::new(alloc);
     shapes.push(paths_of::<I>(alloc, &[SQUARE])?)?;

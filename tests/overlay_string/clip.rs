@@ -125,7 +125,7 @@ fn fork<I: OverlayInt + PartialEq + From<i16>>(rt: &impl Abort, alloc: Global) -
     check::<I>(rt, alloc, SQUARE, strings, INSIDE, wanted)
 }
 
-// Shapes of one corner, and of a notch; and a path along the side of a shape.
+// Shapes with a single corner, and with a notch; and a path along the side of a shape.
 fn corners<I: OverlayInt + PartialEq + From<i16>>(
     rt: &impl Abort,
     alloc: Global,

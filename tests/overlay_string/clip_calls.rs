@@ -44,7 +44,7 @@ const IN_AND_OUT: Points<'static> = &[
     (-15, -15),
 ];
 
-// What it has below in the square.
+// The part of the path below, in the square.
 const BELOW: Points<'static> = &[(10, -5), (5, -5), (0, -10), (-5, -5), (-10, -10)];
 
 // The clip rules, by whether they keep what is outside, and whether the boundary.
@@ -68,7 +68,7 @@ const NOT_WITHIN: ClipRule = ClipRule {
     boundary_included: true,
 };
 
-// What is left of a line.
+// The parts of a line that are left.
 fn by_line<I: OverlayInt + From<i16>>(
     rt: &impl Abort,
     alloc: Global,
@@ -84,7 +84,7 @@ fn by_line<I: OverlayInt + From<i16>>(
     Ok(shape.clip_line(alloc, line, FillRule::NonZero, rule)?)
 }
 
-// What is left of several lines.
+// The parts of several lines that are left.
 fn by_lines<I: OverlayInt + From<i16>>(
     rt: &impl Abort,
     alloc: Global,
@@ -98,7 +98,7 @@ fn by_lines<I: OverlayInt + From<i16>>(
     Ok(shape.clip_lines(alloc, borrowed.lines, FillRule::NonZero, INSIDE)?)
 }
 
-// What is left of a path.
+// The parts of a path that are left.
 fn by_path<I: OverlayInt + From<i16>>(
     rt: &impl Abort,
     alloc: Global,
@@ -113,7 +113,7 @@ fn by_path<I: OverlayInt + From<i16>>(
     Ok(shape.clip_path(alloc, &path, FillRule::NonZero, rule)?)
 }
 
-// What is left of the paths in a list inside the square.
+// The parts of listed paths that are left inside the square.
 fn by_paths<I: OverlayInt + From<i16>>(
     rt: &impl Abort,
     alloc: Global,
@@ -127,7 +127,7 @@ fn by_paths<I: OverlayInt + From<i16>>(
     Ok(shape.clip_paths(alloc, borrowed.contours, FillRule::NonZero, INSIDE)?)
 }
 
-// What is left of the paths of a resource inside it.
+// The parts of a resource's paths that are left inside the square.
 fn by_source<I: OverlayInt + From<i16>>(
     rt: &impl Abort,
     alloc: Global,
@@ -166,7 +166,7 @@ fn leaves_of_path<I: OverlayInt + PartialEq + From<i16>>(
     Ok(paths == paths_of(alloc, wanted)?)
 }
 
-// Tests whether of lines that meet in one point the first edge in order goes on.
+// Tests whether the first edge in order goes on where lines meet in one point.
 fn forks<I: OverlayInt + PartialEq + From<i16>>(
     rt: &impl Abort,
     alloc: Global,
@@ -191,7 +191,7 @@ fn turns_back<I: OverlayInt + PartialEq + From<i16>>(
     Ok(paths == paths_of(alloc, &[&[(0, -10), (0, 10), (0, -10)]])?)
 }
 
-// Tests whether a part of one path in a list is left, and nothing of one at a distance.
+// Tests whether part of a path in a list is left, and nothing of a path at a distance.
 fn leaves_of_paths<I: OverlayInt + PartialEq + From<i16>>(
     rt: &impl Abort,
     alloc: Global,

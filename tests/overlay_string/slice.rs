@@ -64,7 +64,7 @@ fn by_lines<I: OverlayInt + From<i16>>(
     Ok(shape.slice_by_lines(alloc, borrowed.lines, FillRule::NonZero)?)
 }
 
-// Those into which a path cuts one contour.
+// The shapes into which a path cuts a contour.
 fn by_path<I: OverlayInt + From<i16>>(
     rt: &impl Abort,
     alloc: Global,
@@ -191,7 +191,7 @@ fn passes_the_top<I: OverlayInt + PartialEq + From<i16>>(
     cuts::<I>(rt, alloc, &[triangle], &[(-5, 2), (5, 2)], wanted)
 }
 
-// Tests whether one line between two holes cuts nothing.
+// Tests whether a single line between two holes cuts nothing.
 fn joins_holes<I: OverlayInt + PartialEq + From<i16>>(
     rt: &impl Abort,
     alloc: Global,
@@ -216,7 +216,7 @@ fn parts_holes<I: OverlayInt + PartialEq + From<i16>>(
     Ok(shapes.len() == 2 && shapes[0].len() == 2 && shapes[1].len() == 1)
 }
 
-// Tests whether lines along each other in both directions cut as one does.
+// Tests whether lines along each other in both directions cut as a single line does.
 fn cuts_by_lines<I: OverlayInt + PartialEq + From<i16>>(
     rt: &impl Abort,
     alloc: Global,
@@ -249,7 +249,7 @@ fn leaves_open<I: OverlayInt + PartialEq + From<i16>>(
     Ok(are_shapes(alloc, &shapes, wanted)?)
 }
 
-// Tests whether a list of two paths cuts a square, one of which is at a distance.
+// Tests whether a list of two paths cuts a square, where one path is at a distance.
 fn cuts_by_paths<I: OverlayInt + PartialEq + From<i16>>(
     rt: &impl Abort,
     alloc: Global,
@@ -306,7 +306,7 @@ fn strings<I: OverlayInt + PartialEq + From<i16>>(
     Ok(())
 }
 
-// A square that is counterclockwise is filled by each rule but one.
+// A counterclockwise square is filled by each rule but one.
 fn rules<I: OverlayInt + PartialEq + From<i16>>(
     rt: &impl Abort,
     alloc: Global,

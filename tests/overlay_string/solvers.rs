@@ -1,5 +1,5 @@
-//! A needle with a line along its long sides, which rounds do not settle, and snap rounding does: each call in one,
-//! with and without a solver, and the builder's calls, at each coordinate type.
+//! A needle with a line along its long sides, which rounds do not settle, and snap rounding does. It tests each single
+//! call, with and without a solver, and the builder's calls, at each coordinate type.
 
 use crate::points::{Points, are_shapes, assert_in_range, line_of, path_of, paths_of};
 use overlay_arrange::fill_rule::FillRule;
@@ -25,12 +25,12 @@ const NEEDLE: Points<'static> = &[(2, 0), (0, 66), (2, -66)];
 const LINE: Points<'static> = &[(1, 0), (0, 67)];
 
 // By hand: both crossings of the line round to (0, 65), and the end (1, 0) of the line bends the left side. So the
-// needle has four sides, of which one is the line from (1, 0) to (0, 65); what is left of the line lies outside.
+// needle has four sides; one is the line from (1, 0) to (0, 65). The rest of the line lies outside.
 const SLICES: &[&[Points<'static>]] = &[&[&[(0, 65), (1, 0), (2, -66), (2, 0)]]];
 
 const SHARED: Points<'static> = &[(1, 0), (0, 65)];
 
-// What is inside, with the boundary and without.
+// The parts inside, with the boundary and without.
 const WITH_BOUNDARY: ClipRule = ClipRule {
     invert: false,
     boundary_included: true,
@@ -43,10 +43,10 @@ const WITHOUT: ClipRule = ClipRule {
 
 const RULE: FillRule = FillRule::NonZero;
 
-// What a call gives of the line.
+// The answer of a clip of the line.
 type Clipped<I> = Result<Vec<IntPath<I, Global>, Global>, OverlayError>;
 
-// And of the needle.
+// The answer of a slice of the needle.
 type Sliced<I> = Result<IntShapes<I, Global>, OverlayError>;
 
 // The needle, in range.
@@ -102,7 +102,7 @@ fn clips<I: OverlayInt + PartialEq + From<i16>>(
     Ok(())
 }
 
-// So it is as one of several lines.
+// Clips the line as one of several lines.
 fn clips_lines<I: OverlayInt + PartialEq + From<i16>>(
     rt: &impl Abort,
     alloc: Global,
@@ -152,7 +152,7 @@ fn clips_paths<I: OverlayInt + PartialEq + From<i16>>(
     Ok(())
 }
 
-// Tests whether the needle is cut into its one shape.
+// Tests whether the needle is cut into its single shape.
 fn is_sliced<I: OverlayInt + PartialEq + From<i16>>(
     alloc: Global,
     answer: Sliced<I>,
@@ -182,7 +182,7 @@ fn slices<I: OverlayInt + PartialEq + From<i16>>(
     Ok(())
 }
 
-// And by each one with a path.
+// Slices by each call with a path.
 fn slices_by_paths<I: OverlayInt + PartialEq + From<i16>>(
     rt: &impl Abort,
     alloc: Global,

@@ -14,18 +14,18 @@ use std::alloc::Global;
 use std::process::Abort;
 use std::test::Fail;
 
-// The outlines round the wide square, and round the narrow one, which is cut out of it.
+// The outlines round the wide square, and round the narrow square, which is cut out of it.
 const WIDE_ROUND: Points<'static> = &[(10, -10), (10, 10), (-10, 10), (-10, -10)];
 
 const NARROW_ROUND: Points<'static> = &[(5, -5), (5, 5), (-5, 5), (-5, -5)];
 
-// The wide one, walked the other way.
+// The wide square, walked the other way.
 const WIDE_BACK: Points<'static> = &[(-10, -10), (-10, 10), (10, 10), (10, -10)];
 
-// The wide square, cut along the narrow one.
+// The wide square, cut along the narrow square.
 const CUT: &[&[Points<'static>]] = &[&[WIDE_ROUND, NARROW], &[NARROW_ROUND]];
 
-// The same with clockwise outlines.
+// The cut squares with clockwise outlines.
 const CUT_CLOCKWISE: &[&[Points<'static>]] = &[&[WIDE_BACK, NARROW_ROUND], &[NARROW]];
 
 // Without what the narrow square bounds.
@@ -93,7 +93,7 @@ fn shows_by<I: OverlayInt + PartialEq + From<i16>>(
     are_shapes(alloc, &shapes, wanted)
 }
 
-// Tests whether a view of the wide square with the narrow one as a closed string gives these, asked twice.
+// Tests whether a view of the wide square with the narrow square as a closed string gives these shapes, asked twice.
 fn is_viewed<I: OverlayInt + PartialEq + From<i16>>(
     rt: &impl Abort,
     alloc: Global,
@@ -182,7 +182,7 @@ fn has_view<I: OverlayInt + From<i16>>(
     Ok(overlay.build_graph_view(FillRule::NonZero)?.is_some())
 }
 
-// Tests whether there is one with a solver.
+// Tests whether there is a view with a solver.
 fn has_view_with_solver<I: OverlayInt + From<i16>>(
     rt: &impl Abort,
     alloc: Global,
@@ -203,7 +203,7 @@ fn is_viewed_without_shape<I: OverlayInt + PartialEq + From<i16>>(
     Ok(shows_filled(alloc, &mut overlay, FillRule::NonZero, &[])?)
 }
 
-// What is extracted, by default and by options; those of points and of groups are not read.
+// Extractions by default and by options; the options for points and for groups are not read.
 fn extracted<I: OverlayInt + PartialEq + From<i16>>(
     rt: &impl Abort,
     alloc: Global,
@@ -228,7 +228,7 @@ fn present<I: OverlayInt + From<i16>>(rt: &impl Abort, alloc: Global) -> Result<
     Ok(())
 }
 
-// The same with a solver.
+// Extractions with a solver.
 fn present_with_solver<I: OverlayInt + From<i16>>(
     rt: &impl Abort,
     alloc: Global,
@@ -241,7 +241,7 @@ fn present_with_solver<I: OverlayInt + From<i16>>(
     Ok(())
 }
 
-// Minimum areas: the narrow square has an area of 100, the wide one of 400.
+// Minimum areas: the narrow square has an area of 100, the wide square of 400.
 fn minimums<I: OverlayInt + PartialEq + From<i16>>(
     rt: &impl Abort,
     alloc: Global,

@@ -1,4 +1,4 @@
-//! Which grids fit, at each coordinate type.
+//! Grids that fit, at each coordinate type.
 
 use crate::points::{Points, assert_in_range, contour_of, corners_of, grid_of};
 use overlay_geom::integer::OverlayInt;
@@ -42,7 +42,8 @@ fn cells_of_no_size<I: OverlayInt + From<i16>>(rt: &impl Abort, alloc: Global) -
     Ok(())
 }
 
-// Of the square from one end of the range to the other: the greatest cell fits, and one a little wider is out of range.
+// Cells for the square from one end of the range to the other: the greatest cell fits, and a cell a little wider is out
+// of range.
 fn ends_of_range<I: OverlayInt>(
     rt: &impl Abort,
     alloc: Global,

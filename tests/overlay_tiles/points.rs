@@ -45,7 +45,7 @@ pub(crate) fn corners_of<I: OverlayInt>(
     Ok(corners)
 }
 
-/// Tests whether these are the shapes, each of one contour.
+/// Tests whether these are the shapes, each of a single contour.
 pub(crate) fn are_tiles<I: OverlayInt + PartialEq + From<i16>>(
     alloc: Global,
     shapes: &IntShapes<I, Global>,

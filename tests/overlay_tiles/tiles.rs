@@ -43,8 +43,7 @@ fn square<I: OverlayInt + PartialEq + From<i16>>(
     Ok(())
 }
 
-// An L of which the grid's upright line cuts the foot, and a triangle whose hypotenuse is cut in points that are
-// rounded.
+// An L whose foot the grid's upright line cuts, and a triangle whose hypotenuse is cut in rounded points.
 fn others<I: OverlayInt + PartialEq + From<i16>>(
     rt: &impl Abort,
     alloc: Global,

@@ -10,7 +10,7 @@ use std::alloc::Global;
 use std::process::Abort;
 use std::test::Fail;
 
-// Each edge is held from its smaller end, and one between equal points is none.
+// Each edge is held from its smaller end, and equal points have no edge.
 fn held<I: OverlayInt + PartialEq + From<i16>>(rt: &impl Abort, alloc: Global) -> Result<(), Fail> {
     let mut overlay: EdgeOverlay<I, Colour, Global> = EdgeOverlay::new(alloc, 0)?;
     assert!(rt; overlay.is_balanced());

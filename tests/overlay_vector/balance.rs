@@ -8,7 +8,7 @@ use std::alloc::Global;
 use std::process::Abort;
 use std::test::Fail;
 
-// A triangle, and its three sides without the last, and that one alone.
+// A triangle, its three sides without the last, and the last side alone.
 const CLOSED: &[Place] = &[(0, 0), (4, 0), (0, 4), (0, 0)];
 
 const OPEN: &[Place] = &[(0, 0), (4, 0), (0, 4)];
@@ -28,7 +28,7 @@ fn balanced<I: OverlayInt + From<i16>>(
     Ok(overlay.is_balanced())
 }
 
-// The subject and the clip are balanced each by itself: the one doesn't make up for the other.
+// The subject and the clip are balanced each by itself: neither makes up for the other.
 fn rows<I: OverlayInt + From<i16>>(rt: &impl Abort, alloc: Global) -> Result<(), Fail> {
     assert!(rt; balanced::<I>(rt, alloc, &[], &[])?);
     assert!(rt; balanced::<I>(rt, alloc, CLOSED, &[])?);

@@ -16,7 +16,7 @@ pub(crate) enum Colour {
     Undefined,
 }
 
-/// How often each operation on data was asked for.
+/// Number of calls of each operation on data.
 #[derive(Debug, Clone, Copy, PartialEq, Eq, Default)]
 pub(crate) struct Calls {
     /// Equal edges that were merged.

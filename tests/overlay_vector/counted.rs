@@ -1,4 +1,4 @@
-//! What a builder's calls leave in its store, which counts: what it held before, and what each of them asked of it.
+//! Calls of a builder counted in its store: the earlier count, and the calls that each of them made.
 
 use crate::colour::{Calls, Colour};
 use crate::edges::{add_contour, add_each, edge_of};
@@ -10,7 +10,7 @@ use std::alloc::Global;
 use std::process::Abort;
 use std::test::Fail;
 
-// So many calls.
+// These numbers of calls.
 fn calls(merges: u32, splits: u32, reverses: u32) -> Calls {
     Calls {
         merges,
@@ -19,7 +19,7 @@ fn calls(merges: u32, splits: u32, reverses: u32) -> Calls {
     }
 }
 
-// Two squares that overlap, the one in one call and the other edge by edge: of each two edges are held reversed.
+// Two squares that overlap, the first in one call and the second edge by edge: two edges of each are held reversed.
 fn added<I: OverlayInt + From<i16>>(rt: &impl Abort, alloc: Global) -> Result<(), Fail> {
     let mut overlay: EdgeOverlay<I, Colour, Global> = EdgeOverlay::new(alloc, 8)?;
     *overlay.data_store_mut() = calls(10, 20, 30);

@@ -15,10 +15,10 @@ use std::process::Abort;
 /// A colour, and places: an edge of the colour leads from each to the next.
 pub(crate) type Way<'a> = (Colour, &'a [Place]);
 
-/// Where an edge of a contour begins, its filled sides and its colour. It ends where the next begins.
+/// The start of an edge of a contour, its filled sides and its colour. It ends where the next begins.
 pub(crate) type Begun = (Place, SideFill, Colour);
 
-/// What is asked of an overlay, and the shapes that it is to give.
+/// The query of an overlay, and the expected shapes.
 #[derive(Drop)]
 pub(crate) struct Row<'a> {
     /// The ways of the subject.

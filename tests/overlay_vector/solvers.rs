@@ -30,8 +30,8 @@ fn needles<I: OverlayInt + From<i16>>(
     Ok(overlay)
 }
 
-// The union of the needles. Their crossings round to (0, 65), by hand, and what they share from there to (1, 0) lies
-// inside. Each edge that is left is one needle's.
+// The union of the needles. Their crossings round to (0, 65), by hand, and their common part from there to (1, 0) lies
+// inside. Each edge that is left belongs to one needle.
 fn union<I: OverlayInt + PartialEq + From<i16>>(
     rt: &impl Abort,
     alloc: Global,

@@ -1,4 +1,4 @@
-//! Sets of sources as data of edges, and a store that grants so many unions.
+//! Sets of sources as data of edges, and a store that grants a number of unions.
 
 ghost use Rattle.std.specs.Prelude.{⊤};
 
@@ -14,17 +14,17 @@ pub(crate) struct Sources {
     pub(crate) is_against: bool,
 }
 
-/// What is left to be granted; nothing is granted before it is filled.
+/// The unions still to be granted; nothing is granted before it is filled.
 #[derive(Debug, Clone, Copy, PartialEq, Eq, Default)]
 pub(crate) struct Grants {
-    /// How many unions are granted, where it is filled.
+    /// Number of granted unions, once it is filled.
     pub(crate) left: Option<u32>,
-    /// How many unions were refused.
+    /// Number of refused unions.
     pub(crate) refused: u32,
 }
 
 impl Grants {
-    // Takes one of what is left, if there is one.
+    // Takes one of the unions left, if there is one.
     fn take(&mut self) -> bool {
         match self.left {
             Some(left) if left > 0 => {

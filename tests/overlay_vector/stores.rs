@@ -12,7 +12,7 @@ use std::alloc::Global;
 use std::process::Abort;
 use std::test::Fail;
 
-// What an edge of these sources carries, on its way.
+// The data of an edge of these sources, on its way.
 fn sources(bits: u8) -> Sources {
     Sources {
         bits,
@@ -20,7 +20,7 @@ fn sources(bits: u8) -> Sources {
     }
 }
 
-// Three edges of three sources that overlap, and a store that grants so many unions.
+// Three edges of three sources that overlap, and a store that grants this number of unions.
 fn three_edges<I: OverlayInt + From<i16>>(
     rt: &impl Abort,
     alloc: Global,
@@ -36,7 +36,7 @@ fn three_edges<I: OverlayInt + From<i16>>(
     Ok(overlay)
 }
 
-// Where all four unions are granted, each piece has all its sources.
+// Each piece has all its sources if all four unions are granted.
 fn granted<I: OverlayInt + PartialEq + From<i16>>(
     rt: &impl Abort,
     alloc: Global,

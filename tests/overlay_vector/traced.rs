@@ -9,7 +9,7 @@ use std::alloc::Global;
 use std::process::Abort;
 use std::test::Fail;
 
-/// A red and a green square that overlap: what both pass is of no colour.
+/// A red and a green square that overlap: edges of both have no colour.
 pub(crate) const OVERLAPPING: Row<'static> = Row {
     subj: &[(Colour::Red, &[(0, 0), (4, 0), (4, 4), (0, 4), (0, 0)])],
     clip: &[(Colour::Green, &[(2, 0), (6, 0), (6, 4), (2, 4), (2, 0)])],
@@ -62,7 +62,7 @@ pub(crate) const ONE_COLOUR: Row<'static> = Row {
     ]]],
 };
 
-/// A green triangle, as a hole in a red one, touches its longest side, and is a part of its contour.
+/// A green triangle, as a hole in a red triangle, touches its longest side, and is a part of its contour.
 pub(crate) const TOUCHING: Row<'static> = Row {
     subj: &[
         (Colour::Red, &[(-5, 0), (0, 0), (0, 5), (-5, 0)]),
@@ -89,7 +89,7 @@ const SIDE_BY_SIDE: &[Way<'static>] = &[
     (Colour::Red, &[(2, 0), (4, 0), (4, 2), (2, 2), (2, 0)]),
 ];
 
-/// Their sides on one line are joined.
+/// Their collinear sides are joined.
 pub(crate) const JOINED: Row<'static> = Row {
     subj: SIDE_BY_SIDE,
     clip: &[],
@@ -104,7 +104,7 @@ pub(crate) const JOINED: Row<'static> = Row {
     ]]],
 };
 
-/// And here they are kept.
+/// Their collinear sides are kept.
 pub(crate) const KEPT: Row<'static> = Row {
     subj: SIDE_BY_SIDE,
     clip: &[],
@@ -121,7 +121,7 @@ pub(crate) const KEPT: Row<'static> = Row {
     ]]],
 };
 
-/// A green square cut out of a red one: the hole passes it the other way round.
+/// A green square cut out of a red square: the hole passes it the other way round.
 pub(crate) const CUT_OUT: Row<'static> = Row {
     subj: &[(Colour::Red, &[(0, 0), (6, 0), (6, 6), (0, 6), (0, 0)])],
     clip: &[(Colour::Green, &[(2, 2), (4, 2), (4, 4), (2, 4), (2, 2)])],

@@ -21,7 +21,7 @@ use std::test::Fail;
 // Edges with colours.
 type Coloured<I> = Content<I, CountWithData<Colour>, Global>;
 
-// How often a step of the subject, or of the clip, passes its edge: once, along it or back.
+// Counts of an edge that a step of the subject or of the clip passes once, along it or back.
 fn passed(shape_type: ShapeType, is_along: bool) -> ShapeCountBoolean {
     match (shape_type, is_along) {
         (ShapeType::Subject, true) => ShapeCountBoolean { subj: 1, clip: 0 },
@@ -104,8 +104,8 @@ fn answered<I: OverlayInt + From<i16>>(
     Ok(overlay)
 }
 
-// Tests whether the graph of the row's edges, lent the buffer of another builder, gives the row's shapes, where a tree
-// is taken from so many shapes on.
+// Tests whether the graph of the row's edges, with the buffer of another builder, gives the row's shapes, with a tree
+// from this number of shapes on.
 fn gives<I: OverlayInt + PartialEq + From<i16>>(
     rt: &impl Abort,
     alloc: Global,

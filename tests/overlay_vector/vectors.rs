@@ -25,7 +25,7 @@ fn two_squares<I: OverlayInt + From<i16>>() -> [DataVectorEdge<I, Colour>; 8] {
     ]
 }
 
-// Their union: what both pass is of no colour.
+// Their union: edges of both have no colour.
 fn union<I: OverlayInt + PartialEq + From<i16>>(
     rt: &impl Abort,
     alloc: Global,

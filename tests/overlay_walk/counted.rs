@@ -14,7 +14,7 @@ use overlay_walk::step::Step;
 use std::alloc::Global;
 use std::process::Abort;
 
-/// An edge by the coordinates of its ends, and how often the subject passes it.
+/// An edge by the coordinates of its ends, and the number of times that the subject passes it.
 pub type Counted = (i16, i16, i16, i16, i32);
 
 /// A square with a triangle in it that touches its left side in the point (0, 3).

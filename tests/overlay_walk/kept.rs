@@ -32,7 +32,7 @@ const ISLAND: [Counted; 11] = [
     (2, 5, 4, 6, -1),
 ];
 
-/// Five squares, each in the one before it.
+/// Five nested squares.
 const NESTED: [Counted; 20] = [
     (0, 0, 100, 0, 1),
     (100, 0, 100, 100, 1),
@@ -56,7 +56,7 @@ const NESTED: [Counted; 20] = [
     (40, 40, 40, 60, -1),
 ];
 
-// What is kept of a graph: the contours, the shapes found for them, and the holes round their outlines.
+// The kept parts of a graph: the contours, the shapes found for them, and the holes round their outlines.
 #[derive(Drop)]
 struct Kept<I: IntNumber> {
     contours: Vec<Contour<I, Global>, Global>,

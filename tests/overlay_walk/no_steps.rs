@@ -8,7 +8,7 @@ use std::alloc::Global;
 use std::process::Abort;
 use std::test::Fail;
 
-// Among no steps there is no start; a buffer lends its room and takes another one.
+// Checks that a list without steps has no start, and that a buffer lends its memory and takes another list's.
 fn check_none<I: IntNumber>(rt: &impl Abort, alloc: Global) -> Result<(), OverlayError> {
     let mut buffer: BooleanExtractionBuffer<I, Global> = BooleanExtractionBuffer::default(alloc);
     let mut open = OpenSteps::new(buffer.take_room(alloc))?;

@@ -73,7 +73,7 @@ fn check_walk<I: IntNumber>(
     Ok(())
 }
 
-// And so does the one walk of the cut by the rule.
+// Checks that the single walk of the cut by the rule does so too.
 fn check_cut<I: IntNumber>(
     rt: &impl Abort,
     alloc: Global,

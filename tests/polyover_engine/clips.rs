@@ -10,7 +10,7 @@ const SQUARE: &str = "subject -10 -10 -10 10 10 10 10 -10\n";
 
 const PATH: &str = "line -20 10 -20 0 0 0 0 10 5 10 20 -5 5 -5 0 -10 -5 -5 -15 -15\n";
 
-// What the engine writes for lines, clipped by the contours.
+// Checks the output of the engine for lines, clipped by the contours.
 fn check_clip(rt: &(impl Abort + Alloc), contours: &str, lines: &str, rule: &str, wanted: &str) {
     let mut input = String::new(rt.alloc());
     let made = write!(input, "{contours}{lines}run clip {rule}\n");
@@ -135,8 +135,8 @@ fn shapes_with_corners(rt: HostRuntime) {
     }
 }
 
-// Without a shape all lies outside. An open line does not run back to its first point, and one of less than two points
-// adds nothing.
+// Without a shape all lies outside. An open line does not run back to its first point, and a line of less than two
+// points adds nothing.
 #[test]
 fn few_points(rt: HostRuntime) {
     check_clip(&rt, "", "line 0 0 10 0\n", "NonZero invert", "0 0 10 0\n");
@@ -166,7 +166,7 @@ fn a_line_through_a_hole(rt: HostRuntime) {
     check_clip(&rt, twice, "line -1 4 10 4\n", "NonZero", "0 4 9 4\n");
 }
 
-// Of the figures the clip and the points are read, and change nothing; nor does the order of the lines.
+// The clip and the points are read, and change nothing; nor does the order of the lines.
 #[test]
 fn what_is_not_used(rt: HostRuntime) {
     let contours = "clip -20 -20 20 -20 20 20 -20 20\npoint 0 0\nline 0 -15 0 15\n";

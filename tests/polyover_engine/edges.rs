@@ -73,7 +73,7 @@ fn edges_that_overlap_are_cut(rt: HostRuntime) {
     );
 }
 
-// How the engine ends on the input.
+// The way in which the engine ends on the input.
 fn end_of(rt: &(impl Abort + Alloc), input: &[u8]) -> Exit {
     let mut reader = input;
     let mut written = Vec::new(rt.alloc());

@@ -52,7 +52,7 @@ const ROWS: &[(&[u8], &str)] = &[
     ),
 ];
 
-// Returns whether the engine answers where so many growths are granted; if not, memory is refused, and none is left.
+// Returns whether the engine answers with this number of growths granted; if not, memory is refused, and none is left.
 fn is_answered(rt: &(impl Abort + Alloc), granted: u64, input: &[u8], wanted: &str) -> bool {
     let memory = Refusing::new(rt.alloc(), granted);
     let mut reader = input;

@@ -1,4 +1,4 @@
-//! Shapes and which of them lie in holes of which, as the program writes them.
+//! Shapes in holes of other shapes, as the program writes them.
 
 use crate::runs::check;
 use polyover_engine::exit::Exit;
@@ -13,7 +13,7 @@ const PAIR: &str = "subject 0 0 100 0 100 100 0 100\nsubject 10 10 90 10 90 90 1
 
 const ISLAND: &str = "subject 0 0 10 0 10 10 0 10\nsubject 2 2 2 8 8 8 8 2\nsubject 2 5 4 4 4 6\n";
 
-// What the engine writes for a hierarchy of the contours.
+// Checks the output of the engine for a hierarchy of the contours.
 fn check_hierarchy(rt: &(impl Abort + Alloc), contours: &str, command: &str, wanted: &str) {
     let mut input = String::new(rt.alloc());
     let made = write!(input, "{contours}run hierarchy {command}\n");
@@ -74,7 +74,7 @@ fn shapes_in_holes(rt: HostRuntime) {
     }
 }
 
-// Below the minimum area an island goes, and its link; and what an outline has in its hole.
+// An island below the minimum area is left out with its link, and a small outline with the contents of its hole.
 #[test]
 fn small_shapes_have_no_links(rt: HostRuntime) {
     let rows = [

@@ -66,7 +66,7 @@ impl<A: Allocator> Write for SlowWriter<A> {
     }
 }
 
-// What the engine writes, reading and writing slowly, and that all of it was flushed.
+// Checks the output of the engine, reading and writing slowly, and that all of it was flushed.
 fn check_slowly(rt: &(impl Abort + Alloc), input: &[u8], wanted: &[u8], exit: Exit) {
     let mut reader = SlowReader {
         bytes: input,

@@ -6,7 +6,7 @@ use polyover_engine::exit::Exit;
 use std::fmt::Write as _;
 use std::process::Abort;
 
-// What the engine writes for an overlay of the contours.
+// Checks the output of the engine for an overlay of the contours.
 fn check_overlay(rt: &(impl Abort + Alloc), contours: &str, command: &str, wanted: &str) {
     let mut input = String::new(rt.alloc());
     let made = write!(input, "{contours}run overlay {command}\n");
@@ -264,7 +264,7 @@ fn contours_that_visit_no_point_twice(rt: HostRuntime) {
     }
 }
 
-// Two bars of which the second covers the right half of the first and as much beside it.
+// Two bars: the second covers the right half of the first and as much beside it.
 const BARS: &str = "subject 0 0 4 0 4 1 0 1\nclip 2 0 6 0 6 1 2 1\n";
 
 #[test]

@@ -5,7 +5,7 @@ use polyover_engine::exit::Exit;
 use std::fmt::Write as _;
 use std::process::Abort;
 
-// What the engine writes for the lines, followed by the command.
+// Checks the output of the engine for the lines, followed by the command.
 fn check_points(rt: &(impl Abort + Alloc), lines: &str, command: &str, wanted: &str) {
     let mut input = String::new(rt.alloc());
     let made = write!(input, "{lines}run {command}\n");

@@ -1,16 +1,16 @@
-//! Runs of the engine: what it writes for an input, and how it ends.
+//! Runs of the engine: the output for an input, and the way in which it ends.
 
 use polyover_engine::engine::run;
 use polyover_engine::exit::Exit;
 use std::io::Read;
 use std::process::Abort;
 
-/// What the engine writes for the input, and how it ends.
+/// Checks the output of the engine for the input, and the way in which it ends.
 pub(crate) fn check(rt: &(impl Abort + Alloc), input: &[u8], wanted: &str, exit: Exit) {
     check_reader(rt, input, wanted, exit);
 }
 
-/// What the engine writes for what the reader has, and how it ends.
+/// Checks the output of the engine for the reader's input, and the way in which it ends.
 pub(crate) fn check_reader<R: Read + Drop>(
     rt: &(impl Abort + Alloc),
     mut reader: R,

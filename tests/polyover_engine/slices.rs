@@ -18,7 +18,7 @@ const HALVES: &str = "shape\n10 -10 10 0 -10 0 -10 -10\nshape\n10 0 10 10 -10 10
 const TWO_HOLES: &str =
     "subject 0 0 35 0 35 20 0 20\nsubject 5 5 5 15 15 15 15 5\nsubject 20 5 20 15 30 15 30 5\n";
 
-// What the engine writes for the contours, sliced along the lines.
+// Checks the output of the engine for the contours, sliced along the lines.
 fn check_slices(rt: &(impl Abort + Alloc), contours: &str, lines: &str, fill: &str, wanted: &str) {
     let mut input = String::new(rt.alloc());
     let made = write!(input, "{contours}{lines}run slice {fill}\n");
@@ -60,7 +60,7 @@ fn lines_that_cross(rt: HostRuntime) {
     );
 }
 
-// An open path is not closed, so only one that comes back to where it began cuts a part out.
+// An open path is not closed, so only a path that comes back to its start cuts a part out.
 #[test]
 fn a_path_inside(rt: HostRuntime) {
     let whole = "shape\n10 -10 10 10 -10 10 -10 -10\n";
@@ -154,7 +154,7 @@ fn few_points(rt: HostRuntime) {
     );
 }
 
-// Of the figures the clip and the points are read, and change nothing; nor does the order of the lines.
+// The clip and the points are read, and change nothing; nor does the order of the lines.
 #[test]
 fn what_is_not_used(rt: HostRuntime) {
     let others = "clip -2 -20 2 -20 2 20 -2 20\npoint 0 0\nline -20 0 20 0\n";
@@ -213,8 +213,8 @@ fn bad_commands(rt: HostRuntime) {
     );
 }
 
-// The contours that begin in one point: two shapes that touch there; two parts on both sides of a path from there, of
-// which the one above comes first; a shape and its holes; and the same with another shape, which is found between them.
+// Contours that begin in one point: two shapes that touch there; two parts on both sides of a path from there, the part
+// above first; a shape and its holes; and these with another shape found between them.
 #[test]
 fn contours_from_one_point(rt: HostRuntime) {
     let ring = "subject 0 0 12 -6 12 6\nsubject 0 0 8 1 8 3\nsubject 0 0 5 -2 5 -1\n";

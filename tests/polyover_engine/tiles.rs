@@ -9,7 +9,7 @@ const SQUARE: &str = "subject 0 0 4 0 4 4 0 4\n";
 
 const UNCUT: &str = "shape\n4 0 4 4 0 4 0 0\n";
 
-// What the engine answers for the lines, cut by the grid.
+// Checks the answer of the engine for the lines, cut by the grid.
 fn check_tiles(rt: &(impl Abort + Alloc), lines: &str, grid: &str, wanted: &str, exit: Exit) {
     let mut input = String::new(rt.alloc());
     let made = write!(input, "{lines}run tiles {grid}\n");
@@ -27,7 +27,7 @@ fn a_square(rt: HostRuntime) {
     check_tiles(&rt, SQUARE, "NonZero 4 4", UNCUT, Exit::Answered);
 }
 
-// Of the lines only those of the subject count.
+// Only the lines of the subject count.
 #[test]
 fn other_lines(rt: HostRuntime) {
     let others = "clip 1 1 3 1 3 3 1 3\nsubject 0 0 4 0 4 4 0 4\nline 1 -9 1 9\npoint 3 3\n";

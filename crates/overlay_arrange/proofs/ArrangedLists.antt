@@ -50,7 +50,7 @@ arranged_of_split limit solver old new content split =
       stays = λ was. arranged_stays_arranged was.0 solver was.2 split.rounds was.1 old new was.3 split.reached;
     }
 
--- so it is where an answer says that it was split
+-- the content is arranged if an answer tells that it was split
 pub arranged_answer : {T E : Type 0} (limit : ℕ) (solver : Solver) (answer : Result T E) (old new : List CountedEdge) →
     IsContent limit old →
     OnOk answer (IsSplit solver (most_rounds solver) old new) → OnOk answer (IsArranged solver old new)
@@ -88,7 +88,7 @@ refused_so limit solver old TooManyEdges content unsettled heavy usable = let we
 }
 refused_so limit solver old Failed content unsettled heavy usable = usable refl
 
--- so it is where an answer is such a refusal
+-- an answer that is such a refusal is a refusal to arrange
 pub refused_answer : {T : Type 0} (limit : ℕ) (solver : Solver) (answer : Result T OverlayError)
     (old : List CountedEdge) → IsContent limit old →
     (IsErrOf answer NotSettled → (solver ≡ Rounds) × StaysUnsettled (most_rounds Rounds) old) →
@@ -99,7 +99,7 @@ refused_answer limit solver (Err e) old content unsettled heavy usable =
     refused_so limit solver old e content (λ same. unsettled (ap Err same)) (λ same. heavy (ap Err same))
     (λ same. usable (ap Err same))
 
--- ---- with what edges carry
+-- ---- with the values of edges
 
 module _ {C : Type 0} (merges : C → C → C → Type 0) (splits reverses : C → C → Type 0) where
   -- a merged content that is settled was split without a round

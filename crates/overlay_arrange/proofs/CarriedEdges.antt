@@ -1,4 +1,4 @@
--- Held edges with what they carry, and their counted edges alone.
+-- Held edges with their values, and their counted edges alone.
 use Rattle.std.proofs.Common.{◌≡◌, ℤ, List, sym, ap, ◌∙◌}
 use Rattle.std.proofs.lemmas.Simd.{map-map}
 use Rattle.overlay_geom.specs.Counts.{Counts}
@@ -11,7 +11,7 @@ pub edges_in-carried : {I C : Type 0} (whole : I → ℤ) (counts : C → Counts
     edges_in (carried_edges whole counts es) ≡ plain_edges whole counts es
 edges_in-carried whole counts es = map-map (λ x. x.edge) _ es
 
--- so they are, where contracts see the held ones as another list
+-- the plain edges, if contracts see the held edges as another list
 pub plain_edges-seen : {I C : Type 0} (whole : I → ℤ) (counts : C → Counts) (es : List (HeldEdge I C))
     (xs : List (Carried C)) →
     carried_edges whole counts es ≡ xs → plain_edges whole counts es ≡ edges_in xs

@@ -15,14 +15,14 @@ use Rattle.overlay_arrange.specs.Content.{edge_with, point_cmp}
 use Rattle.overlay_arrange.specs.Cut.{chain_by, AddsGiven, LeadingPoints, StaysWhole}
 use Rattle.overlay_arrange.proofs.Pieces.{back_where_greater, on_where_less, same_where_equal, piece_back, piece_forth}
 
--- ---- what is added
+-- ---- added items
 
 module _ {X Y : Type 0} (gives : X → List Y → Type 0) where
   -- nothing is added
   pub adds_none : (ys : List Y) → AddsGiven gives [] ys ys
   adds_none ys = record { more = []; given = none; added = sym (append-nil ys) }
 
-  -- what is added after another addition is added with it
+  -- items added after other items are added with them
   pub adds_both : {xs zs : List X} {old mid new : List Y} → AddsGiven gives xs old mid → AddsGiven gives zs mid new →
       AddsGiven gives (xs ++ zs) old new
   adds_both {old} first later = record {
@@ -31,7 +31,7 @@ module _ {X Y : Type 0} (gives : X → List Y → Type 0) where
     added = later.added ∙ ap (λ ys. ys ++ later.more) first.added ∙ append_assoc old first.more later.more;
   }
 
-  -- what is added to nothing is all
+  -- items added to nothing are all
   pub adds_all : {xs : List X} {new : List Y} → AddsGiven gives xs [] new → AreGiven gives xs new
   adds_all {xs} adds = subst (AreGiven gives xs) (sym adds.added) adds.given
 
@@ -53,7 +53,7 @@ module _ {C : Type 0} (splits reverses : C → C → Type 0) where
     },
   )
 
-  -- so its pieces are added in that sense too
+  -- pieces are added in that sense too
   pub adds_alike : (IsWhole Stays : Type 0) → IsWhole ↔ Stays →
       (x : Carried C) {ss : List Step} {old new : List (Carried C)} →
       AddsGiven (GivesPiece splits reverses IsWhole x) ss old new →
@@ -124,7 +124,7 @@ module _ {C : Type 0} (splits reverses : C → C → Type 0) (is_whole : Bool) (
       leads.apart (piece_forth a b p q (counts c) (counts part) less same) cut
       (subst (λ t. MatchBool t (part ≡ part) (reverses part part)) (sym leads.on) refl)
 
-  -- and one that runs against its edge carries it reversed
+  -- a piece that runs against its edge carries the reversed value
   pub piece_given_back : (reversed : C) → point_cmp p q ≡ Greater → counts reversed ≡ reversed_counts (counts c) →
       MatchBool is_whole (part ≡ c) (splits c part) →
       reverses part reversed →

@@ -28,7 +28,7 @@ module _ (es : List CountedEdge) (up : IsAscending es) where
       (subst (λ (g : CountedEdge). edge_lt (ends_of (get_or es i e)) (ends_of g) ≡ true)
       (get_or_default es j e f at_f.0 ∙ at_f.1) (up i j e less at_f.0))
 
-  -- so they have different ends
+  -- two edges at different places have different ends
   differ : (i j : ℕ) (e f : CountedEdge) → i < j → IsAt es i e → IsAt es j f → ¬ (ends_of e ≡ ends_of f)
   differ i j e f less at_e at_f same = both_ways (edge_eq (ends_of e) (ends_of f))
       (edge_eq-from_lt (ends_of e) (ends_of f) (comes i j e f less at_e at_f))
@@ -55,7 +55,7 @@ module _ (es : List CountedEdge) (up : IsAscending es) where
             (λ is_open. absurd (not_open n second is_open)) one)
             (λ settled. settled) (known.all m n g h at_g.0 less at_g at_h)
 
-    -- so do two edges whose ends are those of closed ones
+    -- two edges with the ends of closed edges meet in ends alone
     unchanged_settled : (i j : ℕ) (e f : CountedEdge) → i < j → IsAt es i e → IsAt es j f →
         WasClosed before opens e → WasClosed before opens f → AreSettled e f
     unchanged_settled i j e f less at_e at_f was_e was_f =

@@ -24,7 +24,7 @@ use Rattle.overlay_arrange.specs.Ends.{counted_start, counted_stop, starts_and_s
 use Rattle.overlay_arrange.specs.declared.counted_end.CountedEnd.{CountedEnd as HeldEnd}
 use Rattle.overlay_arrange.proofs.EndSums.{AreByPoint}
 
--- what the ends of an edge count, each times a number of its point, is the edge's count times what the number rises by
+-- the counts of an edge's ends, each times a number of its point, sum to the edge's count times the rise of the number
 risen : (c u v : ℤ) → neg_ℤ c *ℤ u +ℤ (c *ℤ v +ℤ pos 0) ≡ c *ℤ (v -ℤ u)
 risen c u v = solve 3 (λ c u v. ⊝ c ⊗ u ⊕ (c ⊗ v ⊕ number (pos 0)) ≗ c ⊗ (v ⊖ u)) tt c u v
 
@@ -41,7 +41,7 @@ module _ (es : List CountedEdge) (g : Point → ℤ) where
       ∙ total-same (λ e. total (λ (n : CountedEnd). n.clip *ℤ g n.point) (counted_ends e))
       (λ e. e.counts.clip *ℤ (g e.b -ℤ g e.a)) es (λ e c. risen e.counts.clip (g e.a) (g e.b))
 
--- the ends weigh at most twice what the edges do
+-- the ends weigh at most twice as much as the edges
 ends_light : (es : List CountedEdge) → sum_by end_weight (all_counted_ends es) ≤ 2 * weight es
 ends_light [] = omega arith
 ends_light (e ∷ es) =

@@ -16,7 +16,7 @@ use Rattle.overlay_geom.specs.Resolved.{IsPlaced}
 use Rattle.overlay_geom.specs.declared.edge_pair.Place.{Place}
 use Rattle.overlay_geom.specs.declared.edge_pair.Place.TheVariants.{Along, Beside, Across}
 
--- a point is found at least another one where it is not smaller
+-- a point is found at least another point exactly where it is not smaller
 pub is_ge-point_cmp : (p q : Point) → is_ge (point_cmp p q) ≡ not (point_lt p q)
 is_ge-point_cmp p q = by (point_lt p q) (point_lt q p)
   where
@@ -25,7 +25,7 @@ is_ge-point_cmp p q = by (point_lt p q) (point_lt q p)
     by false true = refl
     by false false = refl
 
--- so a program finds it that asks for the order of the two
+-- a program finds it that asks for the order of the two
 pub not_before : (p q : Point) (o : Ordering) (r : Bool) → o ≡ point_cmp p q → r ≡ is_ge o → (t : Bool) → r ≡ t →
     not (point_lt p q) ≡ t
 not_before p q o r order answer t is = sym (is_ge-point_cmp p q) ∙ ap is_ge (sym order) ∙ sym answer ∙ is
@@ -42,7 +42,7 @@ across_is_not_beside e f (inl (low, high, less)) (inr (right, too)) = omega line
 across_is_not_beside e f (inr (high, low, less)) (inl (left, too)) = omega linear
 across_is_not_beside e f (inr (high, low, less)) (inr (right, too)) = omega linear
 
--- two edges each of which goes across the other's line lead each other through the point nearest their crossing
+-- two edges that go across each other's lines lead each other through the point nearest to their crossing
 pub met_where_both_across : (e f : Edge) → IsAcross e f → IsAcross f e → met_at e f ≡ crossing e f ∷ []
 met_where_both_across e f forth back = met_across e f
     (record {

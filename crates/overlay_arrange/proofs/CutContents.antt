@@ -23,7 +23,7 @@ weight_of_entry es e at =
     let same = ap edge_weight at.2 in
     omega (arith, bound, same)
 
--- what lies between two numbers within a limit is within it
+-- a number between two numbers within a limit is within it
 pub within_between : (limit : ℕ) (z u v : ℤ) → Within limit u → Within limit v → IsBetween z u v → Within limit z
 within_between limit z u v of_u of_v (inl (low, high)) = let from = of_u.low in let to = of_v.high in
     record { low = omega linear; high = omega linear }

@@ -1,5 +1,5 @@
--- Sums over ends sorted by their points. Each end counts times a number of its point. The sum so far is that of the
--- counts times the number of the last point, if the counts at each point before it cancel out.
+-- Sums over ends sorted by their points. Each end counts times a number of its point. If the counts at each point
+-- before the last cancel out, the sum so far is that at the last point.
 use Rattle.std.proofs.Common.{◌≡◌, ℕ, zero, suc, ◌+◌, ◌^◌, ◌<◌, ◌≤◌, Bool, true, false, cond, ℤ, pos, ◌+ℤ◌, ◌*ℤ◌, List}
 use Rattle.std.proofs.Common.{[], ◌∷◌, ◌++◌, length, take, drop, get_or, refl, sym, ap, ap₂, ◌∙◌, subst, arith}
 use Rattle.std.specs.Prelude.{sum_by}
@@ -21,7 +21,7 @@ use Rattle.overlay_plane.proofs.Totals.{total-zero}
 use Rattle.overlay_scan.proofs.EntriesByStart.{at_front}
 use Rattle.overlay_arrange.specs.Ends.{CountedEnd, end_weight}
 
--- points of which neither is before the other are equal
+-- two points are equal if neither is before the other
 pub neither_before : (p q : Point) → point_lt p q ≡ false → point_lt q p ≡ false → p ≡ q
 neither_before p q one other = by (point_eq p q) refl
   where
@@ -68,7 +68,7 @@ none_before ns order i n lt is k d h = subst (λ (m : CountedEnd). point_lt m.po
         (get_or_default ns i d n lt ∙ is)
         (order i (i + suc k) d (omega arith) (omega arith))
 
--- what begins with an end from which none is at a smaller point
+-- the list from an end on, if no end in it is at a smaller point
 pub first_here : (ns : List CountedEnd) (i : ℕ) (n : CountedEnd) → i < length ns → get_or ns i n ≡ n →
     (p : Point) → All (λ m. point_lt m.point p ≡ false) (drop i ns) →
     point_lt n.point p ≡ false
@@ -86,7 +86,7 @@ none_before_after ns order i n lt is k d h =
     (order i (i + 1 + k) d (omega arith) (omega arith)))
 
 module _ (count : CountedEnd → ℤ) (ns : List CountedEnd) where
-  -- what an end counts times the number of its point
+  -- the count of an end times the number of its point
   abbrev weighed : (Point → ℤ) → CountedEnd → ℤ
   weighed f n = count n *ℤ f n.point
 
@@ -161,7 +161,7 @@ module _ (count : CountedEnd → ℤ) (ns : List CountedEnd) where
     all_cancel past none f = ap (total (weighed f)) (sym (take_all i ns past)) ∙ so_far f ∙ ap (λ s. s *ℤ f p) none
         ∙ no_times (f p)
 
-    -- and the sum is 0 where they do
+    -- the sum is 0 if the counts cancel out
     pub sum_cancels : length ns ≤ i → SumsUpToNone → sum ≡ pos 0
     sum_cancels past none = sym (times_one sum) ∙ sym (so_far (λ q. pos 1))
         ∙ ap (total (weighed (λ q. pos 1))) (take_all i ns past) ∙ none (λ q. pos 1)

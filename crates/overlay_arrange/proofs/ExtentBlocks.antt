@@ -17,18 +17,18 @@ use Rattle.overlay_arrange.proofs.GatheredMeetings.{one_entry}
 
 -- ---- enclosing
 
--- an extent encloses itself
+-- a box encloses itself
 pub covers_itself : (s : Extent) → Encloses s s
 covers_itself s = record { low = omega linear; high = omega linear; first = omega arith; last = omega arith }
 
--- what encloses an extent that encloses a third one encloses that one
+-- enclosing is transitive
 pub covers_through : (s t u : Extent) → Encloses s t → Encloses t u → Encloses s u
 covers_through s t u one two =
     let a = one.low in let b = two.low in let c = one.high in let d = two.high in
     let e = one.first in let f = two.first in let g = one.last in let h = two.last in
     record { low = omega linear; high = omega linear; first = omega (arith, e, f); last = omega (arith, g, h) }
 
--- what lies apart from an extent lies apart from each one that this encloses
+-- a box apart from another is apart from each box enclosed by it
 pub apart_under : (s t u : Extent) → Encloses t u → IsApart s t → IsApart s u
 apart_under s t u covers = by
   where
@@ -45,7 +45,7 @@ pub block_at : (n : ℕ) (ss blocks : List Extent) (k : ℕ) → AreBlocks n ss 
 block_at n ss blocks k cover inside = let s = some_entry ss k inside in
     (cover k (get_or ss k s) s (inside, get_or_default ss k (get_or ss k s) s inside)).0
 
--- and so it has in lists of which these are read
+-- lists of the program's boxes have such blocks too
 pub block_held : {X : Type 0} (plain : X → Extent) (n at : ℕ) (xs blocks : List X) →
     AreBlocks n (map plain xs) (map plain blocks) → at < length xs → at / n < length blocks
 block_held plain n at xs blocks cover inside =
@@ -87,8 +87,7 @@ blocks_of_blocks n m ss blocks over cover cover_over = λ k s d at_s.
 
 -- ---- making blocks
 
--- each extent at one of the first places is enclosed by that of its block; and there are so many blocks as these places
--- need
+-- the box of its block encloses each of the first boxes, and the blocks are just those that they need
 pub record AreBlocksUpTo (ss blocks : List Extent) (i : ℕ) : Type 0 where
   pub enough : i ≤ length blocks * 8
   pub few : length blocks * 8 < i + 8
@@ -106,11 +105,11 @@ all_blocks ss blocks i past some = λ k s d at_s. some.cover k s d (let less = a
 
 module _ (ss blocks : List Extent) (i : ℕ) (some : AreBlocksUpTo ss blocks i) (s : Extent)
     (at_s : IsAt ss i s) where
-  -- a place before the one after i is i, or comes before i
+  -- a place before i + 1 is i, or comes before i
   or_before : (k : ℕ) → k < i + 1 → (k ≡ i) ⊎ (k < i)
   or_before k lt = eq-or-lt_of_le (let le : k ≤ i = omega (arith, lt) in le)
 
-  -- the extent at place i is s
+  -- the box at place i is s
   is_s : (k : ℕ) (t : Extent) → k ≡ i → IsAt ss k t → t ≡ s
   is_s k t same at_t = one_entry ss i t s (subst (λ n. IsAt ss n t) same at_t) at_s
 
@@ -155,7 +154,7 @@ module _ (ss blocks : List Extent) (i : ℕ) (some : AreBlocksUpTo ss blocks i) 
       let e = some.enough in
       omega (arith, whole, goes_on, e)
 
-  -- and grows
+  -- the block grows
   pub block_grown : (old block : Extent) (news : List Extent) → ¬ (i % 8 ≡ 0) → news ≡ set blocks (i / 8) block →
       old ≡ get_or blocks (i / 8) old →
       Encloses block old → Encloses block s → AreBlocksUpTo ss news (i + 1)

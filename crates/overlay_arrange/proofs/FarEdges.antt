@@ -13,7 +13,7 @@ use Rattle.overlay_arrange.specs.Near.{IsFar, IsUnder}
 use Rattle.overlay_arrange.specs.Settle.{AreSettled}
 use Rattle.overlay_arrange.proofs.SettledLists.{starting_right}
 
--- the heights of an edge's ends are in its extent
+-- the heights of an edge's ends are in its box
 record IsSpan (e : CountedEdge) : Type 0 where
   a_from : (extent_of e 0).low ≤ℤ e.a.y
   b_from : (extent_of e 0).low ≤ℤ e.b.y

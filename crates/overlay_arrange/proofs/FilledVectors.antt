@@ -35,7 +35,7 @@ module _ {I C : Type 0} (whole : I → ℤ) (counts : C → Counts) where
       w) (ap first filled))
       (vectors_by bits vs (ap others filled))
 
-  -- so those of a graph are the vectors of its edges
+  -- the vectors of a graph are those of its edges
   pub vectors_listed : (limit : ℕ) (rule : FillRule) (vs : List (DataVectorEdge I C)) →
       AreFilledBy limit rule (edges_in (carried_vectors whole counts vs)) (map (λ v. v.fill) vs) →
       map (plain_vector whole) vs
@@ -43,7 +43,7 @@ module _ {I C : Type 0} (whole : I → ℤ) (counts : C → Counts) where
   vectors_listed limit rule vs filled = vectors_by (fill_bits rule (edges_in (carried_vectors whole counts vs))) vs
       filled.filled
 
-  -- and what is made of an arrangement and its fill bits is a graph
+  -- an arrangement and its fill bits make a graph
   pub graph_made : (limit : ℕ) (rule : FillRule) (es : List (HeldEdge I C)) (vs : List (DataVectorEdge I C))
       (fills : List ℕ) →
       IsArrangement limit (plain_edges whole counts es) → fills ≡ map (fill_bits rule (plain_edges whole counts es))

@@ -7,13 +7,13 @@ use Rattle.overlay_geom.specs.Edges.{CountedEdge, weight}
 use Rattle.overlay_geom.proofs.Weights.{edge_weight}
 use Rattle.overlay_arrange.specs.Content.{IsContent, IsHeld}
 
--- a builder may hold the first edges of what it may hold
+-- a builder may hold the first edges of a content
 first_are_content : (limit count : ℕ) (es : List CountedEdge) → IsContent limit es → IsContent limit (take count es)
 first_are_content limit count es h =
     let lighter : weight (take count es) ≤ weight es = sum_by-take-le edge_weight es count in
     record { held = All-take (IsHeld limit) count es h.held; light = omega (arith, lighter, h.light) }
 
--- so it may where the first items are seen as edges
+-- this holds of items seen as edges too
 pub first_seen : {X : Type 0} (limit count : ℕ) (see : X → CountedEdge) (xs ys : List X) → ys ≡ take count xs →
     IsContent limit (map see xs)
     → IsContent limit (map see ys)

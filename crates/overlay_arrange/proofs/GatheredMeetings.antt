@@ -36,11 +36,11 @@ placed_in_mapped f xs i x within is = (
   read_mapped f xs i x (f x) within is,
 )
 
--- a place before the one after i is i, or comes before i
+-- a place before i + 1 is i, or comes before i
 pub at_or_before : (k i : ℕ) → k < i + 1 → (k ≡ i) ⊎ (k < i)
 at_or_before k i lt = eq-or-lt_of_le (let le : k ≤ i = omega (arith, lt) in le)
 
--- one of the two places comes before place i; or the one is i, and the other is among the places js
+-- a place of the pair comes before place i; or one is i, and the other is among the places js
 abbrev pub IsLookedAt : ℕ → List ℕ → ℕ → ℕ → Type 0
 IsLookedAt i js k l = HasBefore i k l ⊎ (((k ≡ i) × Contains js l) ⊎ ((l ≡ i) × Contains js k))
 
@@ -53,8 +53,8 @@ module _ (es : List CountedEdge) where
         (λ (lt : j < 0). absurd (omega (arith, lt))) before;
   }
 
-  -- what is gathered of some pairs is gathered of others, if those lead each other nowhere but to their ends, or were
-  -- looked at
+  -- meetings gathered for some pairs are gathered for more, if the other pairs lead each other only to their ends or
+  -- were tested
   pub gathered_of_more : {Some More : ℕ → ℕ → Type 0} {ms : List Meeting} → AreGathered es Some ms →
       ((k l : ℕ) (g h : CountedEdge) → IsAt es k g → IsAt es l h → More k l → Some k l ⊎ LeadsNowhere g h) →
       AreGathered es More ms
@@ -94,13 +94,13 @@ module _ (es : List CountedEdge) where
             (Contains-flat_map (λ u. met_at (ends_of g) (ends_of u)) es h m.point (l, at_h.0, at_h.1) at),
       )
 
-      -- what was there is kept
+      -- earlier meetings are kept
       kept : (k : ℕ) (v : Point) → Contains old (record { place = k; point = v }) →
           Contains new (record { place = k; point = v })
       kept k v at = adds.other.kept (record { place = k; point = v })
           (adds.one.kept (record { place = k; point = v }) at)
 
-      -- the two edges lead each other through what was added
+      -- the two edges lead each other through the added points
       forth : (k l : ℕ) (g h : CountedEdge) → IsAt es k g → IsAt es l h → k ≡ i → l ≡ j →
           (v : Point) → IsLedBy g h v → IsEndOrMet new k g v
       forth k l g h at_g at_h k_is l_is v at =

@@ -33,7 +33,8 @@ pairs_of_entries R xs h i j d less within =
     entry : (k : ℕ) → k < length xs → Contains xs (get_or xs k d)
     entry k lt = (k, lt, get_or_default xs k (get_or xs k d) d lt)
 
--- a relation of the pairs of each list, and of each entry of xs with each of ys, holds of the pairs of the joined list
+-- a relation holds of the pairs of the joined list, if it holds of the pairs of each, and of each entry of xs with each
+-- of ys
 pairs_joined : {X : Type 0} (R : X → X → Type 0) (xs ys : List X) → AllPairs R xs → AllPairs R ys →
     ((x y : X) → Contains xs x → Contains ys y → R x y) → AllPairs R (xs ++ ys)
 pairs_joined R [] ys h k between = k
@@ -43,7 +44,7 @@ pairs_joined R (x ∷ xs) ys h k between = AllPairs-cons R x (xs ++ ys)
     (pairs_joined R xs ys (AllPairs-tail R x xs h) k
     (λ a b in_a in_b. between a b (Contains-later x xs a in_a) in_b))
 
--- ---- what an edge adds
+-- ---- the meetings that an edge adds
 
 module _ (i : ℕ) (e : CountedEdge) where
   -- no points add nothing
@@ -105,7 +106,7 @@ module _ (i : ℕ) (e : CountedEdge) where
       met : Point → Meeting
       met v = record { place = i; point = v }
 
--- ---- what all edges add
+-- ---- the meetings of all edges
 
 -- the point that stands for none
 abbrev pub origin : Point
@@ -129,12 +130,12 @@ module _ (es : List CountedEdge) (vs : List Point) where
           let inside = ranks.within k.0 k.1 in
           (k.0, inside, get_or_default vs k.0 v origin inside ∙ k.2)
 
-      -- and one whose pixel the edge meets is at one of the ranks
+      -- a point whose pixel the edge meets is at one of the ranks
       has_rank : (v : Point) → Contains vs v → meets_pixel (ends_of e) v ≡ true → Contains (points_at vs near) v
       has_rank v at meets = subst (Contains (points_at vs near)) (get_or_default vs at.0 origin v at.1 ∙ at.2)
           (Contains-map (λ k. get_or vs k origin) near at.0 (ranks.all at.0 v (at.1, at.2) meets))
 
-      -- so one edge more is snapped
+      -- one edge more is snapped
       pub one_snapped : AreSnappedBefore es vs (i + 1) new
       one_snapped = record {
         led = λ m at. ⊎_elim
@@ -163,7 +164,7 @@ module _ (es : List CountedEdge) (vs : List Point) where
               (Contains-append_right old adds.more (record { place = i; point = v }) there))))
               (adds.all v (has_rank v at met) met)
 
-      -- and the meetings still stand by their places
+      -- the meetings are still sorted by their places
       pub by_place_more : AreByPlace old → AreByPlace new
       by_place_more up = subst AreByPlace (sym adds.added)
           (pairs_joined (λ (m n : Meeting). m.place ≤ n.place) old adds.more up

@@ -1,4 +1,4 @@
--- Extents by their least heights: sorting brings them into this order.
+-- Boxes by their least heights: sorting brings them into this order.
 use Rattle.std.proofs.Common.{Bool, ℤ, ◌≤ℤ◌, int_lt, List, AllPairs, get_or, arith}
 use Rattle.std.specs.Cmp.{IsStrictWeakOrder}
 use Rattle.std.specs.List.Sorted.{IsSortedBy}
@@ -8,7 +8,7 @@ use Rattle.overlay_plane.proofs.Tests.{ge_from_test, lt_from_test, test_from_ge}
 use Rattle.overlay_arrange.specs.declared.extents.Extent.{Extent}
 
 module _ {I : Type 0} (whole : I → ℤ) where
-  -- a program's extents by their least heights
+  -- a program's boxes by their least heights
   abbrev pub is_lower : Extent I → Extent I → Bool
   is_lower s t = int_lt (whole s.low) (whole t.low)
 

@@ -28,7 +28,7 @@ module _ (e : CountedEdge) (x : ℤ) (ss : List Extent) (from to : ℕ) where
     above_to less passes k t past lt at_t v under =
         passes v (let le = up k at t s past (omega (arith, lt)) less at_t at_s in omega (linear, le, under))
 
-    -- and one that passes below it passes below those behind it
+    -- an edge that passes below a box passes below those behind it
     pub below_from : from ≤ at → PassesBelow e x s.low → ArePassedBelow e x ss at to
     below_from past passes k t behind less at_t v over =
         passes v (let le = up at k s t past behind less at_s at_t in omega (linear, le, over))
@@ -43,7 +43,7 @@ no_places ss from js = record {
   all = λ k s past less. absurd (omega (arith, past, less));
 }
 
--- that of one extent more
+-- that of one box more
 pub one_place : (ss : List Extent) (from at : ℕ) (s : Extent) → IsAt ss at s → from ≤ at → (old js : List ℕ) →
     AddsPlaces ss from at old js → AddsPlaces ss from (at + 1) old (js ++ s.first ∷ [])
 one_place ss from at s at_s past old js adds = record {
@@ -75,7 +75,7 @@ one_place ss from at s at_s past old js adds = record {
 
 -- ---- the run
 
--- the places of the extents that are passed neither above nor below
+-- the places of the boxes that are passed neither above nor below
 pub run_added : (left right first last : ℤ) (e : CountedEdge) (ss : List Extent) (from low high to : ℕ)
     (old new : List ℕ) → e.a.x ≤ℤ e.b.x → from ≤ low → high ≤ to →
     ((x : ℤ) → left ≤ℤ x → x ≤ℤ right → IsAmidX e x →

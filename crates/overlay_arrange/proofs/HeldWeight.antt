@@ -10,11 +10,11 @@ use Rattle.overlay_arrange.specs.Content.{plain_edge, plain_edges}
 use Rattle.overlay_arrange.specs.declared.edge.CountedEdge.{CountedEdge as HeldEdge}
 
 module _ {I C : Type 0} (whole : I → ℤ) (counts : C → Counts) where
-  -- what one edge weighs
+  -- the weight of one edge
   abbrev pub held_weight : HeldEdge I C → ℕ
   held_weight e = weight_of_counts (counts e.count)
 
-  -- held edges weigh what each of them weighs, summed
+  -- the weight of held edges is the sum of their weights
   pub weight_held : (es : List (HeldEdge I C)) → weight (plain_edges whole counts es) ≡ sum_by held_weight es
   weight_held es = fold-map (λ a e. a + edge_weight e) (plain_edge whole counts) 0 es
 

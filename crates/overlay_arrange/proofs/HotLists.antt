@@ -33,7 +33,7 @@ module _ (es : List CountedEdge) (ms : List Meeting) (meetings : AreMeetings es 
   abbrev pub ends_and_met : List Point
   ends_and_met = flat_map both_ends es ++ map (λ (m : Meeting). m.point) ms
 
-  -- what an edge adds to the hot points
+  -- the hot points that an edge adds
   abbrev added_by : CountedEdge → List Point
   added_by e = e.a ∷ e.b ∷ cut_points es e
 
@@ -67,7 +67,7 @@ module _ (es : List CountedEdge) (ms : List Meeting) (meetings : AreMeetings es 
       by e at_e (inr later) = ⊎_elim (λ is. end_there e v at_e (an_end e v (inr (sym is)))) (cut e at_e)
           (Contains-cases e.b (cut_points es e) v later)
 
-  -- and what is there is hot
+  -- the points there are hot
   there_hot : (v : Point) → Contains ends_and_met v → Contains (hot_points es) v
   there_hot v at = ⊎_elim of_edge of_meeting
       (Contains-append_cases (flat_map both_ends es) (map (λ (m : Meeting). m.point) ms) v at)
@@ -85,7 +85,7 @@ module _ (es : List CountedEdge) (ms : List Meeting) (meetings : AreMeetings es 
           (Contains-append_right (both_ends led.0) (cut_points es led.0) v
           (subst (Contains (cut_points es led.0)) m.2 led.2))
 
-  -- so a list with the same members that ascends holds the hot points
+  -- a list with the same members that ascends holds the hot points
   pub are_hot_points : (vs : List Point) → HaveSameMembers ends_and_met vs → ArePointsAscending vs → AreHotPoints es vs
   are_hot_points vs members up = record {
     members = record {

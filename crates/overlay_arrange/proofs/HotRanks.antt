@@ -21,7 +21,7 @@ use Rattle.overlay_arrange.specs.Meetings.{IsAt}
 
 -- ---- splits
 
--- where a test tells two kinds of entries apart, the place up to which it passes splits what they are mapped to
+-- a test that tells two kinds of entries apart splits the mapped list at the place up to which it passes
 module _ {X Y : Type 0} (f : X → Y) (test : X → Bool) (One Other : Y → Type 0)
     (one : (x : X) → test x ≡ true → One (f x)) (other : (x : X) → test x ≡ false → Other (f x)) where
   pub split_from_partition : (xs : List X) (k : ℕ) → k ≤ length xs →
@@ -89,7 +89,7 @@ module _ {I : Type 0} (whole : I → ℤ) (vs : List (IntPoint I)) (up : ArePoin
         let b = le_from_test (whole (get_or vs k d).x) x less in
         test_from_le (whole (get_or vs j d).x) x (omega linear)
 
-    -- so they are split where the tests say
+    -- the points are split by the tests
     pub split_left : (k : ℕ) → k ≤ length vs →
         IsPartitionPoint (λ v. is_left v ≡ true) (λ v. is_left v ≡ false) vs k →
         IsSplitAt (λ (v : Point). v.x <ℤ x) (λ (v : Point). x ≤ℤ v.x) (plain_points whole vs) k

@@ -36,7 +36,7 @@ ranged xs low high k x past inside within at = (
       ∙ ap (λ n. get_or xs n x) (let same : low + (k - low) ≡ k = omega arith in same) ∙ at.1,
 )
 
--- and no others
+-- no other item is in the range
 from_ranged : {X : Type 0} (xs : List X) (low high : ℕ) (x : X) → high ≤ length xs →
     Contains (slice_range xs low high) x →
     (k : ℕ) × (low ≤ k) × (k < high) × IsAt xs k x
@@ -92,7 +92,7 @@ pub points_in_order : (ms : List Meeting) (i : ℕ) (e : Edge) (vs : List Point)
 points_in_order ms i e vs points = subst (Each (IsUpToAlong e)) (sym points.order)
     (Each-in_weak_order (comes_first e) (IsUpToAlong e) (along-order e) points.points)
 
--- and in range where all meetings are
+-- the points are in range if all meetings are
 pub points_in_range : (limit : ℕ) (ms : List Meeting) (i : ℕ) (e : Edge) (vs : List Point) → AreInRange limit ms →
     ArePointsAt ms i e vs → All (InRange limit) vs
 points_in_range limit ms i e vs in_range points = all_of_entries (InRange limit) vs
@@ -142,7 +142,7 @@ module _ (limit : ℕ) (es : List CountedEdge) (held : All (IsHeld limit) es) (m
       (λ v at. ⊎_elim (λ end. ⊎_elim (λ is. inl is) (λ is. inr (inl is)) end)
       (λ there. inr (inr (points.all v there))) (all_computed i e at_e v at))
 
-  -- and lie in range
+  -- the meetings are in range
   pub meetings_in_range : AreInRange limit ms
   meetings_in_range = all_of_entries (λ (m : Meeting). InRange limit m.point) ms (λ m at.
       let led = meetings.led m at in

@@ -27,7 +27,7 @@ IsLedBy g h v = Contains (met_at (ends_of g) (ends_of h)) v
 abbrev pub LeadsNowhere : CountedEdge → CountedEdge → Type 0
 LeadsNowhere g h = (v : Point) → IsLedBy g h v → IsEndOf g v
 
--- an edge that meets another one in ends alone is led by it through its own ends alone
+-- an edge that meets another edge in ends alone is led by it through its own ends alone
 pub leads_to_ends : (limit : ℕ) (e f : CountedEdge) → IsHeld limit e → IsHeld limit f → AreSettled e f →
     LeadsNowhere e f
 leads_to_ends limit e f e_held f_held settled v met = by_placement (ends_of e) (ends_of f) along beside across
@@ -67,7 +67,7 @@ leads_to_ends limit e f e_held f_held settled v met = by_placement (ends_of e) (
         (subst (λ vs. Contains vs v) (met_across (ends_of e) (ends_of f) c) met) in
         rounded_end p v_is (settled p (crossing_is_common (ends_of e) (ends_of f) way.2 c)).0
 
--- and it leads that one so
+-- it leads that edge through its ends alone
 pub led_to_ends : (limit : ℕ) (e f : CountedEdge) → IsHeld limit e → IsHeld limit f → AreSettled e f → LeadsNowhere f e
 led_to_ends limit e f e_held f_held settled =
     leads_to_ends limit f e f_held e_held (meet_in_ends_exchanged (ends_of f) (ends_of e) settled)

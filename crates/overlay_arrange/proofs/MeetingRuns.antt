@@ -62,7 +62,7 @@ module _ {I : Type 0} (whole : I → ℤ) where
         omega (arith, first, second, up))
         (eq-or-lt_of_le le)
 
-    -- so each test passes in the front of the list alone
+    -- each test passes in the front of the list alone
     pub before-parted : (i : ℕ) → IsPartitionedBy (is_before i) ms
     before-parted i j k d le within less = let up = no_smaller_later j k d le within in grind (arith, up, less)
 

@@ -36,14 +36,14 @@ module _ (limit : ℕ) (es : List CountedEdge) (held : All (IsHeld limit) es) (m
       (λ there. All-contains (IsOnItsLine es) ms (record { place = at_e.0; point = v }) all there e (at_e.1, at_e.2))
       (all_computed limit es held ms meetings at_e.0 e (at_e.1, at_e.2) v at)))
 
-  -- and the other way round
+  -- meetings lie on their edges' lines, if edges are led along their lines
   on_lines_where_led : All (AreLedAlongLines es) es → All (IsOnItsLine es) ms
   on_lines_where_led all = all_of_entries (IsOnItsLine es) ms (λ m at e at_e.
       All-contains (IsOnLineOf e) (cut_points es e) m.point
       (All-contains (AreLedAlongLines es) es e all (m.place, at_e.0, at_e.1))
       (computed_of limit es held ms meetings m.place e at_e m.point at))
 
-  -- so the meetings tell
+  -- the meetings tell whether edges meet in whole points alone
   pub whole_by_meetings : All (IsOnItsLine es) ms ↔ MeetInWholePoints es
   whole_by_meetings =
       let law = whole_meetings_on_lines es (forward limit es held ms meetings) in (

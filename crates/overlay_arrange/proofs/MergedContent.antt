@@ -30,7 +30,7 @@ IsHeld-joined limit old held e joined full =
       | inr found ↦ IsHeld-same_ends limit found.0 e found.2 (All-contains (IsHeld limit) old found.0 held found.1)
     ]
 
--- what a builder may hold it may hold merged
+-- a builder may hold a content merged
 pub IsContent-merged : (limit : ℕ) (old new : List CountedEdge) → IsContent limit old → IsMerged old new →
     IsContent limit new
 IsContent-merged limit old new content merged = record {

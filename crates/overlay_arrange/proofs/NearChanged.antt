@@ -40,7 +40,7 @@ module _ (i : ℕ) (places : List ℕ) where
         let is = get_or_default places m j i at_j.0 in let same = at_j.1 in grind (arith, large, is, same);
   }
 
--- what is known of the edge at a place is known of each edge there
+-- a fact of the edge at a place holds of each edge there
 pub near_of_edge : (es : List CountedEdge) (i : ℕ) (e : CountedEdge) (js : List ℕ) → IsAt es i e →
     AreNearBehind es e (i + 1) js → AreNear es i js
 near_of_edge es i e js at_e near f at_f =
@@ -48,7 +48,7 @@ near_of_edge es i e js at_e near f at_f =
 
 -- ---- edges at places
 
--- so many edges cs are those of the list at the first places
+-- cs are the edges of the list at the first k places
 pub record StandUpTo (es : List CountedEdge) (places : List ℕ) (k : ℕ) (cs : List CountedEdge) : Type 0 where
   pub count : length cs ≡ k
   pub at : (m i : ℕ) (c : CountedEdge) → IsAt places m i → IsAt cs m c → IsAt es i c
@@ -88,14 +88,14 @@ module _ (es : List CountedEdge) (places : List ℕ) (cs : List CountedEdge) (ch
       (inside, get_or_default places k (get_or places k 0) 0 inside) in
       (at_place, changes.stand.at k (get_or places k 0) c at_place at_c)
 
-  -- so they are held
+  -- the changed edges are held
   pub changes_held : (limit : ℕ) → All (IsHeld limit) es → All (IsHeld limit) cs
   changes_held limit held k d inside =
       let c = get_or cs k d in
       let there = placed k c (inside, get_or_default cs k c d inside) in
       subst (IsHeld limit) there.1.1 (held (get_or places k 0) c there.1.0)
 
-  -- and ascend, as all do
+  -- the changed edges ascend
   pub changes_ascend : IsAscending es → IsAscending cs
   changes_ascend up i j d less inside =
       let e = get_or cs i d in

@@ -30,7 +30,7 @@ module _ (es : List CountedEdge) (first end : ℕ) (e : CountedEdge) (limit : �
   settled : (j : ℕ) (f : CountedEdge) → IsAt es j f → IsFar e f → AreSettled e f
   settled j f at_f far = settled_where_far limit e f e_held (subst (IsHeld limit) at_f.1 (held j f at_f.0)) far
 
-  -- so its run has all others
+  -- its run has all others
   pub run_near : (js : List ℕ) → AreBetween first end js → AreNearBehind es e first js
   run_near js between = record {
     within = λ j has. let within = between.within j has in (within.0, omega (arith, within.1, run.within));
@@ -38,7 +38,7 @@ module _ (es : List CountedEdge) (first end : ℕ) (e : CountedEdge) (limit : �
         (λ (behind : end ≤ j). inr (settled j f at_f (inl (right_of_run j f behind at_f)))) (cases_lt j end);
   }
 
-  -- and a search for what does not lie apart from the extent of its run finds them
+  -- a search for boxes that do not lie apart from that of its run finds them
   pub searched_near : (ss : List Extent) (js : List ℕ) → IsPermutation (extents_of es) ss →
       IsSearchedTo ss (run_of e first end) (length ss) js → AreNearBehind es e first js
   searched_near ss js moved searched = record { within = within; all = all }

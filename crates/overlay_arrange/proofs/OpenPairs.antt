@@ -11,7 +11,7 @@ use Rattle.overlay_arrange.specs.Near.{AreNear}
 use Rattle.overlay_arrange.specs.Settle.{AreSettled}
 use Rattle.overlay_arrange.proofs.GatheredMeetings.{one_entry}
 
--- what is open of two stays so
+-- an open place of two stays open
 one_stays : (old new : List Bool) → StayOpen old new → (i j : ℕ) → IsOneOpen old i j → IsOneOpen new i j
 one_stays old new stay i j (inl one) = inl (stay i one)
 one_stays old new stay i j (inr other) = inr (stay j other)

@@ -21,7 +21,7 @@ use Rattle.overlay_arrange.specs.Cut.{IsEndOf}
 use Rattle.overlay_arrange.specs.Meetings.{AddsBoth, AddsPoints, Meeting}
 use Rattle.overlay_arrange.proofs.Crossings.{beside_is_not_along, met_where_both_across, met_where_one_across}
 
--- ---- what pushing adds
+-- ---- meetings that pushing adds
 
 -- a list of one point has no other one
 pub only_entry : (v w : Point) → Contains (v ∷ []) w → v ≡ w
@@ -74,14 +74,14 @@ module _ (i : ℕ) (e : CountedEdge) where
         (λ other. second.all v other) (Contains-append_cases us vs v at);
   }
 
-  -- what a test keeps of two points
+  -- the points of two that pass a test
   pub two_added : (p : Point → Bool) (v w : Point) {old mid new : List Meeting} →
       AddsPoints i e (filter p (v ∷ [])) old mid → AddsPoints i e (filter p (w ∷ [])) mid new →
       AddsPoints i e (filter p (v ∷ w ∷ [])) old new
   two_added p v w {old} {mid} {new} first second =
       subst (λ vs. AddsPoints i e vs old new) (sym (filter-append p (v ∷ []) (w ∷ []))) (points_added first second)
 
--- ---- what there is to add
+-- ---- meetings to add
 
 module _ (i : ℕ) (e : CountedEdge) (j : ℕ) (f : CountedEdge) where
   -- where neither leads the other anywhere there is nothing
@@ -93,7 +93,7 @@ module _ (i : ℕ) (e : CountedEdge) (j : ℕ) (f : CountedEdge) where
     other = subst (λ vs. AddsPoints j f vs ms ms) (sym back) (no_points_added j f ms);
   }
 
-  -- so it is where the one lies beside the other's line
+  -- nothing is added if one lies beside the other's line
   pub none_where_beside : (ms : List Meeting) → IsBefore f.a f.b → IsBeside (ends_of e) (ends_of f) →
       AddsBoth i e j f ms ms
   none_where_beside ms f_forward beside =
@@ -104,7 +104,7 @@ module _ (i : ℕ) (e : CountedEdge) (j : ℕ) (f : CountedEdge) where
       off : ¬ (IsAlong (ends_of e) (ends_of f))
       off = beside_is_not_along (ends_of e) (ends_of f) beside
 
-  -- and where the one goes across the other's line, but not the other across its
+  -- nothing is added if one goes across the other's line, but not the other across its
   pub none_where_one_across : (ms : List Meeting) (place : Place) → IsBefore f.a f.b →
       IsAcross (ends_of e) (ends_of f) → IsPlaced place (ends_of f) (ends_of e) → place ≢ Across →
       AddsBoth i e j f ms ms
@@ -128,7 +128,7 @@ module _ (i : ℕ) (e : CountedEdge) (j : ℕ) (f : CountedEdge) where
         (sym (met_along (ends_of f) (ends_of e) (along_exchanged (ends_of e) (ends_of f) e_forward along))) second;
   }
 
-  -- and where each goes across the other's line there is one point
+  -- one point is added if each goes across the other's line
   pub crossing_added : (v : Point) {old mid new : List Meeting} → IsAcross (ends_of e) (ends_of f) →
       IsAcross (ends_of f) (ends_of e) → v ≡ crossing (ends_of e) (ends_of f) →
       AddsPoints i e (v ∷ []) old mid → AddsPoints j f (v ∷ []) mid new → AddsBoth i e j f old new

@@ -12,7 +12,7 @@ use Rattle.overlay_plane.proofs.PixelTests.{Decides-upright, IsInBox, girth_fall
 use Rattle.overlay_plane.proofs.Tests.{lt_from_test}
 use Rattle.overlay_arrange.specs.PixelRuns.{is_far_above, is_far_below, IsAmidX, PassesAbove, PassesBelow}
 
--- a number lies between itself and another one
+-- a number lies between itself and another number
 between_first : (u v : ℤ) → IsBetween u u v
 between_first u v = by_lt_z v u (λ less. inr (omega linear, omega linear))
     (λ at_least. inl (omega linear, omega linear))
@@ -64,7 +64,7 @@ module _ (e : Edge) (v : Point) (meets : meets_pixel e v ≡ true) where
       by (inl (inr is)) = subst (IsInBox e) (sym is) (between_second e.a.x e.b.x, between_second e.a.y e.b.y)
       by (inr (box, line)) = box
 
-  -- and near the line
+  -- the point is near the line
   pub met_within : e.a.x ≤ℤ e.b.x → IsWithinGirth e v
   met_within forward = by met
     where
@@ -106,7 +106,7 @@ module _ (e : CountedEdge) (forward : e.a.x ≤ℤ e.b.x) (x y : ℤ) where
       let twice = mul-le (pos 2) (cross_at e.a e.b corner) (cross_at e.a e.b v) (omega linear) less in
       omega (linear, above, near, twice)
 
-  -- what lies below both ends, or above both, is not in the box
+  -- points below both ends, or above both, are not in the box
   pub passes_above_below_ends : y <ℤ e.a.y → y <ℤ e.b.y → PassesAbove e x y
   passes_above_below_ends under_a under_b v under onward meets = ⊎_elim
       (λ up. let from = up.0 in omega (linear, under_a, under, from))

@@ -22,7 +22,7 @@ use Rattle.overlay_arrange.specs.Content.{edge_with, point_cmp, IsHeld}
 
 -- ---- how the two points of a step compare
 
--- a point that comes after another one is not that one
+-- a point that comes after another point differs from it
 other_where_after : (p q : Point) → point_lt q p ≡ true → point_eq p q ≡ false
 other_where_after p q after =
     false_from_ne_true (point_eq p q)
@@ -34,7 +34,7 @@ pub record LeadsBack (p q : Point) : Type 0 where
   pub apart : point_eq p q ≡ false
   pub back : point_lt p q ≡ false
 
--- so it does where the first compares as `Greater`
+-- the step leads back if the first point compares as `Greater`
 pub back_where_greater : (p q : Point) → point_cmp p q ≡ Greater → LeadsBack p q
 back_where_greater p q greater = by (point_lt p q) (point_lt q p) refl refl greater
   where
@@ -49,7 +49,7 @@ pub record LeadsOn (p q : Point) : Type 0 where
   pub apart : point_eq p q ≡ false
   pub on : point_lt p q ≡ true
 
--- so it does where the first compares as `Less`
+-- the step leads on if the first point compares as `Less`
 pub on_where_less : (p q : Point) → point_cmp p q ≡ Less → LeadsOn p q
 on_where_less p q less = record {
   apart = sym (point_cmp-is_tie p q) ∙ ap is_eq less;
@@ -67,7 +67,7 @@ same_where_equal p q equal = sym (point_cmp-is_tie p q) ∙ ap is_eq equal
 
 -- ---- the piece of a step
 
--- the piece of an edge between two points, the first of which is the smaller, or is not
+-- the piece of an edge between two points, where the first is the smaller, or is not
 abbrev piece_by : Bool → CountedEdge → Point → Point → CountedEdge
 piece_by t e p q = record {
   a = (cond {A = Edge} t (record { a = p; b = q }) (record { a = q; b = p })).a;
@@ -98,7 +98,7 @@ piece_back a b p q c k greater reversed =
     ap (λ n. edge_with q p n ∷ []) reversed
     ∙ sym (one_piece (edge_with a b c) p q false leads.apart leads.back)
 
--- ---- what a builder may hold
+-- ---- pieces that a builder may hold
 
 -- the piece between two different points in range is one that a builder may hold
 held_piece : (limit : ℕ) (e : CountedEdge) (p q : Point) → InRange limit p → InRange limit q → point_eq p q ≡ false →
@@ -110,7 +110,7 @@ held_piece limit e p q hp hq apart false way = record {
   b_in_range = hp;
 }
 
--- so are those of the steps between two points in range
+-- the pieces of the steps between two points in range may be held
 held_pieces : (limit : ℕ) (e : CountedEdge) (p q : Point) → InRange limit p → InRange limit q →
     All (IsHeld limit) (map (piece_along e) (steps_between p q))
 held_pieces limit e p q hp hq = by (point_eq p q) refl
@@ -121,13 +121,13 @@ held_pieces limit e p q hp hq = by (point_eq p q) refl
     by false apart = All-cons (IsHeld limit) (piece_by (point_lt p q) e p q) []
         (held_piece limit e p q hp hq apart (point_lt p q) refl) (All-nil (IsHeld limit))
 
--- the one piece of a step may be held
+-- the single piece of a step may be held
 pub step_held : (limit : ℕ) (e piece : CountedEdge) (p q : Point) → InRange limit p → InRange limit q →
     piece ∷ [] ≡ map (piece_along e) (steps_between p q) → IsHeld limit piece
 step_held limit e piece p q hp hq is = All-head (IsHeld limit) piece []
     (subst (λ es. All (IsHeld limit) es) (sym is) (held_pieces limit e p q hp hq))
 
--- and weighs what the edge does
+-- the piece weighs as much as the edge
 pub step_weighs : (e piece : CountedEdge) (p q : Point) → piece ∷ [] ≡ map (piece_along e) (steps_between p q) →
     edge_weight piece ≡ edge_weight e
 step_weighs e piece p q is =
@@ -138,7 +138,7 @@ step_weighs e piece p q is =
     WeighsAlike : CountedEdge → Type 0
     WeighsAlike f = edge_weight f ≡ edge_weight e
 
--- ---- a part of what is pushed
+-- ---- part of a push
 
 -- where the beginning of a list is heavy, the list is
 pub heavy_beginning : (limit : ℕ) (first rest whole : List CountedEdge) → first ++ rest ≡ whole → limit ≤ weight first →

@@ -29,7 +29,7 @@ module _ (e : Edge) (x y : ℤ) where
       let height = abs_up (e.b.y -ℤ e.a.y) (omega linear) in
       rw height (omega linear)
 
-  -- and of one that does not
+  -- the upper bound of an edge that does not rise
   pub high_where_falls : int_lt e.a.y e.b.y ≡ false → x ≡ e.b.x -ℤ e.a.x → y ≡ e.a.y -ℤ e.b.y → x +ℤ y ≡ half_girth e
   high_where_falls falls x_is y_is =
       let down = ge_from_test e.a.y e.b.y falls in
@@ -76,12 +76,12 @@ module _ (e : Edge) (v : Point) (cross : ℤ) (value : cross ≡ cross_at e.a e.
       && cond (int_lt e.a.y e.b.y) (int_lt twice (half_girth e)) (int_le twice (half_girth e)))
   wide_test = ap₂ (λ s t. s && t) (ap is_gt low_is ∙ is_gt-int_cmp twice (pos 0 -ℤ half_girth e)) is_kept-tells
 
-  -- and of an upright one
+  -- the test of an upright edge
   upright_test : is_ge low && is_lt high ≡ (int_le (pos 0 -ℤ half_girth e) twice && int_lt twice (half_girth e))
   upright_test = ap₂ (λ s t. s && t) (ap is_ge low_is ∙ is_ge-int_cmp twice (pos 0 -ℤ half_girth e))
       (ap is_lt high_is ∙ is_lt-int_cmp twice (half_girth e))
 
-  -- so the whole test does
+  -- the whole test is the test of the line
   test : cond (int_lt e.a.x e.b.x) (is_gt low && is_kept) (is_ge low && is_lt high) ≡ line_meets e v
   test = ap₂ (λ s t. cond (int_lt e.a.x e.b.x) s t) wide_test upright_test
 

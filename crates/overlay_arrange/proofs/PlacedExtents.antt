@@ -19,7 +19,7 @@ place_at n (x ∷ xs) zero d lt = omega arith
 place_at n (x ∷ xs) (suc k) d lt = place_at (suc n) xs k d (omega (arith, lt)) ∙ omega arith
 
 module _ {X : Type 0} (extent : X → ℕ → Extent) where
-  -- the extents of the items, each at its place
+  -- the boxes of the items, each at its place
   abbrev pub placed : List X → List Extent
   placed xs = map (λ (n : Numbered X). extent n.item n.place) (numbered 0 xs)
 
@@ -57,7 +57,7 @@ module _ {X : Type 0} (extent : X → ℕ → Extent) where
     are_numbered : AreNumbered xs (numbered 0 xs)
     are_numbered = numbered_shuffled xs (numbered 0 xs) (IsPermutation-refl (numbered 0 xs))
 
-    -- an extent is that of an item
+    -- a box is that of an item
     pub item_there : (k : ℕ) (s : Extent) → IsAt ss k s → (j : ℕ) × (x : X) × IsAt xs j x × (extent x j ≡ s)
     item_there k s at_s =
         let has : Contains (placed xs) s = Contains-permutation ss (placed xs) s
@@ -72,7 +72,7 @@ module _ {X : Type 0} (extent : X → ℕ → Extent) where
           sym (get_or-map (λ (n : Numbered X). extent n.item n.place) (numbered 0 xs) has.0 d s inside) ∙ has.2,
         )
 
-    -- and that of each item is there
+    -- the box of each item is there
     pub extent_there : (j : ℕ) (x : X) → IsAt xs j x → Contains ss (extent x j)
     extent_there j x at_x =
         let has = are_numbered.all j at_x.0 in

@@ -1,4 +1,4 @@
--- An edge that is held with its counts reversed weighs what it did.
+-- The weight of an edge does not change when its counts are reversed.
 use Rattle.std.proofs.Common.{◌≡◌, ℕ, ◌+◌, ◌<◌, ◌^◌, ℤ, pos, List, [], ◌∷◌, ◌++◌, sym, ap, ◌∙◌, subst, arith}
 use Rattle.std.specs.List.{All}
 use Rattle.std.proofs.lemmas.List.{map_push}
@@ -12,7 +12,7 @@ use Rattle.overlay_plane.proofs.PieceCounts.{edge_weight-piece}
 use Rattle.overlay_arrange.specs.Content.{edge_with, plain_edge, plain_edges, IsHeld, IsWeighed}
 use Rattle.overlay_arrange.specs.declared.edge.CountedEdge.{CountedEdge as HeldEdge}
 
--- reversed counts weigh what the counts do
+-- reversed counts have the weight of the counts
 weight_reversed : (c : Counts) → weight_of_counts (reversed_counts c) ≡ weight_of_counts c
 weight_reversed c =
     let p : Point = record { x = pos 0; y = pos 0 } in

@@ -21,7 +21,7 @@ use Rattle.overlay_arrange.proofs.PlacedExtents.{extent_there, item_there}
 abbrev pub IsStripEnd : ℕ → ℕ → ℕ → Type 0
 IsStripEnd width all at = (at % width ≡ 0) ⊎ (at ≡ all)
 
--- ranks of points, with each one of an extent before the place `at` whose pixel e meets
+-- ranks of points, with each one of a box before the place `at` whose pixel e meets
 pub record AreRanksBefore (vs : List Point) (e : CountedEdge) (ss : List Extent) (at : ℕ) (ranks : List ℕ) : Type 0
   where
     pub within : (k : ℕ) → Contains ranks k → k < length vs
@@ -30,7 +30,7 @@ pub record AreRanksBefore (vs : List Point) (e : CountedEdge) (ss : List Extent)
 
 module _ (vs : List Point) (e : CountedEdge) (width : ℕ) (ss : List Extent) (by_strips : ArePointsByStrips vs width ss)
   where
-    -- before a multiple of the width stand the extents of places before it, and from there on the others
+    -- before a multiple of the width stand the boxes of places before it, and from there on the others
     place_before : (at k : ℕ) (s : Extent) → at % width ≡ 0 → IsAt ss k s → k < at → s.first < at
     place_before at k s begun at_s less =
         let whole : at / width * width ≡ at = (let all = div-add-mod' at width in omega (arith, all, begun)) in
@@ -88,7 +88,7 @@ module _ (vs : List Point) (e : CountedEdge) (width : ℕ) (ss : List Extent) (b
     -- ---- one strip
 
     module _ (at end : ℕ) (begun : at % width ≡ 0) (ends : (end ≡ length vs) ⊎ (end ≡ at + width)) where
-      -- the extents of a strip stand by their heights
+      -- the boxes of a strip stand by their heights
       pub strip_upwards : end ≤ at + width → AreUpwards ss at end
       strip_upwards short j k s t past le less at_s at_t =
           by_strips.heights j k s t le (same_strip j k past le (omega (arith, less, short))) at_s at_t
@@ -99,7 +99,7 @@ module _ (vs : List Point) (e : CountedEdge) (width : ℕ) (ss : List Extent) (b
 
       module _ (left right : ℤ) (old new : List ℕ) (adds : AddsRun left right e ss at end old new)
           (between : (k : ℕ) (v : Point) → at ≤ k → k < end → IsAt vs k v → (left ≤ℤ v.x) × (v.x ≤ℤ right)) where
-        -- the extent of a place in it has its point's height
+        -- the box of a place in it has its point's height
         height_of : (k : ℕ) (s : Extent) (v : Point) → IsAt ss k s → IsAt vs s.first v → v.y ≡ s.low
         height_of k s v at_s at_v =
             let point = item_there extent_of_point vs ss by_strips.permutation k s at_s in

@@ -8,7 +8,7 @@ use Rattle.overlay_arrange.specs.Stores.IsStoreReached.{unwritten, written}
 pub never_written : {S : Type 0} (writes : S → S → Type 0) (s : S) → IsStoreReached writes s s
 never_written writes s = unwritten s
 
--- what is reached from a store that is reached, is reached
+-- reaching stores is transitive
 pub reached_on : {S : Type 0} (writes : S → S → Type 0) (s t u : S) →
     IsStoreReached writes s t → IsStoreReached writes t u → IsStoreReached writes s u
 reached_on writes s t u before (unwritten _) = before

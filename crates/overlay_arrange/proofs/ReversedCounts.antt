@@ -29,7 +29,7 @@ module _ (z r : ℤ) (small : mag z < 2147483648) (is : r ≡ to_z w32 (of_z w32
   opposite_fits = Within-fits w64 2147483648 (pos 0 -ℤ z) (lit< tt) (let n = near in
       record { low = omega (arith, ints); high = omega (arith, ints) })
 
-  -- and may be reversed
+  -- the count may be negated
   pub reversed_fits : FitsSigned w64 (pos 0 -ℤ to_z w64 (of_z w64 r))
   reversed_fits = subst (λ v. FitsSigned w64 (pos 0 -ℤ v)) (sym widened) opposite_fits
 

@@ -20,7 +20,7 @@ split_at_once most old new merged settled = record {
   reached = record { cut = tt; merged = merged; settled = settled };
 }
 
--- and the answer that it was not cut is right
+-- the answer that it was not cut is right
 pub uncut_where_settled : {solver : Solver} {old new : List CountedEdge} → IsMerged old new → IsSettled new →
     (false ≡ false) ↔ IsReachedBy solver [] old new
 uncut_where_settled merged settled = (λ same. record { cut = tt; merged = merged; settled = settled }, λ reached. refl)
@@ -49,7 +49,7 @@ unsettled_at_once most old left none merged unsettled = record {
 abbrev pub Leaves : Solver → List CountedEdge → List CountedEdge → Type 0
 Leaves solver old left = (r : Round) × IsRoundBy solver old r × (pieces_of r ≡ left)
 
--- what a first round leaves was split, so the list was
+-- a list is split if the result of its first round is
 pub split_on : (solver : Solver) (fewer most : ℕ) (old left new : List CountedEdge) → fewer + 1 ≤ most →
     Leaves solver old left → IsSplit solver fewer left new → IsSplit solver most old new
 split_on solver fewer most old left new le (r, is, left_is) h =

@@ -23,7 +23,7 @@ zero_is_empty NonZero = refl
 zero_is_empty Positive = refl
 zero_is_empty Negative = refl
 
--- no rule takes what neither shape fills
+-- no rule takes points that neither shape fills
 neither_is_taken : (rule : OverlayRule) → rule_holds rule false false ≡ false
 neither_is_taken Subject = refl
 neither_is_taken Clip = refl
@@ -33,7 +33,7 @@ neither_is_taken Difference = refl
 neither_is_taken InverseDifference = refl
 neither_is_taken Xor = refl
 
--- so the rules do not hold of two windings 0
+-- the rules do not hold of two windings 0
 pub none_of_zero : (fill : FillRule) (rule : OverlayRule) → rules_hold fill rule (pos 0) (pos 0) ≡ false
 none_of_zero fill rule = ap (λ t. rule_holds rule t t) (zero_is_empty fill) ∙ neither_is_taken rule
 
@@ -47,7 +47,7 @@ planar_content limit es content ascending settled = record {
   distinct = distinct_from_ascending es ascending;
 }
 
--- and with balanced counts they are ruled
+-- with balanced counts they are ruled
 pub ruled_content : (limit : ℕ) (es : List CountedEdge) → IsContent limit es → IsAscending es → IsSettled es →
     HasBalancedCounts es →
     (fill : FillRule) (rule : OverlayRule) → IsRuled (rules_hold fill rule) subj_of clip_of es

@@ -93,14 +93,14 @@ module _ {I C : Type 0} (whole : I → ℤ) (counts : C → Counts) where
         by true d = absurd (none (d.0 refl))
         by false d = refl
 
-    -- so the test passes in the front of the list alone
+    -- the test passes in the front of the list alone
     pub starts-parted : (x : ℤ) → IsPartitionedBy (starts_up_to x) es
     starts-parted x j k d le within passes =
         let further = no_further_left j k d le within in
         true_of_up_to x (whole (get_or es j d).a.x) (λ less. up_to_of_true x (whole (get_or es k d).a.x) passes
         (omega linear))
 
-    -- and where it ends, from a place on, the run of an edge ends
+    -- the run of an edge ends where its search ends
     pub run_ends : (x : ℤ) (first to count : ℕ) → first ≤ to → to ≤ length es →
         ((f : CountedEdge) → IsAt (plain_edges whole counts es) to f → x <ℤ f.a.x) →
         count ≤ length (slice_range es first to) →

@@ -41,7 +41,7 @@ module _ (ss : List Extent) (s : Extent) where
         let same : k ≡ l = omega (arith, past, less) in
         subst (IsApart s) (one_entry ss k t u at_t (subst (λ n. IsAt ss n u) (sym same) at_u)) apart) searched
 
-    -- the place of another one is added
+    -- the place of a box that is not apart is added
     pub searched_near : ¬ (IsApart s t) → IsSearchedTo ss s (k + 1) (js ++ t.first ∷ [])
     searched_near near = record {
       from = λ j has. ⊎_elim (λ before. searched.from j before)

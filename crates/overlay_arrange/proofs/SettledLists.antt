@@ -71,7 +71,7 @@ module _ (es : List CountedEdge) where
           let is : e ≡ f = sym at_e.1 ∙ get_or_default es has_e.0 e f at_e.0 ∙ there in
           subst (λ (g : CountedEdge). edge_eq (ends_of e) (ends_of g) ≡ true) is (edge_eq-itself (ends_of e))
 
-  -- and each edge of an ascending settled list meets the later ones in ends alone
+  -- each edge of an ascending settled list meets the later ones in ends alone
   pub settled_with_later : IsSettled es → IsAscending es → (i : ℕ) → AreSettledUpTo es i (length es)
   settled_with_later settled up i k e f past less at_e at_f =
       let comes : edge_lt (ends_of e) (ends_of f) ≡ true =
@@ -80,7 +80,7 @@ module _ (es : List CountedEdge) where
       (get_or_default es k e f at_f.0 ∙ at_f.1) (up i k e past at_f.0)) in
       settled e f (i, at_e.0, at_e.1) (k, at_f.0, at_f.1) (edge_eq-from_lt (ends_of e) (ends_of f) comes)
 
-  -- so it is settled exactly where the first edge that does not do so is counted behind all of them
+  -- the list is settled exactly where the first edge that fails is counted behind all of them
   pub settled_where_counted : (n len : ℕ) → length es ≡ len → IsAscending es → AreSettledBefore es n →
       (n < len → ¬ (AreSettledUpTo es n len)) → (n ≡ len) ↔ IsSettled es
   settled_where_counted n len same up front most = (

@@ -12,7 +12,7 @@ pub record ShowsSides (f : Fills) : Type 0 where
   pub clip_above : has_bit (bits_of f) 2 ≡ f.clip_above
   pub clip_below : has_bit (bits_of f) 3 ≡ f.clip_below
 
--- so it is, side by side
+-- the bits tell side by side
 sides : (subj_above subj_below clip_above clip_below : Bool) →
     ShowsSides (record {
       subj_above = subj_above;

@@ -47,7 +47,7 @@ module _ (limit : ℕ) (es : List CountedEdge) (held : All (IsHeld limit) es) (m
       (λ v at. ⊎_elim (λ end. ⊎_elim (λ is. inl is) (λ is. inr (inl is)) end)
       (λ there. inr (inr (points.all v there))) (meetings.all i e at_e v at))
 
-  -- and lie in range
+  -- the snapped points are in range
   pub snaps_in_range : AreInRange limit ms
   snaps_in_range = all_of_entries (λ (m : Meeting). InRange limit m.point) ms (λ m at.
       let led = meetings.led m at in

@@ -20,7 +20,7 @@ use Rattle.overlay_arrange.proofs.SolverRounds.{leaves_of_taken, led_by_snapping
 module _ {C : Type 0} (merges : C → C → C → Type 0) (splits reverses : C → C → Type 0) (limit : ℕ)
     (old kept : List (Carried C)) (content : IsContent limit (edges_in kept))
     (merged : IsMerged (edges_in old) (edges_in kept)) (unsettled : ¬ (IsSettled (edges_in kept))) where
-  -- what snap rounding leaves, merged, was split in one round, and what its edges carry is derived along it
+  -- the pieces of snap rounding, merged, were split in one round, and the values of the edges derive along it
   pub snapped_carrying : (left new : List (Carried C)) → IsContent limit (edges_in old) →
       CarriesMerged merges old kept → IsLedOnce splits reverses kept left → IsMerged (edges_in left) (edges_in new) →
       CarriesMerged merges left new → IsSplitCarrying merges splits reverses Snapping 1 old new

@@ -34,7 +34,7 @@ pub record TakesRound (solver : Solver) (old es left : List CountedEdge) (chain 
     pub edges : taken.edges ≡ es
     pub chains : (e : CountedEdge) → Contains es e → chain_of taken e ≡ chain e
 
--- so it leaves these pieces
+-- the round leaves these pieces
 pub leaves_of_taken : (solver : Solver) (old es left : List CountedEdge) (chain : CountedEdge → List Step) →
     TakesRound solver old es left chain → Leaves solver old left
 leaves_of_taken solver old es left chain takes = (takes.taken, takes.is, takes.leaves)
@@ -55,12 +55,12 @@ module _ (old es : List CountedEdge) (forward : IsForwardBy ends_of es) (merged 
         chains = cuts.chains;
       }
 
-  -- so does the solver by rounds
+  -- the solver by rounds takes this round
   pub cut_in_rounds : (left : List CountedEdge) → left ≡ cut_edges es →
       TakesRound Rounds old es left (computed_chain es)
   cut_in_rounds = cut_by Rounds (λ r edges round. round)
 
-  -- so does snap rounding where the edges meet in whole points alone, and else it leads them through hot points
+  -- snap rounding takes this round where the edges meet in whole points alone. Else it leads them through hot points
   pub led_by_snapping : (points : LeadingPoints) → AreLedBySnapping es points → (left : List CountedEdge) →
       left ≡ flat_map (pieces_through points) es → TakesRound Snapping old es left (chain_by points)
   led_by_snapping _ (cut whole) left is =
@@ -76,7 +76,7 @@ module _ (old es : List CountedEdge) (forward : IsForwardBy ends_of es) (merged 
         chains = snaps.chains;
       }
 
-  -- and what it leaves, merged, is settled
+  -- the pieces, merged, are settled
   pub settled_by_snapping : IsForwardBy ends_of old → (points : LeadingPoints) → AreLedBySnapping es points →
       (left new : List CountedEdge) → left ≡ flat_map (pieces_through points) es → IsMerged left new → IsSettled new
   settled_by_snapping old_forward _ (cut whole) left new is merged_left =

@@ -10,7 +10,7 @@ use Rattle.overlay_arrange.specs.PixelRuns.{IsAmidX}
 abbrev pub moved : ℤ → ℤ → ℤ → ℤ
 moved a b x = cond (int_lt x a) a (cond (int_lt b x) b x)
 
--- what is known of it
+-- the facts of the moved number
 record IsMoved (a b x z : ℤ) : Type 0 where
   from : a ≤ℤ z
   to : z ≤ℤ b
@@ -55,7 +55,7 @@ module _ (e : CountedEdge) (forward : e.a.x ≤ℤ e.b.x) where
       subst (IsAmidX e) (sym is) (m.from, m.to)
 
   module _ (left right first last : ℤ) where
-    -- so between two of them the edge rises to the right, from the left one on
+    -- between two of them the edge rises to the right, from the left on
     pub between_rising : e.a.y ≤ℤ e.b.y → first ≡ moved e.a.x e.b.x left → last ≡ moved e.a.x e.b.x right →
         (x : ℤ) → left ≤ℤ x → x ≤ℤ right → IsAmidX e x →
         (pos 0 ≤ℤ ((e.b.y -ℤ e.a.y) *ℤ (x -ℤ first))) × (pos 0 ≤ℤ ((e.b.y -ℤ e.a.y) *ℤ (last -ℤ x)))

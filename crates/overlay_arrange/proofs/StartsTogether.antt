@@ -46,7 +46,7 @@ module _ (count : CountedEdge → ℤ) (fs : List CountedEdge) (r : IsBalancedAr
         (subst (λ (k : CountedEdge). edge_eq (ends_of (get_or fs i e)) (ends_of k) ≡ false) same_f
         (r.planar.distinct i j e early late))
 
-    -- and from the same point that leads to the left of it
+    -- from an equal point that leads to the left of it
     leads_left : e.a ≡ f.a → turns_left (ends_of e) (ends_of f) ≡ true
     leads_left together = by (turns_left (ends_of e) (ends_of f)) refl
       where
@@ -81,14 +81,14 @@ module _ (count : CountedEdge → ℤ) (fs : List CountedEdge) (r : IsBalancedAr
     left : turns_left (ends_of p) (ends_of e) ≡ true
     left = leads_left i (i + 1) p e (omega arith) within here next together
 
-    -- so the first is not vertical
+    -- the first is not vertical
     over : covers (ends_of p) p.a.x (pos 1) ≡ true
     over =
         let wide = wide_before_left (ends_of p) (ends_of e) (forward p at_p) (forward e at_e)
         (lt_from_test (pos 0) (edge_turn (ends_of p) (ends_of e)) left) in
         covers_start (ends_of p) (omega linear)
 
-    -- what stands before it, and is below the second, is below it
+    -- an edge before it that is below the second is below it
     below_first : (k : ℕ) (h : CountedEdge) → k < i → get_or fs k h ≡ h →
         is_below_anchor (ends_of e) (ends_of h) ≡ true → is_below_anchor (ends_of p) (ends_of h) ≡ true
     below_first k h early at below = ⊎_elim

@@ -21,7 +21,7 @@ use Rattle.overlay_arrange.specs.Near.{AreApartFrom}
 use Rattle.overlay_arrange.proofs.ExtentBlocks.{same_block}
 use Rattle.overlay_arrange.proofs.GatheredMeetings.{one_entry}
 
--- with an extent at its place behind them they are in strips
+-- with a box at its place behind them they are in strips
 strips_pushed : (width : ℕ) (ss : List Extent) (t : Extent) → t.first ≡ length ss → t.last ≡ length ss →
     AreInStrips width ss → AreInStrips width (ss ++ t ∷ [])
 strips_pushed width ss t first last are k s at_s = ⊎_elim here before
@@ -37,7 +37,7 @@ strips_pushed width ss t first last are k s at_s = ⊎_elim here before
     before : k < length ss → (s.first / width ≡ k / width) × (s.last ≡ s.first)
     before less = are k s (less, sym (get_or-append ss (t ∷ []) s k less) ∙ at_s.1)
 
--- what stands in the second part of a list stands there further on
+-- an item in the second part of a list is there further on
 in_second : (xs ys : List Extent) (k : ℕ) (s : Extent) → length xs ≤ k → IsAt (xs ++ ys) k s → Contains ys s
 in_second xs ys k s past at_s =
     let from : length xs + (k - length xs) ≡ k = omega (arith, past) in (
@@ -124,7 +124,7 @@ module _ (width : ℕ) (some : 0 < width) where
 
 -- ---- strip by strip
 
--- the given extents: those in finished strips, and those in the strip so far
+-- the given boxes: those in finished strips, and those in the strip so far
 pub record StripsSoFar (width : ℕ) (given xs ys : List Extent) : Type 0 where
   pub permutation : IsPermutation given (xs ++ ys)
   pub strips : AreInStrips width (xs ++ ys)
@@ -202,7 +202,7 @@ module _ (width : ℕ) (some : 0 < width) where
 
 module _ (width : ℕ) (some : 0 < width) (ss : List Extent) (of : Extent) where
   module _ (are : AreInStrips width ss) where
-    -- what stands before the first strip lies apart
+    -- the boxes before the first strip lie apart
     pub strips_before_apart : AreApartFrom ss of 0 (of.first / width * width)
     strips_before_apart k s past less at_s =
         let strip = (are k s at_s).0 in
@@ -213,7 +213,7 @@ module _ (width : ℕ) (some : 0 < width) (ss : List Extent) (of : Extent) where
         let whole = div-add-mod' of.first width in
         inr (inr (inr (omega (arith, one, first, whole))))
 
-    -- and what stands behind the last
+    -- the boxes behind the last strip lie apart
     pub strips_behind_apart : (stop : ℕ) → (stop ≡ length ss) ⊎ (stop ≡ of.last / width * width + width) →
         AreApartFrom ss of stop (length ss)
     strips_behind_apart stop ends k s past less at_s = ⊎_elim
@@ -233,7 +233,7 @@ module _ (width : ℕ) (some : 0 < width) (ss : List Extent) (of : Extent) where
         absurd (omega (arith, k_low, product, next, past))) (cases_lt of.last s.first)) ends
 
   module _ (are : AreByHeights width ss) where
-    -- where the extent at a place lies above, so do those after it in its strip
+    -- where the box at a place lies above, so do those after it in its strip
     pub rest_above_apart : (at : ℕ) (s : Extent) → IsAt ss at s → of.high <ℤ s.low →
         AreApartFrom ss of at (at + (width - at % width))
     rest_above_apart at s at_s above k t past less at_t =

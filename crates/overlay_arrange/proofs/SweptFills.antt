@@ -74,7 +74,7 @@ module _ (limit : ℕ) (fs : List CountedEdge) (sweepable : IsSweepable limit fs
       starts = refl;
     }
 
-    -- and where it is not vertical it is over its start
+    -- an edge that is not vertical is over its start
     pub is_over : int_lt e.a.x e.b.x ≡ true → IsOver limit e.a.x (ends_of e)
     is_over wide = record {
       a_in_range = held.a_in_range;
@@ -108,7 +108,7 @@ module _ (limit : ℕ) (fs : List CountedEdge) (sweepable : IsSweepable limit fs
             (test_from_lt e.a.x g.b.x (omega (arith, ints))));
       }
 
-      -- so the look-up gives the windings below it
+      -- the look-up gives the windings below it
       pub subj_looked_up : (none : Windings) → none.subj ≡ pos 0 →
           (value_below none (ends_of e) (live_at e.a.x s.entries)).subj ≡ winding_below subj_of fs e
       subj_looked_up none zero = winding_looked_up (λ v. v.subj) (windings_above fs) subj_of fs sweepable.subj
@@ -158,7 +158,7 @@ module _ (limit : ℕ) (fs : List CountedEdge) (sweepable : IsSweepable limit fs
         (after_front (λ (f : Entry Windings). e.a.x ≤ℤ f.edge.a.x) (wound_entries fs) i (wound fs e) within
         (later_starts (wound_entries fs) i (wound fs e) within there entries_by_start))
 
--- what the sweep holds for all edges left it holds for the next
+-- the sweep holds for the next edge what it holds for all edges left
 pub swept_for_next : (limit : ℕ) (fs : List CountedEdge) (i : ℕ) (e : CountedEdge) → i < length fs → get_or fs i e ≡ e →
     (s : Sweep Windings) →
     All (λ f. IsSwept limit f.edge.a.x (take i (wound_entries fs)) s) (drop i (wound_entries fs)) →

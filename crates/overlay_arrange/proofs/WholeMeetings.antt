@@ -156,11 +156,11 @@ module _ (es : List CountedEdge) (forward : IsForwardBy ends_of es) where
               subst (IsOnLineOf e) (sym w_is ∙ v_is)
               (held_of_on (ends_of e) at.0 p (leads e at_e) at.1 common.0).on_line
 
-  -- so the one says the other
+  -- the two are equivalent
   pub whole_meetings_on_lines : All (AreLedAlongLines es) es ↔ MeetInWholePoints es
   whole_meetings_on_lines = (whole_where_on_lines, on_lines_where_whole)
 
--- ---- what a round leaves that rounds no point
+-- ---- the pieces of a round that rounds no point
 
 -- merged edges that are not settled, and meet in whole points alone, leave pieces that, merged, are settled
 pub settled_where_whole : (old es left new : List CountedEdge) → IsForwardBy ends_of es → IsMerged old es →

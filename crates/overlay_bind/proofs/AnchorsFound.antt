@@ -46,7 +46,7 @@ pub step_forward : (limit : _) (walk : List Step) → All (IsLong limit) walk �
     IsForward (edge_of s)
 step_forward limit walk long s c = long_leads_forward s (All-contains (IsLong limit) walk s long c).apart
 
--- and is not anchored before itself
+-- the edge is not anchored before itself
 pub not_before_itself : (limit : _) (walk : List Step) → All (IsLong limit) walk → (s : Step) → Contains walk s →
     is_anchored_before (edge_of s) (edge_of s) ≡ false
 not_before_itself limit walk long s c = anchored_before-itself (edge_of s) (step_forward limit walk long s c)

@@ -13,7 +13,7 @@ use Rattle.overlay_bind.proofs.RolesRead.{outline_count}
 
 module _ (filled : Hand) (contours : List Contour) (shapes : List (Option ℕ))
     (counted : length shapes ≡ length contours) where
-  -- what is found for the contour at a place, by whether there is one shape alone
+  -- the number found for the contour at a place, by whether there is one shape alone
   abbrev IsFoundBy : ℕ → Bool → Type 0
   IsFoundBy i one = MatchBool one (slice_index_or shapes i None ≡ Some 0)
       (IsParent filled contours i (slice_index_or shapes i None))

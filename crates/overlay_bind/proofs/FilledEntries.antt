@@ -52,7 +52,7 @@ module _ (filled : Hand) (walks : List (List Step)) where
     pub edges : map (λ f. f.edge) fs ≡ all_filled_above filled (take i walks)
     pub from : All (IsFilledEntry filled walks) fs
 
-  -- and those of the next
+  -- the entries of the next walk are added
   pub filled_added : (i : ℕ) (fs : List (Entry ℕ)) (w : List Step) → HaveFilled i fs → i < length walks →
       get_or walks i w ≡ w → slice_get walks i ≡ Some w →
       HaveFilled (i + 1) (fs ++ filled_entries filled i w)

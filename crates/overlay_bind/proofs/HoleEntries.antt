@@ -16,7 +16,7 @@ use Rattle.overlay_scan.specs.Scan.{Entry}
 use Rattle.overlay_scan.specs.Sweeps.{IsByStart}
 use Rattle.overlay_bind.specs.WalkEntries.{IsHoleEntry, AreHoleEntries}
 
--- what stands at one place is one
+-- the walk at a place is unique
 pub same_at : (walks : List (List Step)) (n : ℕ) (v w : List Step) → slice_get walks n ≡ Some v →
     slice_get walks n ≡ Some w → v ≡ w
 same_at walks n v w at_v at_w = sym (get_or_from_slice_get walks n v v at_v) ∙ get_or_from_slice_get walks n w v at_w
@@ -30,7 +30,7 @@ pub none_from_test : (o : Option ℕ) → is_some o ≡ false → o ≡ None
 none_from_test None e = refl
 none_from_test (Some n) e = absurd (false≢true (sym e))
 
--- and one that passes it is not
+-- a number that passes the test is not none
 pub some_from_test : (o : Option ℕ) → is_some o ≡ true → ¬ (o ≡ None)
 some_from_test o e same = false≢true (sym (ap is_some same) ∙ e)
 

@@ -48,7 +48,7 @@ module _ (filled : Hand) (walks : List (List Step)) (contours : All IsContour wa
     (hs : List (Entry ℕ)) (holes : AreHoleEntries walks known hs) (parents : List (Option ℕ)) (i : ℕ) (h : Entry ℕ)
     (lt : i < length hs) (is : h ≡ get_or hs i h)
     (numbered : All (λ k. HasShapeNumber filled walks known parents k.value) (take i hs)) where
-  -- an entry that is anchored before the one at the place stands before it
+  -- an entry that is anchored before the entry at the place comes before it
   stands_before : (k : Entry ℕ) → Contains hs k → is_anchored_before k.edge h.edge ≡ true →
       is_anchored_before h.edge h.edge ≡ false → Contains (take i hs) k
   stands_before k c before itself = by_lt c.0 i

@@ -56,7 +56,7 @@ abbrev is_hole_as : Holes → ℕ → BoundContour → Bool
 is_hole_as OfGroups n b = is_own_hole_of n b.contour.role
 is_hole_as Found n b = is_free_hole b.contour.role && is_number n b.shape
 
--- so its number tells
+-- its number tells whether the contour is such a hole
 tells : (holes : Holes) (n : ℕ) (r : Role) (s : Option ℕ) (w : List Step) →
     is_hole_as holes n (with_shape (record { role = r; steps = w }) s) ≡ is_number n (number_as holes r s)
 tells OfGroups n (outline m) s w = refl

@@ -12,7 +12,7 @@ use Rattle.overlay_plane.proofs.PlacesOfContours.{place_of_walk}
 use Rattle.overlay_bind.specs.HolePlaces.{at_outlines}
 use Rattle.overlay_bind.specs.Parents.{HasShapeNumber}
 
--- a fact of each outline and what stands at its place holds of the outlines' places and of what stands at outlines
+-- a fact of each outline and the entry at its place holds of the outlines' places and of the entries at outlines
 each_outline : (P : ℕ → Option ℕ → Type 0) (n : ℕ) (cs : List Contour) (found : List (Option ℕ)) →
     length found ≡ length cs →
     ((i : ℕ) (c : Contour) → slice_get cs i ≡ Some c → is_outline c.role ≡ true → P (n + i)
@@ -35,7 +35,7 @@ each_outline P n (c ∷ cs) (f ∷ fs) counted h = by (is_outline c.role) refl
     by true is rest = (here is, rest)
     by false is rest = rest
 
--- so the holes round all outlines are found
+-- the holes round all outlines are found
 pub holes_found : (filled : Hand) (cs : List Contour) (found : List (Option ℕ)) → length found ≡ length cs →
     ((n : ℕ) → HasShapeNumber (other_hand filled) (walks_in cs) (hole_places 0 cs) found n) →
     AreHolesRound filled cs (at_outlines cs found)

@@ -128,7 +128,7 @@ module _ (filled : Hand) (walks : List (List Step)) (contours : All IsContour wa
         (sym (below_is (found.0).edge of_g) ∙ there) in
         (found.0, covering found.0 found.1 parts.0, found.2, there)
 
-    -- the next walk, of which this is the index, and the anchor
+    -- the next walk, with this index, and the anchor
     pub record FindsWalk (value : ℕ) : Type 0 where
       pub next : List Step
       pub at : slice_get walks value ≡ Some next
@@ -184,7 +184,7 @@ module _ (filled : Hand) (walks : List (List Step)) (contours : All IsContour wa
               (filled_walked k (own k found.1))) e.a.x
               (over_it f great.entry) (over_it k found.1) ∙ not_under k (great.greatest k found.1 found.3))
 
-      -- so the look-up finds nothing, or the next walk
+      -- the look-up finds nothing, or the next walk
       pub look_up : (none : ℕ) → none ≡ length walks → Finds (value_below none e live)
       look_up none past = by (entry_below e live) refl
         where

@@ -1,4 +1,4 @@
--- The places of outlines, extended by those of the holes of their groups and of the holes found, are those of the
+-- The places of outlines, with those of the holes of their groups and of the holes found. They are the places of the
 -- shapes to which the contours are bound.
 use Rattle.std.proofs.Common.{◌≡◌, ℕ, ◌+◌, ◌<◌, Bool, true, false, cond, List, [], ◌∷◌, ◌++◌, map, length, get_or, All}
 use Rattle.std.proofs.Common.{Option, Some, None, refl}
@@ -62,7 +62,7 @@ module _ (contours : List Contour) (shapes : List (Option ℕ)) (can : CanBePlac
   abbrev holes_in : ℕ → List (List Step)
   holes_in n = own_holes bound n ++ found_holes bound n
 
-  -- the outlines alone are what the first lists have
+  -- the first lists have the outlines alone
   outlines_first : walks_at contours first ≡ map alone outlines
   outlines_first = began
       ∙ ap (λ cs. map (λ (c : Contour). alone c.steps) (filter (λ (c : Contour). is_outline c.role) cs)) (sym again)
@@ -97,7 +97,7 @@ module _ (contours : List Contour) (shapes : List (Option ℕ)) (can : CanBePlac
         ∙ shapes_begin bound (subst (AreNumbers 0) (sym again) can.numbered);
   }
 
--- a fact of all walks holds of the one at a place
+-- a fact of all walks holds of the walk at a place
 pub walk_has : (P : List Step → Type 0) (contours : List Contour) (k : ℕ) → All P (walks_in contours) →
     k < length contours → P (walk_at contours k)
 walk_has P contours k all inside =
@@ -165,7 +165,7 @@ can_be_placed in_groups filled keeps steps contours cut shapes found = record {
     by None h = tt
     by (Some m) h = h m refl
 
--- so are those of holes of a kind
+-- the numbers of holes of a kind are below the number of shapes
 pub numbers_below : (holes : Holes) (contours : List Contour) (shapes : List (Option ℕ)) → CanBePlaced contours shapes →
     All (λ (b : BoundContour). IfSome (number_as holes b.contour.role b.shape) (λ n. n < outline_count contours))
     (contours_bound contours shapes)

@@ -49,7 +49,7 @@ module _ (filled : Hand) (walks : List (List Step)) (contours : All IsContour wa
     module _ (fs : List (Entry ℕ)) (are_filled : AreFilledEntries filled walks fs) (limit n : ℕ) (s : Sweep ℕ)
         (swept : IsSwept limit h.edge.a.x (take n fs) s)
         (rest : All (λ f. h.edge.a.x <ℤ f.edge.a.x) (drop n fs)) where
-      -- and meets the live edges in ends alone
+      -- the anchor meets the live edges in ends alone
       pub anchor_meets : MeetsOthers h.edge (live_at h.edge.a.x s.entries)
       anchor_meets = meets_anchor filled walks contours settled fs are_filled limit own.walk kept h.edge own.has.anchor
           anchor_over n s swept rest

@@ -22,33 +22,33 @@ use Rattle.overlay_builder.proofs.BuilderCalls.{added_seen, refused_seen}
 use Rattle.overlay_builder.proofs.Mapped.{seen, one_seen, heavy_seen, adding_seen}
 use Rattle.overlay_builder.specs.GivenPaths.{ContourWeighsTooMuch, added_paths, paths_for}
 
--- a path that is taken as a contour adds what a contour does
+-- a path taken as a contour adds the edges of the contour
 pub as_contour : (keep : Bool) (f : Step → CountedEdge) (ps : List Point) (old new : List CountedEdge)
     → AddsPath (contour_kind keep) f ps old new → AddsContour keep f ps old new
 as_contour true f ps old new h = record { taken = h.taken; thinned = h.is_taken; content = h.content }
 as_contour false f ps old new h = record { taken = h.taken; thinned = h.is_taken; content = h.content }
 
--- and the other way round
+-- a contour adds the edges of a path taken as a contour
 pub of_contour : (keep : Bool) (f : Step → CountedEdge) (ps : List Point) (old new : List CountedEdge)
     → AddsContour keep f ps old new → AddsPath (contour_kind keep) f ps old new
 of_contour true f ps old new h = record { taken = h.taken; is_taken = h.thinned; content = h.content }
 of_contour false f ps old new h = record { taken = h.taken; is_taken = h.thinned; content = h.content }
 
--- an edge with what it carries, without that
+-- an edge with its value, without that
 abbrev edge_alone : {C : Type 0} → Carried C → CountedEdge
 edge_alone x = x.edge
 
--- what edges carry has the counts of a shape that each step passes once
+-- the values of edges have the counts of a shape that each step passes once
 abbrev pub PassesOnce : {C : Type 0} → (C → Counts) → ShapeType → StepCounts C → Type 0
 PassesOnce counts t pass = (s : Step) → counts (count_of_step pass s)
     ≡ boolean_counts (cond (is_forward s) (count_for t (pos 1)) (count_for t (negsuc 0)))
 
--- so it is of counts alone
+-- this holds of counts alone
 pub counts_pass_once : (t : ShapeType) (pass : StepCounts ShapeCountBoolean) → pass ≡ passing t →
     PassesOnce boolean_counts t pass
 counts_pass_once t pass is s = ap (λ p. boolean_counts (count_of_step p s)) is
 
--- and of counts without data
+-- this holds of counts without data
 pub dataless_pass_once : (t : ShapeType) (pass : StepCounts (CountWithData (Unit {0}))) →
     pass ≡ passing_without_data t →
     PassesOnce (λ k. boolean_counts k.count) t pass
@@ -63,7 +63,7 @@ dataless_pass_once t pass is s = ap (λ (p : StepCounts (CountWithData (Unit {0}
 module _ (keep : Bool) (t : ShapeType) {C : Type 0} (counts : C → Counts) (kind : PathKind) (pass : StepCounts C)
     (kind_is : kind ≡ contour_kind keep)
     (once : PassesOnce counts t pass) where
-  -- the edges of its steps, without what they carry
+  -- the edges of its steps, without their values
   edges_alone : (λ (s : Step). (passed_edge counts pass s).edge) ≡ edge_for t
   edges_alone = λ i s. edge_with (edge_of s).a (edge_of s).b (once s i)
 

@@ -1,4 +1,4 @@
--- Contours keep the counts of what a builder holds balanced, however many of them are added.
+-- The counts of a builder's edges stay balanced, however many contours are added.
 use Rattle.std.proofs.Common.{◌≡◌, ◌⊎◌, inl, inr, Bool, true, false, cond, ℤ, pos, negsuc, List, [], ◌∷◌, ◌++◌, length}
 use Rattle.std.proofs.Common.{map, refl, sym, ap, ap₂, subst}
 use Rattle.std.specs.List.{All}
@@ -24,7 +24,7 @@ use Rattle.overlay_builder.specs.GivenPaths.{GivenPath, added_path, added_paths}
 
 -- ---- one contour
 
--- what two functions that agree make of a list
+-- two functions that agree map a list equally
 pub same_edges : (f h : Step → CountedEdge) → ((s : Step) → f s ≡ h s) → (ss : List Step) → map f ss ≡ map h ss
 same_edges f h same [] = refl
 same_edges f h same (s ∷ ss) = ap₂ (λ e es. e ∷ es) (same s) (same_edges f h same ss)
@@ -40,7 +40,7 @@ as_subject s =
     Same z k = edge_with (edge_of s).a (edge_of s).b (record { subj = z; clip = pos 0; along = false; against = false })
         ≡ edge_with (edge_of s).a (edge_of s).b (boolean_counts k)
 
--- and of a clip's
+-- the counted edge of a clip's step
 as_clip : (s : Step) → clip_edge s ≡ edge_for Clip s
 as_clip s =
     elim (is_forward s) as (λ t. Same (cond t (pos 1) (negsuc 0))
@@ -60,7 +60,7 @@ contour_is_balanced Clip ps =
     subst HasBalancedCounts (same_edges clip_edge (edge_for Clip) as_clip (steps_of ps))
     (added_contours_are_balanced.clip ps)
 
--- so a content with them added has balanced counts
+-- a content with them added has balanced counts
 pub contour_keeps_balance : (keep : Bool) (t : ShapeType) (ps : List Point) (old new : List CountedEdge)
     → AddsPath (contour_kind keep) (edge_for t) ps old new → HasBalancedCounts old → HasBalancedCounts new
 contour_keeps_balance true t ps old new h before =
@@ -74,14 +74,14 @@ contour_keeps_balance false t ps old new h before =
 pub record KeepsBalance (p : AddedPath CountedEdge) : Type 0 where
   pub keeps : (old new : List CountedEdge) → AddsOne p old new → HasBalancedCounts old → HasBalancedCounts new
 
--- so do contours
+-- contours keep balance
 contours_keep : (keep : Bool) (given : List GivenPath) → All KeepsBalance (added_paths keep given)
 contours_keep keep [] = All-nil KeepsBalance
 contours_keep keep (p ∷ ps) =
     All-cons KeepsBalance (added_path keep p) (added_paths keep ps)
     (record { keeps = contour_keeps_balance keep p.shape_type p.points }) (contours_keep keep ps)
 
--- and several paths that do, one after another
+-- several paths that keep balance do so one after another
 paths_keep : (all : List (AddedPath CountedEdge)) (from to : List CountedEdge) → All KeepsBalance all →
     AddsPaths all from to
     → HasBalancedCounts from → HasBalancedCounts to
@@ -90,7 +90,7 @@ paths_keep all from to keep (path_and_others {p} {ps} {mid} first h) before =
     paths_keep ps mid to (All-tail KeepsBalance p ps keep) h
     ((All-head KeepsBalance p ps keep).keeps from mid first before)
 
--- so what contours add to nothing has balanced counts
+-- the edges of contours alone have balanced counts
 pub held_paths_are_balanced : (keep : Bool) (given : List GivenPath) (es : List CountedEdge) →
     AddsPaths (added_paths keep given) [] es → HasBalancedCounts es
 held_paths_are_balanced keep given es added =
@@ -117,7 +117,7 @@ adding_balanced_paths {V = V} ps keep old new (Err e) h before = by h.err
         (subst (All KeepsBalance) stops.added.parts keep))
         stops.added.added before
 
--- so does one that adds contours
+-- a call that adds contours keeps balance
 pub adding_keeps_balance : {V : Type 0} (keep : Bool) (given : List GivenPath) (old new : Held CountedEdge)
     (r : Result V OverlayError)
     → AddsAsAsked weight (added_paths keep given) old new r → HasBalancedCounts old.edges → HasBalancedCounts new.edges

@@ -27,7 +27,7 @@ refusal_of_path weigh path old new NotSettled h = absurd (h.no_query refl)
 refusal_of_path weigh path old new TooManyEdges h = inr (h.too_many refl)
 refusal_of_path weigh path old new Failed h = inl refl
 
--- ---- edges with what they carry, seen as edges alone, by a call that answers something else
+-- ---- edges with their values, seen as edges alone, by a call that answers something else
 
 module _ {E F V W : Type 0} (see : E → F) (weigh : List F → ℕ) (Adds : List E → List E → Type 0)
     (AddsSeen : List F → List F → Type 0) (WeighsTooMuch : List E → Type 0) (SeenWeighsTooMuch : List F → Type 0)
@@ -64,7 +64,7 @@ module _ {E F V W : Type 0} (see : E → F) (weigh : List F → ℕ) (Adds : Lis
     no_query = λ same. h.no_query (ap Err (ap error_of same));
   }
 
--- ---- what an iterator gives
+-- ---- the items of an iterator
 
 module _ {X S E V : Type 0} (weigh : List E → ℕ) (steps : S → Option X → S → Type 0) (iter : S)
     (Adds : List X → List E → List E → Type 0) (WeighsTooMuch : List X → List E → Type 0) (old new : Held E) where

@@ -8,7 +8,7 @@ use Rattle.overlay_geom.specs.Plane.{Point}
 use Rattle.overlay_geom.specs.Thinned.{IsThinned, IsStraightAt}
 use Rattle.overlay_geom.specs.Thinned.IsThinned.{thin, drop_one}
 
--- a thinned list is the one given, or a shorter one
+-- a thinned list is the given list, or a shorter one
 thinned_is_shorter : (ps qs : List Point) → IsThinned ps qs → (qs ≡ ps) ⊎ (length qs < length ps)
 thinned_is_shorter ps _ (thin none) = inl refl
 thinned_is_shorter ps qs (drop_one k within straight rest) = inr (shorter (thinned_is_shorter _ qs rest))
@@ -33,7 +33,7 @@ none_is_straight ps qs (drop_one k within straight rest) same = absurd
     too_short (inl is) = omega (arith, ap length same, ap length is, one_less)
     too_short (inr less) = omega (arith, less, ap length same, one_less)
 
--- and then it is thinned to nothing else
+-- such a list has no other thinned list
 thinned_to_itself : (ps qs : List Point) → ((k : ℕ) → k < length ps → ¬ (IsStraightAt ps k)) → IsThinned ps qs → qs ≡ ps
 thinned_to_itself ps _ none (thin h) = refl
 thinned_to_itself ps qs none (drop_one k within straight rest) = absurd (none k within straight)
@@ -50,7 +50,7 @@ none_left_out ps qs thinned as_many = by (thinned_is_shorter ps qs thinned)
     by (inl same) = subst (IsThinned ps) same thinned
     by (inr less) = absurd (omega (arith, less, as_many))
 
--- and where it may, thinning leaves no fewer
+-- a list that is its own thinned list loses no point by thinning
 pub as_many_left : (ps qs : List Point) → IsThinned ps qs → IsThinned ps ps → length ps ≤ length qs
 as_many_left ps qs thinned itself = omega
     (arith, ap length (thinned_whole ps qs thinned itself))

@@ -1,4 +1,4 @@
--- Edges with what they carry, added by a path, seen as edges alone.
+-- Edges with their values, added by a path, seen as edges alone.
 use Rattle.std.proofs.Common.{◌≡◌, ◌⊎◌, inl, inr, ℕ, List, [], ◌∷◌, ◌++◌, map, refl, ap, ◌∙◌}
 use Rattle.std.proofs.lemmas.List.{map-append}
 use Rattle.std.proofs.lemmas.Result.{IfErr-weaker, on_ok_weaker}
@@ -18,7 +18,7 @@ module _ {E F : Type 0} (f : E → F) where
   abbrev pub seen : AddedPath E → AddedPath F
   seen p = record { kind = p.kind; edge_for = λ s. f (p.edge_for s); points = p.points }
 
-  -- what a path adds
+  -- the edges that a path adds
   pub one_seen : (kind : PathKind) (edge_for : Step → E) (ps : List Point) (old new : List E) →
       AddsPath kind edge_for ps old new
       → AddsPath kind (λ s. f (edge_for s)) ps (map f old) (map f new)
@@ -33,7 +33,7 @@ module _ {E F : Type 0} (f : E → F) where
       map_twice [] = refl
       map_twice (s ∷ ss) = ap (λ l. f (edge_for s) ∷ l) (map_twice ss)
 
-  -- what several add
+  -- the edges that several paths add
   pub all_seen : (all : List (AddedPath E)) (from to : List E) → AddsPaths all from to →
       AddsPaths (map seen all) (map f from) (map f to)
   all_seen all from to no_path = no_path
@@ -72,7 +72,7 @@ module _ {E F : Type 0} (f : E → F) where
       refused = refusal_seen h.path new e h.refused;
     }
 
-    -- the same builder, its edges seen so
+    -- the builder with its edges mapped
     abbrev pub held_seen : Held E → Held F
     held_seen h = record { edges = map f h.edges; failed = h.failed }
 

@@ -17,7 +17,7 @@ pub record MayBeAdded {C : Type 0} (limit : ℕ) (counts : C → Counts) (x : Ca
   pub light : weight_of_counts (counts x.carries) < 2 ^ 31
 
 module _ {C : Type 0} (limit : ℕ) (counts : C → Counts) (passing : StepCounts C) where
-  -- the edge of a step from p to q, the first of which is the smaller, or is not
+  -- the edge of a step from p to q, where p is the smaller, or is not
   abbrev passed_by : Bool → Point → Point → Carried C
   passed_by t p q = record {
     edge = edge_with (cond {A = Edge} t (record { a = p; b = q }) (record { a = q; b = p })).a

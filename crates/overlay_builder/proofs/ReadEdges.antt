@@ -16,7 +16,7 @@ some_read carried (x ∷ read) es are some = λ none. false≢true (ap is_none (
     is_none [] = false
     is_none (e ∷ es) = true
 
--- and none where none was
+-- no edge is read if there was none
 pub none_read : {X C : Type 0} (carried : X → Carried C) (read : List X) (es : List (Carried C)) → map carried read ≡ es
     → (length read == 0) ≡ true → edges_in es ≡ []
 none_read carried [] es are none = sym (ap edges_in are)

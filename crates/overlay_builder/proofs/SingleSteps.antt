@@ -29,11 +29,11 @@ module _ {C : Type 0} (counts : C → Counts) (reverses : C → C → Type 0) (g
   runs_along : point_lt p q ≡ true
   runs_along = sym (point_cmp-is_less p q) ∙ ap is_lt less
 
-  -- the edge between p and q, from the one or from the other
+  -- the edge between p and q, from either end
   abbrev edge_from : Edge → Carried C
   edge_from e = record { edge = edge_with e.a e.b (counts given); carries = given }
 
-  -- an edge carries what is given, or the reversed of that
+  -- an edge carries the given value, or its reverse
   abbrev Carries : Step → Type 0
   Carries s = MatchBool (is_forward s) (given ≡ given) (IsReversedBy counts reverses given given)
 
@@ -55,6 +55,6 @@ module _ {S : Type 0} (writes : S → S → Type 0) (p q : Point) (o : Ordering)
   pub stays : is_le o ≡ true → LeavesStore writes p q s s
   stays up = subst (λ t. MatchBool t (s ≡ s) (writes s s)) (sym (ap is_le is ∙ up)) refl
 
-  -- and one call writes into it where it is
+  -- a call writes into the store if the step runs back
   pub is_written : is_le o ≡ false → (t : S) → writes s t → LeavesStore writes p q s t
   is_written down t step = subst (λ b. MatchBool b (t ≡ s) (writes s t)) (sym (ap is_le is ∙ down)) step

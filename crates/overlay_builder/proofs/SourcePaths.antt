@@ -18,7 +18,7 @@ use Rattle.overlay_builder.proofs.BuilderCalls.{error_of, refusal_of_path}
 use Rattle.overlay_builder.proofs.PathLists.{adds_last}
 
 module _ {E : Type 0} (weigh : List E → ℕ) (kind : PathKind) (edge_for : Step → E) (paths : List (List Point)) where
-  -- to a builder that has not failed so many of the paths are added
+  -- the first paths are added to a builder that has not failed
   pub record HasAddedFirst (count : ℕ) (old new : Held E) : Type 0 where
     pub ready : old.failed ≡ false
     pub added : AddsPaths (paths_as kind edge_for (take count paths)) old.edges new.edges

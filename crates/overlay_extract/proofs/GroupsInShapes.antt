@@ -73,7 +73,7 @@ groups_in_shapes gs = record {
 
 -- ---- one more
 
--- what a walk of a group is, behind these
+-- the role of a walk of a group, behind these
 abbrev pub role_next : ℕ → List (List Step) → Role
 role_next n [] = outline n
 role_next n (o ∷ hs) = own_hole n
@@ -115,7 +115,7 @@ groups_longer n ((o ∷ hs) ∷ gs) ws all has =
 
 -- ---- the walks
 
--- what a test keeps that all pass
+-- a test that all pass keeps all
 all_kept : (gs : List (List (List Step))) → All HasWalks gs → flat_map (kept_group (λ w. true)) gs ≡ gs
 all_kept [] all = refl
 all_kept ([] ∷ gs) all = absurd (elim (all 0 [] (omega arith)) [ ])
@@ -158,7 +158,7 @@ shapes_placed contours places begun = All-map HasWalks (map (walk_at contours)) 
     let long = length-map (get_or places k d) (walk_at contours) in
     let here = begun k d inside in omega (arith, long, here))
 
--- and back
+-- each list of places has a place if its shape has walks
 pub places_begin : (contours : List Contour) (places : List (List ℕ)) → All HasWalks (walks_at contours places) →
     AreBegun places
 places_begin contours places all k d inside =

@@ -52,7 +52,7 @@ module _ (q : Asked) (es : List CountedEdge) (contours : List Contour) (places :
   ordered_bindable = subst (CanBeBound (filled_asked q)) (sym (walks_ordered ∙ ap walks_of p.placed.are))
       (p.kept.bindable_again p.shapes p.found)
 
-  -- what shows the shapes, with the links, is the hierarchy
+  -- the shapes shown, with the links, are the hierarchy
   pub hierarchy_shown : (result : List (List (List Point))) →
       AreKeptOrThinned q.preserve_output_collinear (points_of_shapes (walks_at contours places)) result →
       (links : List ChildLink) → AreLinks (filled_asked q) ordered links → HaveOtherChildren links →

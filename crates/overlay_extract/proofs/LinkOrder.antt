@@ -28,7 +28,7 @@ pub link_order-total : IsTotalOrder link_order
 link_order-total = then_total (on_total (λ k. k.parent_shape) nat_cmp_total)
     (then_total (on_total (λ k. k.parent_contour) nat_cmp_total) (on_total (λ k. k.child_shape) nat_cmp_total))
 
--- the links' test is what their comparison answers
+-- the test of two links is the answer of their comparison
 pub link_lt-is_less : (k l : ChildLink) → link_lt k l ≡ is_lt (link_order k l)
 link_lt-is_less k l =
     less_in_turn (nat_cmp k.parent_shape l.parent_shape) (inner_order k l) (nat_lt k.parent_shape l.parent_shape)
@@ -56,7 +56,7 @@ link_tie k l =
     (k.parent_contour == l.parent_contour) (k.child_shape == l.child_shape)
     (tie_of_numbers k.parent_contour l.parent_contour) (tie_of_numbers k.child_shape l.child_shape))
 
--- and then they are equal
+-- links with equal fields are equal
 pub fields_tell : (k l : ChildLink) → has_same_fields k l ≡ true → k ≡ l
 fields_tell k l same =
     let outer = and_parts (k.parent_shape == l.parent_shape)
@@ -94,14 +94,14 @@ link_lt-back k l apart back =
     by_cases Equal r h e f = cc
     by_cases Greater r h e f = ap is_lt h
 
--- so is that of the program's links
+-- the test of the program's links is an order
 pub is_link_before-order : IsStrictWeakOrder is_link_before
 is_link_before-order = record {
   one_way = λ k l. link_lt-order.one_way (plain_link k) (plain_link l);
   chain = λ k l m. link_lt-order.chain (plain_link k) (plain_link l) (plain_link m);
 }
 
--- and these tie where they are equal
+-- these tie exactly where they are equal
 pub tie_is_same : (k l : LinkTaken) (o : Ordering) → o ≡ link_order (plain_link k) (plain_link l) →
     (is_eq o ≡ true) ↔ (k ≡ l)
 tie_is_same k l o is = (

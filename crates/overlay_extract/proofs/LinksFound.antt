@@ -31,7 +31,7 @@ use Rattle.overlay_extract.proofs.LinkOrder.{link_lt-back}
 -- ---- two lists place by place
 
 module _ {A B : Type 0} (R : A → B → Type 0) where
-  -- what stands in the second at a place of the first
+  -- the entry of the second list at a place of the first
   pub second_at : (xs : List A) (ys : List B) → AllZip R xs ys → (j : ℕ) (x : A) → slice_get xs j ≡ Some x →
       (y : B) × (slice_get ys j ≡ Some y) × R x y
   second_at [] ys each j x at = absurd (none-some x at)
@@ -39,7 +39,7 @@ module _ {A B : Type 0} (R : A → B → Type 0) where
   second_at (w ∷ ws) (z ∷ zs) each zero x at = (z, refl, subst (λ v. R v z) (same_Some w x at) each.0)
   second_at (w ∷ ws) (z ∷ zs) each (suc j) x at = second_at ws zs each.1 j x at
 
-  -- and in the first at a place of the second
+  -- the entry of the first list at a place of the second
   pub first_at : (xs : List A) (ys : List B) → AllZip R xs ys → (j : ℕ) (y : B) → slice_get ys j ≡ Some y →
       (x : A) × (slice_get xs j ≡ Some x) × R x y
   first_at [] [] each j y at = absurd (none-some y at)
@@ -48,7 +48,7 @@ module _ {A B : Type 0} (R : A → B → Type 0) where
   first_at (w ∷ ws) (z ∷ zs) each zero y at = (w, refl, subst (R w) (same_Some z y at) each.0)
   first_at (w ∷ ws) (z ∷ zs) each (suc j) y at = first_at ws zs each.1 j y at
 
--- ---- links and the holes of which they are read
+-- ---- links and the holes from which they follow
 
 -- the link of a shape to a contour, by the shape in which that one stands
 pub link_there : (cs : List Contour) (child place : ℕ) (c : Contour) → slice_get cs place ≡ Some c →
@@ -96,7 +96,7 @@ module _ (cs : List Contour) where
       })
       (Contains-append_cases (one_or_none (link_at cs n hole)) (links_from cs (suc n) holes) l c)
 
-  -- and what is read of a hole is a link
+  -- the entry read for a hole is a link
   pub link_read : (n : ℕ) (holes : List (Option ℕ)) (l : ChildLink) → IsReadAt cs n holes l →
       Contains (links_from cs n holes) l
   link_read n [] l read = absurd (none-some (Some l.parent_contour) read.hole)
@@ -184,7 +184,7 @@ hole_of_shape free_hole m is stands = absurd (none-some m stands)
 
 module _ (filled : Hand) (cs : List Contour) (can : CanBeBound filled (walks_in cs)) (stand : AreInShapes cs)
     (holes : List (Option ℕ)) (round : AreHolesRound filled cs holes) where
-  -- what is read is a link
+  -- each entry read is a link
   pub links_are : (l : ChildLink) → Contains (links_from cs 0 holes) l → IsLink filled cs l
   links_are l c =
       let read = read_of cs 0 holes l c in
@@ -211,7 +211,7 @@ module _ (filled : Hand) (cs : List Contour) (can : CanBeBound filled (walks_in 
         round = round_it;
       }
 
-  -- and each link is read
+  -- each link is read
   pub links_read : (l : ChildLink) → IsLink filled cs l → Contains (links_from cs 0 holes) l
   links_read l link =
       let found = second_at (IsHoleRound filled cs) (outlines_from 0 cs) holes round l.child_shape link.place

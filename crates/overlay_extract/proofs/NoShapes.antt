@@ -17,7 +17,7 @@ no_walks : (hand_of : Step → Hand) (walks : List (List Step)) → IsCutInto ha
 no_walks hand_of walks done = refl
 no_walks hand_of walks (next start orbit others) = let inside = start.among.1 in absurd (omega arith)
 
--- and what is mapped to none is none
+-- only an empty list is mapped to an empty list
 none_of_none : {X Y : Type 0} (f : X → Y) (xs : List X) → map f xs ≡ [] → xs ≡ []
 none_of_none f [] same = refl
 none_of_none f (x ∷ xs) same = let long = ap length same in absurd (omega arith)
@@ -49,7 +49,7 @@ no_contours true filled keeps contours is = is.are
     none_zipped R [] (y ∷ ys) same each = absurd each
     none_zipped R (x ∷ xs) (y ∷ ys) same each = let long = ap length same in absurd (omega arith)
 
--- so the result over no edges has no shape
+-- the result over no edges has no shape
 pub no_shapes : (q : Asked) (result : List (List (List Point))) → IsResult q [] result → result ≡ []
 no_shapes q result is =
     let none = no_contours q.ogc (filled_asked q) (is_kept q) is.contours is.cut in

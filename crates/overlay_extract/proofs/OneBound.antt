@@ -76,7 +76,7 @@ found_alike n (c ∷ cs) (s ∷ ss) (t ∷ ts) l m agree =
 
 module _ (bound others : List BoundContour) (own : (n : ℕ) → own_holes bound n ≡ own_holes others n)
     (found : (n : ℕ) → found_holes bound n ≡ found_holes others n) where
-  -- so the shape that an outline begins is one
+  -- the shape that an outline begins is unique
   one_begun : (r : Role) (steps : List Step) → shape_begun_by bound r steps ≡ shape_begun_by others r steps
   one_begun (outline n) steps = ap₂ (λ os fs. (steps ∷ os ++ fs) ∷ []) (own n) (found n)
   one_begun (own_hole n) steps = refl
@@ -112,6 +112,6 @@ module _ (filled : Hand) (contours : List Contour) (can : CanBeBound filled (wal
       by false s t first second = one_found filled (walks_in contours) can.contours can.single can.distinct_above
           can.settled (known_in contours) i s t first second
 
-  -- so the contours are bound to the same shapes
+  -- the contours are bound to the same shapes
   pub one_bound : shapes_bound (contours_bound contours shapes) ≡ shapes_bound (contours_bound contours others)
   one_bound = shapes_alike contours shapes others found.counted found'.counted agree_at_holes

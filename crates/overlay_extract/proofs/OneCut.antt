@@ -36,7 +36,7 @@ one_first hand_of steps alternates s t ss ts start other orbit orbit' =
     same : s ≡ t
     same = one_start steps alternates s t start other
 
--- so two cuts are
+-- two cuts are equal
 pub one_cut : (hand_of : Step → Hand) (steps : List Step) → Alternates steps → (walks others : List (List Step)) →
     IsCutInto hand_of steps walks → IsCutInto hand_of steps others → walks ≡ others
 one_cut hand_of steps alternates walks others done done = refl
@@ -51,7 +51,7 @@ one_cut hand_of steps alternates walks others (next {s = s} {ss = ss} {rest = re
     same : s ∷ ss ≡ t ∷ ts
     same = one_first hand_of steps alternates s t ss ts start start' orbit orbit'
 
--- what groups are cut into is one
+-- the cuts of groups are equal
 groups_once : (hand : Hand) (groups : List (List Step)) → ((g : List Step) → Contains groups g → Alternates g) →
     (inside others : List (List (List Step))) →
     AllZip (λ group walks. IsCutInto (λ s. hand) group walks) groups inside →

@@ -40,7 +40,7 @@ module _ (q : Asked) (es : List CountedEdge) (are : AreArrangedWithBalance es) w
   alternate : Alternates (selected_of q es)
   alternate = selected_alternate (region_asked q) subj_of clip_of es (ruled_of q es are) (filled_asked q)
 
-  -- so the contours that they are cut into are one list, and so are the shapes to which these are bound
+  -- the contours that they are cut into are one list, and so are the shapes to which these are bound
   pub cut_alike : (grouped : Bool) (contours others : List Contour) →
       IsCutBy grouped (filled_asked q) (is_kept q) (selected_of q es) contours →
       IsCutBy grouped (filled_asked q) (is_kept q) (selected_of q es) others → contours ≡ others
@@ -92,7 +92,7 @@ module _ (q : Asked) (es : List CountedEdge) (are : AreArrangedWithBalance es) w
 pub results_show_one_list : ResultsShowOneList
 results_show_one_list = show_one
 
--- with all points both are what they show
+-- with all points kept, both results are the shapes that they show
 pub one_result : OneResult
 one_result q es are first second keep a b =
     let show = show_one q es are first second a b in
@@ -111,7 +111,7 @@ one_list_of_contours q es are first second keep a b =
 
 -- ---- links
 
--- what comes before one that comes before another comes before that one
+-- the order of links is transitive
 before_on : (k l m : ChildLink) → link_lt k l ≡ true → link_lt l m ≡ true → link_lt k m ≡ true
 before_on k l m kl lm = by (link_lt k m) refl
   where

@@ -1,4 +1,4 @@
--- Alternating steps have one start: two edges that start in one point without a turn between them lead one way, and no
+-- Alternating steps have one start. Two edges that start in one point without a turn between them lead one way, and no
 -- two of the steps there run along one ray.
 use Rattle.std.proofs.Common.{◌≡◌, Bool, true, false, pos, ◌-ℤ◌, ◌*ℤ◌, ◌+ℤ◌, ◌<ℤ◌, List, Contains}
 use Rattle.std.proofs.Common.{sym, subst}
@@ -43,7 +43,7 @@ module _ (steps : List Step) (alternates : Alternates steps) where
       by false true same way back = absurd (alternates.none_both s t c d same way)
       by false false same way back = alternates.one_arrives s t c d same way
 
-  -- so there is one start
+  -- the start is unique
   pub one_start : (s t : Step) → IsStart steps s → IsStart steps t → s ≡ t
   one_start s t first second = one_along s t first.among second.among same
       (ways_alike (edge_of s) (edge_of t) (forward s first.among) (forward t second.among) same level)

@@ -19,7 +19,7 @@ taken_once : (keep : Bool) (ps qs : List Point) → IsKeptOrThinned keep ps qs �
 taken_once true ps qs same once = subst HasEachPointOnce (sym same) once
 taken_once false ps qs thinned once = thinned_once ps qs thinned once
 
--- a fact of each item of one list holds of those of the other, where each relates to the one at its place
+-- a fact of each item of one list holds of the items of the other, if items at equal places are related
 each_taken : {X Y : Type 0} (R : X → Y → Type 0) (P : X → Type 0) (Q : Y → Type 0) →
     ((x : X) (y : Y) → R x y → P x → Q y) → (xs : List X) (ys : List Y) → AllZip R xs ys → All P xs → All Q ys
 each_taken R P Q h [] [] each all = All-nil Q
@@ -28,7 +28,7 @@ each_taken R P Q h (x ∷ xs) [] each all = absurd each
 each_taken R P Q h (x ∷ xs) (y ∷ ys) each all = All-cons Q y ys (h x y each.0 (All-head P x xs all))
     (each_taken R P Q h xs ys each.1 (All-tail P x xs all))
 
--- so it is of all contours of shapes
+-- this holds of all contours of shapes
 pub shown_once : (keep : Bool) (given taken : List (List (List Point))) → AreKeptOrThinned keep given taken →
     All (All HasEachPointOnce) given → All (All HasEachPointOnce) taken
 shown_once keep given taken = each_taken (AllZip (IsKeptOrThinned keep)) (All HasEachPointOnce) (All HasEachPointOnce)

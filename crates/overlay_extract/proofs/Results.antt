@@ -24,7 +24,7 @@ use Rattle.overlay_extract.specs.Results.{AreKeptWalks, IsResult, IsContoursResu
 use Rattle.overlay_bind.proofs.PlacedShapes.{placed_have}
 use Rattle.overlay_extract.proofs.PointsOnce.{shown_once}
 
--- what is taken as it is given is the same
+-- contours taken as they are given are equal to these
 pub same_contours : (given taken : List (List Point)) → AllZip (λ g t. t ≡ g) given taken → taken ≡ given
 same_contours given taken each = each_same given taken each
 
@@ -39,7 +39,7 @@ same_shapes (g ∷ gs) (t ∷ ts) each = ap₂ (λ s ss. s ∷ ss) (same_contour
 module _ (q : Asked) (es : List CountedEdge) (contours : List Contour) (kept : AreKeptResults q es contours)
     (shapes : List (Option ℕ)) (found : AreShapesFound (filled_asked q) contours shapes)
     (places : List (List ℕ)) (placed : ArePlaced contours shapes places) where
-  -- what is at the places are the shapes found
+  -- the contours at the places are those of the shapes found
   pub same_found : points_of_shapes (walks_at contours places) ≡ shapes_found contours shapes
   same_found = ap points_of_shapes placed.are
 
@@ -51,7 +51,7 @@ module _ (q : Asked) (es : List CountedEdge) (contours : List Contour) (kept : A
       (placed_have (λ w. HasEachPointOnce (points_of w)) contours places
       (λ i e less. (kept.simple grouped i e less).points_once) placed.inside k d lt)))
 
-  -- what shows the shapes is the result
+  -- the contours that show the shapes are the result
   unfoldable pub result_shown : (result : List (List (List Point))) →
       AreKeptOrThinned q.preserve_output_collinear (points_of_shapes (walks_at contours places)) result →
       IsResult q es result
@@ -86,7 +86,7 @@ module _ (q : Asked) (es : List CountedEdge) (kept : List (List Step)) (are : Ar
       (all_kept q.area_width are.walks
       (walks_are_contours (region_asked q) subj_of clip_of es (filled_asked q) are.walks are.cut))
 
-  -- so the selected steps are cut into the walks that are kept
+  -- the selected steps are cut into the walks that are kept
   cut_all : q.min_output_area ≡ 0 → AreCutFrom (region_asked q) subj_of clip_of es (filled_asked q) kept
   cut_all all = subst (AreCutFrom (region_asked q) subj_of clip_of es (filled_asked q)) (sym (all_walks all)) are.cut
 
@@ -110,7 +110,7 @@ module _ (q : Asked) (es : List CountedEdge) (kept : List (List Step)) (are : Ar
       (filled_asked q) kept cut)))
       (walks_have_each_step (region_asked q) subj_of clip_of es (filled_asked q) kept cut)
 
-  -- what shows them is the result
+  -- the contours that show them are the result
   pub contours_shown : (result : List (List Point)) → AllZip (IsKeptOrThinned q.preserve_output_collinear)
       (map points_of kept) result →
       IsContoursResult q es result

@@ -7,7 +7,7 @@ use Rattle.overlay_geom.proofs.Merging.{AllPairs-head, AllPairs-tail}
 
 module _ {X : Type 0} (R : X → X → Type 0) (apart : (x : X) → ¬ (R x x))
     (on : (x y z : X) → R x y → R y z → R x z) where
-  -- what comes first in both is the same
+  -- the first entries of both are equal
   same_first : (x : X) (xs : List X) (y : X) (ys : List X) → All (R x) xs → All (R y) ys → Contains (y ∷ ys) x →
       Contains (x ∷ xs) y → x ≡ y
   same_first x xs y ys x_first y_first has_x has_y =
@@ -20,7 +20,7 @@ module _ {X : Type 0} (R : X → X → Type 0) (apart : (x : X) → ¬ (R x x))
         ]
       ]
 
-  -- and the rest has the same entries
+  -- the rest has the same entries
   same_rest : (x : X) (xs ys : List X) → All (R x) xs → All (Contains (x ∷ ys)) xs → All (Contains ys) xs
   same_rest x xs ys first has = λ k d l.
       elim (Contains-cases x ys (get_or xs k d) (has k d l)) [
@@ -28,7 +28,7 @@ module _ {X : Type 0} (R : X → X → Type 0) (apart : (x : X) → ¬ (R x x))
         | inr later ↦ later
       ]
 
-  -- so they are equal
+  -- the two lists are equal
   pub same_ascending : (xs ys : List X) → AllPairs R xs → AllPairs R ys → All (Contains ys) xs →
       All (Contains xs) ys → xs ≡ ys
   same_ascending [] [] up_x up_y in_y in_x = refl

@@ -72,7 +72,7 @@ over_lt u v d positive h =
     let right = *ℤ_comm v d in
     omega linear
 
--- and the order of points
+-- the order of points over a denominator
 pub over_up_to : (u v : Point) (d : ℤ) → pos 0 <ℤ d → IsUpTo u v → IsUpTo (over u d) (over v d)
 over_up_to u v d positive h = record {
   x = over_le u.x v.x d positive h.x;
@@ -99,7 +99,7 @@ pub in_order_between : (z u v : ℤ) → u ≤ℤ v → IsBetween z u v → (u �
 in_order_between z u v h (inl between) = between
 in_order_between z u v h (inr (low, high)) = (omega linear, omega linear)
 
--- what is between two numbers is between them in either order
+-- a number between two numbers is between them in either order
 pub between_turned : (z u v : ℤ) → IsBetween z u v → IsBetween z v u
 between_turned z u v (inl between) = inr between
 between_turned z u v (inr between) = inl between

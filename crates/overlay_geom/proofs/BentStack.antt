@@ -19,7 +19,7 @@ row_at_top ps w rest k n =
     cross_along (get_or_append_left ps (w ∷ rest) _ k (omega arith))
     (get_or_append_left ps (w ∷ rest) _ (k + 1) (omega arith)) (get_or_at ps w rest _ (k + 2) n)
 
--- the last point of a stack may be dropped where it is collinear with the one before it and the next
+-- the last point of a stack may be dropped if it is collinear with the point before it and the next
 pub IsNarrowed-pop : (ps : List Point) (w : Point) (rest : List Point) (k : ℕ) → length ps ≡ k + 2 →
     IsOnOneLine (point_at ps k) (point_at ps (k + 1)) w → IsNarrowed (ps ++ w ∷ rest) (take (k + 1) ps ++ w ∷ rest)
 IsNarrowed-pop ps w rest k n straight =

@@ -22,7 +22,7 @@ weighted_sum k m s t k_nonneg m_nonneg some s_pos t_pos =
     (λ none. let first = mul-nonneg k s k_nonneg (omega linear) in let second = mul-pos m t (omega linear) t_pos in
     omega linear)
 
--- an edge strictly on one side of another one does not meet it
+-- an edge strictly on one side of another edge does not meet it
 pub beside_meet_in_ends : (e f : Edge) → IsBefore f.a f.b → IsBeside e f → MeetInEnds e f
 beside_meet_in_ends e f forward beside p (on_e, on_f) = absurd (against beside)
   where

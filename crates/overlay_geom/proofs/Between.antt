@@ -64,7 +64,7 @@ between_without_itself es e =
     edges_between-none (without es e) e (All-weaker (λ f. passes f ≡ true) (λ f. edge_eq (ends_of f) e ≡ false)
     (λ f h. not-true _ h) (without es e) (filter_passes passes es))
 
--- and those between other ends stay
+-- edges between other ends stay
 pub between_without : (es : List CountedEdge) (e f : Edge) → edge_eq e f ≡ false →
     edges_between (without es e) f ≡ edges_between es f
 between_without [] e f ne = refl

@@ -20,7 +20,7 @@ is_lt-int_cmp x y = by_cases (int_lt x y) (int_lt y x)
 pub is_gt-int_cmp : (x y : ℤ) → is_gt (int_cmp x y) ≡ int_lt y x
 is_gt-int_cmp x y = grind (arith, ints)
 
--- and one of the other two where the first is at most the second
+-- the comparison is not Greater exactly where the first is at most the second
 pub is_le-int_cmp : (x y : ℤ) → is_le (int_cmp x y) ≡ int_le x y
 is_le-int_cmp x y = grind (arith, ints)
 

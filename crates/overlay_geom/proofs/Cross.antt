@@ -17,7 +17,7 @@ cross_at_exchanged v p q = solve 6 (λ vx vy px py qx qy. crossE vx vy px py qx 
 pub cross_at_same : (v p : Point) → cross_at v p p ≡ pos 0
 cross_at_same v p = solve 4 (λ vx vy px py. crossE vx vy px py px py ≗ number (pos 0)) tt v.x v.y p.x p.y
 
--- and where the second is
+-- the cross product is 0 if the second point is the point itself
 pub cross_at_first : (v p : Point) → cross_at v p v ≡ pos 0
 cross_at_first v p = solve 4 (λ vx vy px py. crossE vx vy px py vx vy ≗ number (pos 0)) tt v.x v.y p.x p.y
 

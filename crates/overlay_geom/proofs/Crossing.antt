@@ -14,7 +14,7 @@ use Rattle.overlay_geom.proofs.Orders.{same_point}
 use Rattle.overlay_geom.proofs.AlongEdge.{sideE}
 use Rattle.overlay_geom.proofs.OneLine.{meet_in_ends_exchanged}
 
--- what times a number other than 0 is 0, is 0
+-- a number is 0 if its product with a number other than 0 is
 zero_of_product : (k z : ℤ) → (pos 0 <ℤ k) ⊎ (k <ℤ pos 0) → k *ℤ z ≡ pos 0 → z ≡ pos 0
 zero_of_product k z (inl positive) none = zero_of_mul-zero k z positive none
 zero_of_product k z (inr negative) none = let turned = neg_ℤ-mul k z in
@@ -22,7 +22,7 @@ zero_of_product k z (inr negative) none = let turned = neg_ℤ-mul k z in
 
 -- ---- edges that share an end
 
--- what f goes across: the difference of its ends' sides
+-- the distance that f goes across: the difference of its ends' sides
 abbrev crossed : Edge → Edge → ℤ
 crossed e f = cross_at e.a e.b f.b -ℤ cross_at e.a e.b f.a
 
@@ -121,7 +121,7 @@ weighed_on e k m some k_nonneg m_nonneg = record {
   in_y = weighed_between k m e.a.y e.b.y k_nonneg m_nonneg;
 }
 
--- what lies on an edge does so however its numbers are written
+-- a point on an edge is on it however its numbers are written
 on_at_same : (e : Edge) (p q : PlanePoint) → p.x ≡ q.x → p.y ≡ q.y → p.d ≡ q.d → IsOn e p → IsOn e q
 on_at_same e p q same_x same_y same_d on = record {
   on_line = rw (← same_x, ← same_y, ← same_d) on.on_line;

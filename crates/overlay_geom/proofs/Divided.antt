@@ -14,7 +14,7 @@ value-even n t d q r even value =
     let product = ap (λ k. k * t) halves in
     omega arith
 
--- and with the other factor added to the remainder, of an odd one
+-- the value of an odd number: the other factor is added to the remainder
 pub value-odd : (n t d q r : ℕ) → n % 2 ≡ 1 → n / 2 * t ≡ q * d + r → n * t ≡ 2 * q * d + 2 * r + t
 value-odd n t d q r odd value =
     let halves : n ≡ 2 * (n / 2) + 1 = omega arith in

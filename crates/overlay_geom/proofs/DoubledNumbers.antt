@@ -31,7 +31,7 @@ module _ (c s q r : ℤ) (whole : q *ℤ pos 2 +ℤ r ≡ s) (rest : unsigned_ab
       by Equal n m = absurd (n refl)
       by Greater n m = let lt : q <ℤ c = m in omega (arith, ints, whole, rest, lt, twice, doubled q)
 
-  -- and half of it compares as 0 and the rest do
+  -- if the half ties, the remainder compares with 0
   pub doubled-compared_rest : (o : Ordering) → o ≡ int_cmp c q → o ≡ Equal → (p : Ordering) → p ≡ int_cmp (pos 0) r →
       p ≡ int_cmp (pos 2 *ℤ c) s
   doubled-compared_rest o compared is p order = subst (λ z. p ≡ int_cmp (pos 2 *ℤ z) s) (sym half)
@@ -74,7 +74,7 @@ pub record Widened (n w : Width) (m : ℕ) (x y u v : ℤ) : Type 0 where
 
 module _ (n w : Width) (m : ℕ) (c x y u v : ℤ) (widened : Widened n w m x y u v) (fits : FitsSigned w c)
     (two : FitsSigned w (pos 2)) where
-  -- their sum is what it computes
+  -- their sum is the sum that it computes
   summed : Exact (m + m) (x +ℤ y) (sum_at w u v)
   summed =
       let room = widened.room in
@@ -88,12 +88,12 @@ module _ (n w : Width) (m : ℕ) (c x y u v : ℤ) (widened : Widened n w m x y 
   sum_fits : FitsSigned w (x +ℤ y)
   sum_fits = Within-fits w (m + m) (x +ℤ y) widened.room summed.within
 
-  -- so is the half of it
+  -- the half of the sum is exact
   half_is : to_z w (of_z w (int_div (sum_at w u v) (pos 2))) ≡ int_div (x +ℤ y) (pos 2)
   half_is = rw summed.same
       (to_z-of_z w (int_div (x +ℤ y) (pos 2)) (quot_fits w (x +ℤ y) (pos 2) sum_fits (record { lt = tt })))
 
-  -- and the rest
+  -- the remainder of the sum is exact
   rest_is : to_z w (of_z w (int_rem (sum_at w u v) (pos 2))) ≡ int_rem (x +ℤ y) (pos 2)
   rest_is = rw summed.same
       (rw (to_z-of_z w (x +ℤ y) sum_fits, to_z-of_z w (pos 2) two) at (rem_is w (x +ℤ y) (pos 2) sum_fits two))
@@ -108,7 +108,7 @@ module _ (n w : Width) (m : ℕ) (c x y u v : ℤ) (widened : Widened n w m x y 
     compared_with_half isnt = doubled-compared c (x +ℤ y) _ _ (quot-rem (x +ℤ y) (pos 2))
         (rem_below (x +ℤ y) (pos 2) (lit< tt)) o read isnt
 
-    -- and else the rest does
+    -- if the half ties, the remainder decides
     pub compared_by_rest : o ≡ Equal → (p : Ordering) →
         p ≡ int_cmp (pos 0) (to_z w (of_z w (int_rem (sum_at w u v) (pos 2)))) → p ≡ int_cmp (pos 2 *ℤ c) (x +ℤ y)
     compared_by_rest is p order = doubled-compared_rest c (x +ℤ y) _ _ (quot-rem (x +ℤ y) (pos 2))

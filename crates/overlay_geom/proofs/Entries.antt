@@ -6,7 +6,7 @@ use Rattle.std.specs.List.{Contains}
 pub Contains-head : {X : Type 0} (x : X) (xs : List X) → Contains (x ∷ xs) x
 Contains-head x xs = (zero, omega arith, refl)
 
--- and what the rest of it contains
+-- a list contains the items of its rest
 pub Contains-later : {X : Type 0} (y : X) (xs : List X) (x : X) → Contains xs x → Contains (y ∷ xs) x
 Contains-later y xs x c = (suc c.0, let h = c.1 in omega arith, c.2)
 

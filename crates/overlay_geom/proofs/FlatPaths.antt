@@ -16,7 +16,7 @@ pub within_inside : (n : ℕ) (r : Range ℕ) → IsInside n r → range_within 
 within_inside n r inside = ap₂ (λ a b. cond (a && b) r no_range) (le-leb r.start r.end inside.rises)
     (le-leb r.end n inside.ends)
 
--- and its items are those from its start up to its end
+-- the items of a range inside are those from its start up to its end
 pub part_inside : {X : Type 0} (xs : List X) (r : Range ℕ) → IsInside (length xs) r →
     part_in xs r ≡ slice_range xs r.start r.end
 part_inside xs r inside = ap (λ s. slice_range xs s.start s.end) (within_inside (length xs) r inside)
@@ -42,11 +42,11 @@ module _ {X : Type 0} (xs ys : List X) where
       ∙ take-append-le (r.end - r.start) (drop r.start xs) ys fits
       ∙ sym (part_inside xs r inside)
 
-  -- the range of what is behind a list is inside both together
+  -- the range of the items behind a list is inside both together
   pub inside_behind : IsInside (length (xs ++ ys)) (range_behind xs ys)
   inside_behind = let long = length-append xs ys in record { rises = omega arith; ends = omega (arith, long) }
 
-  -- and has its items
+  -- that range has these items
   pub part_behind : part_in (xs ++ ys) (range_behind xs ys) ≡ ys
   part_behind =
       let n = length xs + length ys - length xs in
@@ -64,14 +64,14 @@ module _ {I : Type 0} (whole : I → ℤ) (ps c : List (IntPoint I)) where
       ap₂ (λ p qs. plain_points whole p ∷ qs) (part_longer ps c r (All-head (IsInside (length ps)) r rs all))
       (paths_longer rs (All-tail (IsInside (length ps)) r rs all))
 
-  -- so a contour that is added is one path more
+  -- a contour that is added is one path more
   pub paths_added : (rs : List (Range ℕ)) → AreInside (length ps) rs
       → paths_in whole (ps ++ c) (rs ++ range_behind ps c ∷ []) ≡ paths_in whole ps rs ++ plain_points whole c ∷ []
   paths_added rs all =
       map-append (λ r. plain_points whole (part_in (ps ++ c) r)) rs (range_behind ps c ∷ [])
       ∙ ap₂ (λ qs p. qs ++ plain_points whole p ∷ []) (paths_longer rs all) (part_behind ps c)
 
-  -- and all ranges are inside again
+  -- all ranges are inside again
   pub inside_added : (rs : List (Range ℕ)) → AreInside (length ps) rs →
       AreInside (length (ps ++ c)) (rs ++ range_behind ps c ∷ [])
   inside_added rs all = All-push (IsInside (length (ps ++ c))) rs (range_behind ps c)

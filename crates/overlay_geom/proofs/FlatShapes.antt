@@ -32,7 +32,7 @@ module _ {I : Type 0} (whole : I → ℤ) (ps : List (IntPoint I)) (rs : List (R
     paths = refl;
   }
 
-  -- and one more
+  -- one more path is added
   pub one_added : (added : List (List Point)) (qs c : List (IntPoint I)) (ss : List (Range ℕ)) →
       ArePathsAdded whole ps rs added qs ss →
       ArePathsAdded whole ps rs (added ++ plain_points whole c ∷ []) (qs ++ c) (ss ++ range_behind qs c ∷ [])
@@ -50,7 +50,7 @@ module _ {I : Type 0} (whole : I → ℤ) (ps : List (IntPoint I)) (rs : List (R
             ∙ ap (λ xs. xs ++ plain_points whole c ∷ []) h.paths;
       }
 
-  -- and one more contour of a list, as a loop over it finds it
+  -- one more contour of a list, in a loop over it
   pub contour_added : {A : Type 0} (cs : List (Vec (IntPoint I) A)) (i : ℕ) (item : Vec (IntPoint I) A) →
       i < length cs → item ≡ get_or cs i item → (c : List (IntPoint I)) → c ≡ item.items →
       (qs new : List (IntPoint I)) (ss new_ranges : List (Range ℕ)) → new ≡ qs ++ c →
@@ -88,7 +88,7 @@ module _ {I : Type 0} (whole : I → ℤ) (ps points : List (IntPoint I)) (rs ra
       ap₂ (λ a b. a ∷ b) (shape_stays all s (All-head (IsInside (length rs)) s hs inside))
       (shapes_stay all hs (All-tail (IsInside (length rs)) s hs inside))
 
-  -- and the range of the new is one shape more
+  -- the range of the new is one shape more
   shapes_joined : (hs : List (Range ℕ)) → AreShapesPacked ps rs hs →
       shapes_in whole (ps ++ points) (rs ++ ranges) (hs ++ range_behind rs ranges ∷ [])
       ≡ shapes_in whole ps rs hs ++ paths_in whole (ps ++ points) ranges ∷ []
@@ -116,7 +116,7 @@ module _ {I : Type 0} (whole : I → ℤ) (ps qs : List (IntPoint I)) (rs ss hs 
       ∙ shapes_joined whole ps h.points rs h.ranges hs packed
       ∙ ap (λ p. shapes_in whole ps rs hs ++ p ∷ []) (ap (λ xs. paths_in whole xs h.ranges) (sym h.longer) ∙ h.paths)
 
-  -- and packed
+  -- the longer lists are packed
   pub packed_added : AreShapesPacked ps rs hs → AreShapesPacked qs ss (hs ++ new_range ∷ [])
   packed_added packed = record {
     paths_packed = subst (λ xs. AreBehind 0 xs (length qs)) (sym h.more) (behind_joined 0 rs (length ps) h.ranges

@@ -102,7 +102,7 @@ with_term c is (more d js p) = elim (place is js) [
       ↦ more d js (with_term c is p)
 ]
 
--- what f makes of each term, one after another
+-- f applied to each term in turn
 abbrev pub over_terms : (ℤ → List ℕ → Poly → Poly) → Poly → Poly → Poly
 over_terms f none p = p
 over_terms f (more c is q) p = f c is (over_terms f q p)
@@ -228,12 +228,12 @@ value-norm xs e = value-spread xs e (pos 1) [] none ∙ +ℤ_idr ((pos 1 *ℤ po
     times_one : (a : ℤ) → (pos 1 *ℤ pos 1) *ℤ a ≡ a
     times_one a = omega (arith, ints)
 
--- a number of which the test says so is 0
+-- a number that passes the test is 0
 is_zero-zero : (z : ℤ) → T (is_zero z) → z ≡ pos 0
 is_zero-zero (pos n) t = ap pos (eqb→eq n 0 t)
 is_zero-zero (negsuc n) t = absurd t
 
--- a sum of which every coefficient is 0 is 0
+-- a sum with all coefficients 0 is 0
 zero-value : (xs : List ℤ) (p : Poly) → T (vanishes p) → value xs p ≡ pos 0
 zero-value xs none t = refl
 zero-value xs (more c is p) t = by (is_zero c) refl t (zero-value xs p)

@@ -24,11 +24,11 @@ module _ {X Y : Type 0} (f : X → List Y) (xs : List X) (i : ℕ) (x : X) (with
   joined_more = ap (flat_map f) (take_more xs i x within ∙ ap (λ y. take i xs ++ y ∷ []) (sym is))
       ∙ joined_push f (take i xs) x
 
-  -- so it is longer by that one
+  -- the joined lists are longer by that list
   pub length-joined_more : length (flat_map f (take (i + 1) xs)) ≡ length (flat_map f (take i xs)) + length (f x)
   length-joined_more = ap length joined_more ∙ length-append (flat_map f (take i xs)) (f x)
 
-  -- and where it is cut, by what fits
+  -- cut, they are longer by the part that fits
   pub length-cut_more : (m n k r : ℕ) → n ≡ length (take m (flat_map f (take i xs))) → k ≡ length (f x) →
       r ≡ min (n + k) m → r ≡ length (take m (flat_map f (take (i + 1) xs)))
   length-cut_more m n k r before one sum =
@@ -52,7 +52,7 @@ module _ {X Y : Type 0} (f : X → List Y) (xs : List X) (i : ℕ) (x : X) (with
 pub within_cut : {X : Type 0} (m : ℕ) (xs : List X) (i : ℕ) → i < length (take m xs) → i < length xs
 within_cut m xs i within = let long = length-take m xs in omega arith
 
--- and has the same element in both
+-- the place has equal elements in both
 pub slice_get-cut : {X : Type 0} (m : ℕ) (xs : List X) (i : ℕ) (x : X) → i < length (take m xs) →
     slice_get xs i ≡ Some x → slice_get (take m xs) i ≡ Some x
 slice_get-cut m xs i x within read =

@@ -27,22 +27,22 @@ pub All-mapped_first : {X Y : Type 0} (P : Y → Type 0) (f : X → Y) (xs : Lis
     All P (map f (take i xs))
 All-mapped_first P f xs i all = subst (All P) (take-map f i xs) (All-take P i (map f xs) all)
 
--- the element of the mapped list at a place is the one that was read there, mapped
+-- the element of the mapped list at a place is the mapped element read there
 pub read_mapped : {X Y : Type 0} (f : X → Y) (xs : List X) (i : ℕ) (x : X) (d : Y) → i < length xs → x ≡ get_or xs i x →
     get_or (map f xs) i d ≡ f x
 read_mapped f xs i x d lt is = get_or-map f xs i x d lt ∙ ap f (sym is)
 
--- so it is one of the mapped list
+-- the mapped list contains it
 pub Contains-mapped : {X Y : Type 0} (f : X → Y) (xs : List X) (i : ℕ) (x : X) → i < length xs → x ≡ get_or xs i x →
     Contains (map f xs) (f x)
 Contains-mapped f xs i x lt is = (i, rw length-map lt, read_mapped f xs i x (f x) lt is)
 
--- and a fact of all holds of it
+-- a fact of all elements holds of it
 pub All-mapped_at : {X Y : Type 0} (P : Y → Type 0) (f : X → Y) (xs : List X) (i : ℕ) (x : X) → i < length xs →
     x ≡ get_or xs i x → All P (map f xs) → P (f x)
 All-mapped_at P f xs i x lt is all = subst P (read_mapped f xs i x (f x) lt is) (all i (f x) (rw length-map lt))
 
--- what is left of the mapped list begins with it
+-- the rest of the mapped list begins with it
 pub mapped_rest : {X Y : Type 0} (f : X → Y) (xs : List X) (i : ℕ) (x : X) → i < length xs → x ≡ get_or xs i x →
     map f (drop i xs) ≡ f x ∷ map f (drop (i + 1) xs)
 mapped_rest f xs i x lt is = ap (map f) (drop_more xs i x lt) ∙ ap (λ y. f y ∷ map f (drop (i + 1) xs)) (sym is)
@@ -58,7 +58,7 @@ pub All-mapped_range : {X Y : Type 0} (P : Y → Type 0) (f : X → Y) (xs : Lis
 All-mapped_range P f xs i j all = subst (All P) (sym (mapped_range f xs i j))
     (All-take P (j - i) (drop i (map f xs)) (All-drop P i (map f xs) all))
 
--- a fact of any two items holds of any two of what they are mapped to
+-- a fact of any two items holds of any two mapped items
 pub AllPairs-map : {X Y : Type 0} (R : Y → Y → Type 0) (f : X → Y) (xs : List X) → AllPairs (λ x y. R (f x) (f y)) xs →
     AllPairs R (map f xs)
 AllPairs-map R f [] h = λ i j d l m. absurd (omega arith)
@@ -78,7 +78,7 @@ map-filter f p (x ∷ xs) =
       | false ↦ rest
     ]
 
--- the part of a list from a place to its end, mapped, is what is left from there
+-- the part of a list from a place to its end, mapped, is the rest from there
 pub mapped_from : {X Y : Type 0} (f : X → Y) (xs : List X) (i : ℕ) →
     map f (slice_range xs i (length xs)) ≡ map f (drop i xs)
 mapped_from f xs i =
@@ -91,7 +91,7 @@ map-reverse f [] = refl
 map-reverse f (x ∷ xs) = ap (map f) (reverse-append (x ∷ []) xs) ∙ map-append f (reverse xs) (x ∷ [])
     ∙ ap (λ ys. ys ++ f x ∷ []) (map-reverse f xs) ∙ sym (reverse-append (f x ∷ []) (map f xs))
 
--- a fact of any two of what items are mapped to holds of the items
+-- a fact of any two mapped items holds of the items
 pub AllPairs-unmap : {X Y : Type 0} (R : Y → Y → Type 0) (f : X → Y) (xs : List X) → AllPairs R (map f xs) →
     AllPairs (λ x y. R (f x) (f y)) xs
 AllPairs-unmap R f xs h i j d l m =

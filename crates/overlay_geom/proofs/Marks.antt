@@ -19,7 +19,7 @@ pub record IsUncounted (e : CountedEdge) : Type 0 where
   pub along : e.counts.along ≡ false
   pub against : e.counts.against ≡ false
 
--- that is what an edge that has count 0 is
+-- an edge with count 0 is uncounted
 pub uncounted : (e : CountedEdge) → counts_nothing e ≡ true → IsUncounted e
 uncounted e h =
     let c = e.counts in
@@ -54,7 +54,7 @@ list_any-filter mark p (x ∷ xs) =
       | false ↦ e
     ]
 
--- and that is so in another order
+-- marks do not depend on the order
 pub list_any-filter_shuffled : {X : Type 0} (mark p : X → Bool) (xs ys : List X) → IsPermutation xs ys →
     list_any mark (filter p ys) ≡ list_any mark (filter p xs)
 list_any-filter_shuffled mark p xs ys h =
@@ -63,7 +63,7 @@ list_any-filter_shuffled mark p xs ys h =
 
 -- ---- weights
 
--- what a mark weighs
+-- the weight of a mark
 abbrev pub mark_weight : Bool → ℕ
 mark_weight b = cond b 1 0
 

@@ -8,7 +8,7 @@ use Rattle.overlay_geom.proofs.Cross.{crossE}
 use Rattle.overlay_geom.proofs.PointOrder.{IsBefore, IsUpTo}
 use Rattle.overlay_geom.proofs.AlongEdge.{over, place_of, over_le, sideE, order_of_on}
 
--- the weights of the two ends, and what they add up to over the point's denominator
+-- the weights of the two ends, and their sum over the point's denominator
 pub record MeanOfEnds (f : Edge) (p : PlanePoint) : Type 0 where
   pub of_a : ℤ
   pub of_b : ℤ
@@ -35,7 +35,7 @@ mean_of_y : (ax ay bx by x y d : ℤ) →
 mean_of_y = solve 7 (λ ax ay bx by x y d. (bx ⊖ ax) ⊗ y ≗ (bx ⊗ d ⊖ x) ⊗ ay ⊕ (x ⊖ ax ⊗ d) ⊗ by ⊕ sideE ax ay bx
     by x y d) tt
 
--- and so is x by those in y
+-- x is a mean of the ends by the weights in y
 mean_of_x : (ax ay bx by x y d : ℤ) →
     (by -ℤ ay) *ℤ x ≡ (by *ℤ d -ℤ y) *ℤ ax +ℤ (y -ℤ ay *ℤ d) *ℤ bx -ℤ
     ((bx -ℤ ax) *ℤ (y -ℤ ay *ℤ d) -ℤ (by -ℤ ay) *ℤ (x -ℤ ax *ℤ d))

@@ -11,12 +11,12 @@ use Rattle.overlay_geom.proofs.Orders.{edge_lt-itself, edge_lt-trans}
 use Rattle.overlay_geom.proofs.Merging.{ComesBefore, Ascends, AllPairs-head, AllPairs-tail, JoinAlike, joined_cases}
 use Rattle.overlay_geom.proofs.Merging.{joined_none, IsMerged-alike}
 
--- an edge that comes before another one is not that one
+-- an edge that comes before another edge differs from it
 pub not_before_itself : (e f : CountedEdge) → ComesBefore e f → e ≡ f → ⊥
 not_before_itself e f before same = both_ways (edge_lt (ends_of e) (ends_of f))
     (ap (λ g. edge_lt (ends_of e) (ends_of g)) (sym same) ∙ edge_lt-itself (ends_of e)) before
 
--- what comes first in two ascending lists with the same edges is the same
+-- two ascending lists with equal edges have equal first edges
 same_first : (x : CountedEdge) (xs : List CountedEdge) (y : CountedEdge) (ys : List CountedEdge) →
     All (ComesBefore x) xs → All (ComesBefore y) ys → Contains (y ∷ ys) x → Contains (x ∷ xs) y → x ≡ y
 same_first x xs y ys x_first y_first has_x has_y =
@@ -31,7 +31,7 @@ same_first x xs y ys x_first y_first has_x has_y =
       ]
     ]
 
--- and the rest has the same edges
+-- the rest has the same edges
 same_rest : (x : CountedEdge) (xs ys : List CountedEdge) → All (ComesBefore x) xs → All (Contains (x ∷ ys)) xs →
     All (Contains ys) xs
 same_rest x xs ys first has = λ k d l.

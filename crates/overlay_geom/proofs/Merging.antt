@@ -28,7 +28,7 @@ pub record JoinAlike (old new : List CountedEdge) : Type 0 where
 pub AllPairs-head : {X : Type 0} (R : X → X → Type 0) (x : X) (xs : List X) → AllPairs R (x ∷ xs) → All (R x) xs
 AllPairs-head R x xs h = λ k d l. h zero (suc k) d (omega arith) (omega arith)
 
--- and of any two of the rest
+-- a fact of any two items holds of any two of the rest
 pub AllPairs-tail : {X : Type 0} (R : X → X → Type 0) (x : X) (xs : List X) → AllPairs R (x ∷ xs) → AllPairs R xs
 AllPairs-tail R x xs h = λ i j d l m. h (suc i) (suc j) d (omega arith) (omega arith)
 
@@ -49,7 +49,7 @@ alone_between (x ∷ es) up =
     ∙ ap (λ fs. x ∷ fs) (edges_between-none es (ends_of x) others))
     (λ k d l. edges_between-past x es (ends_of (get_or es k d)) (apart k d l) ∙ rest k d l)
 
--- one edge is what it becomes alone
+-- an edge alone between its ends is its joined edge
 pub joined_alone : (es : List CountedEdge) (f : CountedEdge) → edges_between es (ends_of f) ≡ f ∷ [] →
     joined_edge es (ends_of f) ≡ f
 joined_alone es f h =
@@ -64,7 +64,7 @@ joined_alone es f h =
     marked : (mark : CountedEdge → Bool) → marked_between mark es (ends_of f) ≡ mark f
     marked mark = ap (list_any mark) h ∙ or_false (mark f)
 
--- in an ascending list each edge is the one that stands between its ends
+-- in an ascending list each edge is the joined edge between its ends
 pub joined_itself : (es : List CountedEdge) → Ascends es → All (λ f. joined_edge es (ends_of f) ≡ f) es
 joined_itself es up = All-weaker (λ f. edges_between es (ends_of f) ≡ f ∷ []) (λ f. joined_edge es (ends_of f) ≡ f)
     (joined_alone es) es (alone_between es up)
@@ -78,7 +78,7 @@ pub joined_none : (es : List CountedEdge) (e : Edge) → edges_between es e ≡ 
     counts_nothing (joined_edge es e) ≡ true
 joined_none es e h = ap (λ fs. counts_nothing (all_joined e fs)) h
 
--- what the edge of an ascending list between two ends is, or that there is none
+-- the edge of an ascending list between two ends, or none
 pub joined_cases : (es : List CountedEdge) (e : Edge) → Ascends es →
     (edges_between es e ≡ []) ⊎ Contains es (joined_edge es e)
 joined_cases es e up =

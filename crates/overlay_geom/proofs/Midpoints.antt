@@ -15,7 +15,7 @@ side-midpoint e f = solve 8 (λ ax ay bx by cx cy dx dy. (bx ⊖ ax) ⊗ ((cy �
     ((cx ⊕ dx) ⊖ ax ⊗ number (pos 2)) ≗ crossE ax ay bx by cx cy ⊕ crossE ax ay bx by dx dy) tt e.a.x e.a.y e.b.x e.b.y
     f.a.x f.a.y f.b.x f.b.y
 
--- it lies strictly to the left where the one product is above the other negated
+-- the midpoint lies strictly to the left where the first product is above the second negated
 pub is_left-midpoint : (e f : Edge) (u v w : ℤ) → u ≡ cross_at e.a e.b f.a → v ≡ cross_at e.a e.b f.b → w ≡ neg_ℤ v →
     is_gt (int_cmp u w) ≡ int_lt (pos 0) (side e (midpoint f))
 is_left-midpoint e f u v w p q r = is_gt-int_cmp u w ∙ ap (λ z. int_lt z u) r ∙ positive u v

@@ -13,7 +13,7 @@ use Rattle.overlay_geom.specs.Narrowed.{IsNarrowed, IsBentInside}
 abbrev pub point_at : List Point → ℕ → Point
 point_at ps k = get_or ps k (record { x = pos 0; y = pos 0 })
 
--- the cross product of which IsStraightAt says that it is 0
+-- the cross product that is 0 by IsStraightAt
 abbrev pub turn_at : List Point → ℕ → ℤ
 turn_at ps k = cross_at (point_round ps (k + length ps - 1)) (point_round ps k) (point_round ps (k + 1))
 
@@ -27,7 +27,7 @@ before_place : (k n : ℕ) → k < n → (k + 1 + n - 1) % n ≡ k
 before_place k n h = let e : k + 1 + n - 1 ≡ k + n = omega arith in ap (λ m. m % n) e ∙ add-mod_right k n
     ∙ mod-eq_of_lt h
 
--- the turn at place k is that of the places before it, k itself and the one after it
+-- the turn at place k is that of the place before, k itself, and the place after
 turn_at-places : (ps : List Point) (i k j : ℕ) → (k + length ps - 1) % length ps ≡ i → k < length ps →
     (k + 1) % length ps ≡ j → turn_at ps k ≡ cross_at (point_at ps i) (point_at ps k) (point_at ps j)
 turn_at-places ps i k j before here after =
@@ -83,7 +83,7 @@ IsBentInside-at ps k b h straight =
     let next : k + 1 + 1 < length ps = omega arith in
     b.bent (k + 1) inner next (turn_at-inside ps k h ∙ straight)
 
--- a list of which no three places in a row are collinear is bent inside
+-- a list is bent inside if no three places in a row are collinear
 pub IsBentInside-by_places : (ps : List Point) →
     ((k : ℕ) → k + 2 < length ps → ¬ (IsOnOneLine (point_at ps k) (point_at ps (k + 1)) (point_at ps (k + 2)))) →
     IsBentInside ps

@@ -42,7 +42,7 @@ numbered_from all n (x ∷ xs) at = All-cons (StandsThere all) (record { item = 
     let next = at (suc k) d (omega (arith, lt)) in let same : n + suc k ≡ suc n + k = omega arith in
     subst (λ m. (m < length all) × (get_or all m d ≡ get_or xs k d)) same next))
 
--- and each place has one
+-- each place has an item
 numbered_all : {X : Type 0} (n : ℕ) (xs : List X) (k : ℕ) → k < length xs →
     Contains (map (λ (m : Numbered X). m.place) (numbered n xs)) (n + k)
 numbered_all n [] k lt = absurd (omega (arith, lt))
@@ -138,7 +138,7 @@ module _ {X Y : Type 0} (P : X → Y → Type 0) (d : Y) (xs : List X) (ns : Lis
           same = sym (read_mapped (λ (m : Numbered X). m.place) ns c.0 n k within
               (get_or_default ns c.0 (record { item = x; place = k }) n within)) ∙ c.2
 
--- a list that tells of each item what a function gives is the items mapped
+-- a list with a function's value for each item is the mapped list
 pub told_by_function : {X Y : Type 0} (f : X → Y) (xs : List X) (ys : List Y) → length ys ≡ length xs →
     ((k : ℕ) (x : X) (y : Y) → k < length xs → get_or ys k y ≡ f (get_or xs k x)) → ys ≡ map f xs
 told_by_function f xs ys counted told = same_lists ys (map f xs) (counted ∙ sym (length-map xs f))

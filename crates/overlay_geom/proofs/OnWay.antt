@@ -12,7 +12,7 @@ use Rattle.overlay_geom.proofs.Products.{neg_ℤ-mul}
 use Rattle.overlay_geom.proofs.Signs.{linear}
 use Rattle.overlay_geom.proofs.Rounded.{nearest-unique, nearest-strict, nearest-within, part_way-between}
 
--- the number nearest the one that lies t / d of the way from u to v
+-- the number nearest to the point t / d of the way from u to v
 abbrev pub place : (u v t d : ℤ) → ℤ
 place u v t d = nearest (u *ℤ d +ℤ (v -ℤ u) *ℤ t) d
 
@@ -30,7 +30,7 @@ nearest-shifted v z d p =
 size-nonneg : (z : ℤ) → pos 0 ≤ℤ z → pos (unsigned_abs z) ≡ z
 size-nonneg z h = omega (arith, ints)
 
--- and the size of one that is not positive is that number with the other sign
+-- the size of one that is not positive is that number with the other sign
 size-nonpos : (z : ℤ) → z ≤ℤ pos 0 → neg_ℤ (pos (unsigned_abs z)) ≡ z
 size-nonpos z h = omega (arith, ints)
 
@@ -42,7 +42,7 @@ distance_up u v t n k m rising begun steps part value =
     ap pos (sym value) ∙ ap₂ (λ a b. a *ℤ b) (ap pos steps ∙ size-nonneg (v -ℤ u) (omega linear))
     (ap pos part ∙ size-nonneg t begun)
 
--- and on the way down it is that with the other sign
+-- the distance on the way down, with the opposite sign
 distance_down : (u v t : ℤ) (n k m : ℕ) → v ≤ℤ u → pos 0 ≤ℤ t → n ≡ unsigned_abs (v -ℤ u) → k ≡ unsigned_abs t →
     n * k ≡ m →
     neg_ℤ (pos m) ≡ (v -ℤ u) *ℤ t
@@ -51,7 +51,7 @@ distance_down u v t n k m falling begun steps part value =
     ap₂ (λ a b. a *ℤ b) (ap (λ j. neg_ℤ (pos j)) steps ∙ size-nonpos (v -ℤ u) (omega linear))
     (ap pos part ∙ size-nonneg t begun)
 
--- what the program counts of a way: its steps, and the part and the whole by which they are divided
+-- the program's numbers for a way: its length, and the part and the whole by which they are divided
 pub record Counted (u v t d : ℤ) (n k j : ℕ) : Type 0 where
   pub begun : pos 0 ≤ℤ t
   pub divides : pos 0 <ℤ d

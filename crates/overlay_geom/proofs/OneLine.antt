@@ -16,7 +16,7 @@ use Rattle.overlay_geom.proofs.AlongEdge.{over, place_of, sideE, over_up_to, on_
 pub meet_in_ends_exchanged : (e f : Edge) → MeetInEnds f e → MeetInEnds e f
 meet_in_ends_exchanged e f h p (on_e, on_f) = let ends = h p (on_f, on_e) in (ends.1, ends.0)
 
--- an edge that ends where another one begins, or before, meets it in ends alone
+-- an edge that ends where another edge begins, or before, meets it in ends alone
 pub apart_meet_in_ends : (e f : Edge) → IsBefore e.a e.b → IsBefore f.a f.b → IsUpTo e.b f.a → MeetInEnds e f
 apart_meet_in_ends e f e_forward f_forward apart p (on_e, on_f) =
     let to = (order_of_on e p e_forward on_e).1 in
@@ -74,7 +74,7 @@ holds_start e forward = record {
   to = before_up_to e.a e.b forward;
 }
 
--- and its larger
+-- the edge holds its larger end
 pub holds_end : (e : Edge) → IsBefore e.a e.b → IsHeldBy e e.b
 holds_end e forward = record {
   on_line = cross_at_same e.a e.b;
@@ -86,7 +86,7 @@ holds_end e forward = record {
 abbrev middle : Point → Point → PlanePoint
 middle u v = midpoint (record { a = u; b = v })
 
--- the midpoint of two points is greater than what the smaller is not below
+-- the midpoint of two points is greater than any point that the smaller is not below
 middle_after : (a u v : Point) → IsUpTo a u → IsBefore u v → IsBefore (over a (pos 2)) (place_of (middle u v))
 middle_after a u v h k = record {
   x = let twice = doubled a.x in let au = h.x in let uv = k.x in
@@ -104,7 +104,7 @@ middle_after a u v h k = record {
         let further_up = k.y (omega linear) in
         omega linear
 
--- and smaller than what the larger is not above
+-- the midpoint is smaller than any point that the larger is not above
 middle_before : (u v b : Point) → IsBefore u v → IsUpTo v b → IsBefore (place_of (middle u v)) (over b (pos 2))
 middle_before u v b h k = record {
   x = let twice = doubled b.x in let uv = h.x in let vb = k.x in
@@ -122,7 +122,7 @@ middle_before u v b h k = record {
         let further_up = k.y (omega linear) in
         omega linear
 
--- so it lies on an edge that holds both
+-- the midpoint lies on an edge that holds both
 middle_on : (e : Edge) (u v : Point) → IsBefore e.a e.b → IsHeldBy e u → IsHeldBy e v → IsBefore u v →
     IsOn e (middle u v)
 middle_on e u v forward at_u at_v less =
@@ -139,7 +139,7 @@ middle_on e u v forward at_u at_v less =
         u.y v.x v.y in
         omega linear
 
--- and is no end of it
+-- the midpoint is not an end of it
 middle_is_no_end : (e : Edge) (u v : Point) → IsHeldBy e u → IsHeldBy e v → IsBefore u v → ¬ (IsEnd e (middle u v))
 middle_is_no_end e u v at_u at_v less (inl (same_x, same_y)) = before_is_other _ _ (middle_after e.a u v at_u.from less)
     same_x same_y
@@ -176,7 +176,7 @@ overlap_from e f e_forward f_forward f_along e_along later begins = by_order e.b
         })
         (holds_end f f_forward) f_forward
 
--- two collinear edges, each of which begins before the other ends, do not meet in ends alone
+-- two collinear edges do not meet in ends alone if each begins before the other ends
 pub overlapping_do_not_meet_in_ends : (e f : Edge) → IsBefore e.a e.b → IsBefore f.a f.b → IsAlong e f →
     IsBefore e.a f.b → IsBefore f.a e.b → ¬ (MeetInEnds e f)
 overlapping_do_not_meet_in_ends e f e_forward f_forward along e_begins f_begins =

@@ -43,7 +43,7 @@ tied_in_turn Less q first second f s = ap (λ b. b && second) f
 tied_in_turn Equal q first second f s = ap (λ b. b && second) f ∙ s
 tied_in_turn Greater q first second f s = ap (λ b. b && second) f
 
--- the points' test is what their comparison answers
+-- the test of points is the answer of their comparison
 pub point_lt-is_less : (p q : Point) → point_lt p q ≡ is_lt (point_order p q)
 point_lt-is_less p q =
     less_in_turn (int_cmp p.x q.x) (int_cmp p.y q.y) (int_lt p.x q.x) (int_eq p.x q.x) (int_lt p.y q.y)
@@ -53,7 +53,7 @@ point_lt-is_less p q =
 pub point_eq-is_tie : (p q : Point) → point_eq p q ≡ is_eq (point_order p q)
 point_eq-is_tie p q = tied_in_turn (int_cmp p.x q.x) (int_cmp p.y q.y) (int_eq p.x q.x) (int_eq p.y q.y) refl refl
 
--- the edges' test is what their comparison answers
+-- the test of edges is the answer of their comparison
 pub edge_lt-is_less : (e f : Edge) → edge_lt e f ≡ is_lt (edge_order e f)
 edge_lt-is_less e f =
     less_in_turn (point_order e.a f.a) (point_order e.b f.b) (point_lt e.a f.a) (point_eq e.a f.a) (point_lt e.b f.b)
@@ -65,9 +65,9 @@ edge_eq-is_tie e f =
     tied_in_turn (point_order e.a f.a) (point_order e.b f.b) (point_eq e.a f.a) (point_eq e.b f.b)
     (point_eq-is_tie e.a f.a) (point_eq-is_tie e.b f.b)
 
--- ---- what follows
+-- ---- consequences
 
--- points with the same coordinates are one point
+-- points with the same coordinates are equal
 pub same_point : (p q : Point) → p.x ≡ q.x → p.y ≡ q.y → p ≡ q
 same_point p q same_x same_y = λ i. record { x = same_x i; y = same_y i }
 
@@ -82,7 +82,7 @@ Decides-point_eq p q =
 pub point_eq-same : (p q : Point) → point_eq p q ≡ true → p ≡ q
 point_eq-same p q = (Decides-point_eq p q).0
 
--- and one point is found equal
+-- equal points are found equal
 pub point_eq-of_same : (p q : Point) → p ≡ q → point_eq p q ≡ true
 point_eq-of_same p q = (Decides-point_eq p q).1
 
@@ -101,7 +101,7 @@ point_lt-back p q differ back =
     by_cases Equal r h e l = cc
     by_cases Greater r h e l = ap is_lt h
 
--- points of which neither is smaller than the other are equal
+-- two points are equal if neither is smaller than the other
 pub neither_smaller : (p q : Point) → point_lt p q ≡ false → point_lt q p ≡ false → p ≡ q
 neither_smaller p q one other = by (point_eq p q) refl
   where
@@ -143,7 +143,7 @@ edge_eq-from_ends e f same_a same_b = (Decides-edge_eq e f).1 (λ i. record { a 
 pub edge_eq-exchanged : (e f : Edge) → edge_eq e f ≡ true → edge_eq f e ≡ true
 edge_eq-exchanged e f same = (Decides-edge_eq f e).1 (sym (edge_eq-same e f same))
 
--- and so they are different
+-- the test of different edges is symmetric
 pub edge_eq-flip : (e f : Edge) → edge_eq e f ≡ false → edge_eq f e ≡ false
 edge_eq-flip e f h =
     elim (cases_Bool (edge_eq f e)) [
@@ -155,7 +155,7 @@ edge_eq-flip e f h =
 pub edge_lt-itself : (e : Edge) → edge_lt e e ≡ false
 edge_lt-itself e = edge_lt-is_less e e ∙ ap is_lt (tied_itself edge_order-total e)
 
--- an edge that comes before another one is not equal to it
+-- an edge that comes before another edge is not equal to it
 pub edge_eq-from_lt : (e f : Edge) → edge_lt e f ≡ true → edge_eq e f ≡ false
 edge_eq-from_lt e f h = edge_eq-is_tie e f ∙ not_tied (edge_order e f) (sym (edge_lt-is_less e f) ∙ h)
   where
@@ -196,7 +196,7 @@ lt_or_eq e f h = by_cases (edge_order e f) (edge_order f e) (edge_order-total.an
     by_cases Equal back r h at = inr (edge_eq-is_tie e f ∙ ap is_eq at)
     by_cases Greater back r h at = let t : is_lt back ≡ true = ap is_lt r in cc
 
--- an edge that comes before another one comes before all that do not come before that one
+-- an edge that comes before another edge comes before all edges that do not come before that
 pub edge_lt_from_le : (e f g : Edge) → edge_lt e f ≡ true → edge_lt g f ≡ false → edge_lt e g ≡ true
 edge_lt_from_le e f g h k =
     elim (lt_or_eq f g k) [

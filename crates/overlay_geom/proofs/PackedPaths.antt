@@ -13,7 +13,7 @@ behind_rises n rs end no_range = omega arith
 behind_rises n rs end (next {r} {rs = rest} rises h) = let more = behind_rises r.end rest end h in
     omega (arith, rises, more)
 
--- and are inside
+-- the ranges are inside
 pub behind_inside : (n : ℕ) (rs : List (Range ℕ)) (end : ℕ) → AreBehind n rs end → AreInside end rs
 behind_inside n rs end no_range = All-nil (IsInside end)
 behind_inside n rs end (next {r} {rs = rest} rises h) =
@@ -28,7 +28,7 @@ behind_more n rs end r from rises no_range = subst (λ k. AreBehind k (r ∷ [])
 behind_more n rs end r from rises (next {r = s} {rs = rest} first h) = next first
     (behind_more s.end rest end r from rises h)
 
--- and more ranges
+-- more ranges follow
 pub behind_joined : (n : ℕ) (rs : List (Range ℕ)) (m : ℕ) (ss : List (Range ℕ)) (end : ℕ) → AreBehind n rs m →
     AreBehind m ss end →
     AreBehind n (rs ++ ss) end
@@ -44,7 +44,7 @@ module _ {X : Type 0} where
   pub packed_inside : (xs : List X) (rs : List (Range ℕ)) → IsPacked xs rs → AreInside (length xs) rs
   packed_inside xs rs h = behind_inside 0 rs (length xs) h
 
-  -- and with one list more it is
+  -- with a further list it is packed
   pub packed_more : (xs ys : List X) (rs : List (Range ℕ)) → IsPacked xs rs →
       IsPacked (xs ++ ys) (rs ++ range_behind xs ys ∷ [])
   packed_more xs ys rs h =

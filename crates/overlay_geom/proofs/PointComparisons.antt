@@ -40,7 +40,7 @@ module _ (p q : Point) (greater : point_cmp p q ≡ Greater) where
   pub greater_is_after : point_lt p q ≡ false
   greater_is_after = sym (point_cmp-is_less p q) ∙ ap is_lt greater
 
-  -- and the edge between them begins at the other
+  -- the edge between them begins at the other
   pub edge_from_greater : record { a = q; b = p } ∷ [] ≡ edges_between p q
   edge_from_greater =
       sym (ap (λ t. map edge_of (cond t [] (record { from = p; to = q } ∷ []))) greater_differs

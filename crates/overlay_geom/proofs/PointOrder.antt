@@ -51,7 +51,7 @@ before_up_to p q h = record { x = h.x; y = λ le. let lt = h.y le in omega linea
 pub up_to_itself : (p : Point) → IsUpTo p p
 up_to_itself p = record { x = omega linear; y = λ le. omega linear }
 
--- what is up to a point is smaller than all that it is smaller than
+-- `up to` followed by `smaller` is `smaller`
 pub before_after_up_to : (p q r : Point) → IsUpTo p q → IsBefore q r → IsBefore p r
 before_after_up_to p q r h k = record {
   x = let a = h.x in let b = k.x in
@@ -62,7 +62,7 @@ before_after_up_to p q r h k = record {
     both : r.x ≤ℤ p.x → q.x ≤ℤ p.x → r.x ≤ℤ q.x → p.y <ℤ r.y
     both le here there = let a = h.y here in let b = k.y there in omega linear
 
--- three points, each up to the next round, are one point
+-- three points, each up to the next round, are equal
 pub same_round : (p q r : Point) → IsUpTo p q → IsUpTo q r → IsUpTo r p →
     (p.x ≡ q.x) × (p.y ≡ q.y) × (p.x ≡ r.x) × (p.y ≡ r.y)
 same_round p q r pq qr rp =
@@ -76,7 +76,7 @@ same_round p q r pq qr rp =
 pub before_is_other : (p q : Point) → IsBefore p q → q.x ≡ p.x → q.y ≡ p.y → ⊥
 before_is_other p q h same_x same_y = let lt = h.y (omega linear) in omega linear
 
--- what is up to a point is up to all that it is up to
+-- `up to` is transitive
 pub up_to_through : (p q r : Point) → IsUpTo p q → IsUpTo q r → IsUpTo p r
 up_to_through p q r h k = record {
   x = let a = h.x in let b = k.x in omega linear;
@@ -96,7 +96,7 @@ up_to_both p q h k =
     let down = k.y there in
     same_point p q (omega linear) (omega linear)
 
--- a point up to another one is it, or smaller
+-- a point up to another point is equal to it, or smaller
 pub before_unless_same : (p q : Point) → IsUpTo p q → ¬ (p ≡ q) → IsBefore p q
 before_unless_same p q up other = by_order q p (λ down. absurd (other (up_to_both p q up down))) (λ before. before)
 
@@ -116,7 +116,7 @@ pub point_lt-transitive : (p q r : Point) → point_lt p q ≡ true → point_lt
 point_lt-transitive p q r pq qr = (Decides-point_lt p r).1
     (before_after_up_to p q r (before_up_to p q ((Decides-point_lt p q).0 pq)) ((Decides-point_lt q r).0 qr))
 
--- what is not after a smaller point is smaller
+-- a point not after a smaller point is smaller
 pub point_lt-after_up_to : (p q r : Point) → point_lt q p ≡ false → point_lt q r ≡ true → point_lt p r ≡ true
 point_lt-after_up_to p q r up less = by (point_lt p r) refl
   where
@@ -124,7 +124,7 @@ point_lt-after_up_to p q r up less = by (point_lt p r) refl
     by true e = e
     by false e = absurd (both_ways (point_lt q r) (point_lt-order.chain q p r up e) less)
 
--- and what is smaller than a point is smaller than all that are not before it
+-- a point smaller than another is smaller than all points that are not before that
 pub point_lt-before_up_to : (p q r : Point) → point_lt p q ≡ true → point_lt r q ≡ false → point_lt p r ≡ true
 point_lt-before_up_to p q r less up = by (point_lt p r) refl
   where

@@ -1,4 +1,4 @@
--- Items that are read by their numbers: the list up to an item, from it on, and what holds of all.
+-- Items read by their numbers: the list up to an item, the list from it on, and facts of all items.
 use Rattle.std.proofs.Common.{◌≡◌, ℕ, ◌+◌, List, [], ◌∷◌, ◌++◌, All, take, drop, flat_map, Some, sym, ◌∙◌, ap, subst}
 use Rattle.std.specs.List.{slice_get}
 use Rattle.std.proofs.lemmas.List.{take_more, drop_more}
@@ -25,6 +25,6 @@ module _ {X : Type 0} (xs : List X) (i : ℕ) (x : X) (read : slice_get xs i ≡
   pub All-take_read : (P : X → Type 0) → All P (take i xs) → P x → All P (take (i + 1) xs)
   All-take_read P before here = subst (All P) (sym take_read) (All-push P (take i xs) x before here)
 
-  -- what the items up to it give, joined, is what those before it give, and what it gives
+  -- the lists of the items up to it, joined, are those of the items before it and its own
   pub flat_map-take_read : {Y : Type 0} (f : X → List Y) → flat_map f (take (i + 1) xs) ≡ flat_map f (take i xs) ++ f x
   flat_map-take_read f = ap (flat_map f) take_read ∙ joined_push f (take i xs) x

@@ -47,7 +47,7 @@ module _ (P : Edge → Type 0) (p q : Point) (qs : List Point) {W : Type 0}
   pub step_passes : All P (edges_between p q) → (All P (edges_through q qs) ↔ W)
   step_passes here = (λ rest. all.0 (split.0 (here, rest)), λ w. (split.1 (all.1 w)).1)
 
-  -- and where it does not, it does not hold of all
+  -- if the fact fails for the step, it fails for all
   pub step_fails : ¬ (All P (edges_between p q)) → ¬ W
   step_fails not_here w = not_here (split.1 (all.1 w)).0
 
@@ -86,7 +86,7 @@ module _ (p q : Point) (qs : List Point) {W : Type 0} (apart : AreApart (edges_t
   pub step_is_apart : are_before (edges_between p q) (edges_through q qs) → (AreApart (edges_through q qs) ↔ W)
   step_is_apart here = (λ rest. apart.0 (split_apart.0 (here, rest)), λ w. (split_apart.1 (apart.1 w)).1)
 
-  -- and where it is not, the steps are not apart
+  -- if the next step is not apart, the steps are not apart
   pub step_is_not_apart : ¬ (are_before (edges_between p q) (edges_through q qs)) → ¬ W
   step_is_not_apart not_here w = not_here (split_apart.1 (apart.1 w)).0
 

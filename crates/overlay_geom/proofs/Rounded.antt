@@ -44,7 +44,7 @@ nearest-at_most z d p =
     let low = quotient-at_most (pos 2 *ℤ z +ℤ d) (pos 2 *ℤ d) (twice-positive d p) in
     omega linear
 
--- and less than 1/2 below it: it is the fraction with 1/2 added, rounded down
+-- the nearest number is less than 1/2 below: it is the fraction plus 1/2, rounded down
 pub nearest-strict : (z d : ℤ) → pos 0 <ℤ d → (pos 2 *ℤ z -ℤ d) <ℤ (pos 2 *ℤ nearest z d *ℤ d)
 nearest-strict z d p =
     let exchanged = twice (nearest z d) d in
@@ -52,7 +52,7 @@ nearest-strict z d p =
     let high = quotient-above (pos 2 *ℤ z +ℤ d) (pos 2 *ℤ d) (twice-positive d p) in
     omega linear
 
--- so it is at most 1/2 away
+-- the nearest number is at most 1/2 away
 pub nearest-within : (z d : ℤ) → pos 0 <ℤ d → IsWithinHalf (nearest z d) z d
 nearest-within z d p =
     let below = nearest-strict z d p in
@@ -70,7 +70,7 @@ nearest-least z d v p le =
     let less = lt_of_mul-lt (pos 2 *ℤ d) v (nearest z d +ℤ pos 1) (twice-positive d p) (omega linear) in
     omega linear
 
--- and one less than 1/2 below the fraction is at least the nearest one
+-- a number less than 1/2 below the fraction is at least the nearest number
 nearest-greatest : (z d v : ℤ) → pos 0 <ℤ d → (pos 2 *ℤ z -ℤ d) <ℤ (pos 2 *ℤ v *ℤ d) → nearest z d ≤ℤ v
 nearest-greatest z d v p lt =
     let exchanged = twice v d in
@@ -81,7 +81,7 @@ nearest-greatest z d v p lt =
     let less = lt_of_mul-lt (pos 2 *ℤ d) (nearest z d) (v +ℤ pos 1) (twice-positive d p) (omega linear) in
     omega linear
 
--- so there is no other number so near
+-- no other number is so near
 pub nearest-unique : (z d v : ℤ) → pos 0 <ℤ d → (pos 2 *ℤ z -ℤ d) <ℤ (pos 2 *ℤ v *ℤ d) →
     (pos 2 *ℤ v *ℤ d) ≤ℤ (pos 2 *ℤ z +ℤ d) → nearest z d ≡ v
 nearest-unique z d v p lt le =
@@ -91,7 +91,7 @@ nearest-unique z d v p lt le =
 
 -- ---- two fractions
 
--- the number nearest the greater of two fractions is not below the one nearest the other
+-- the number nearest to the greater of two fractions is not below that nearest to the other
 pub nearest-le : (z d y c : ℤ) → pos 0 <ℤ d → pos 0 <ℤ c → (z *ℤ c) ≤ℤ (y *ℤ d) → nearest z d ≤ℤ nearest y c
 nearest-le z d y c p q le =
     let scaled = mul-le c (pos 2 *ℤ nearest z d *ℤ d) (pos 2 *ℤ z +ℤ d) (omega linear) (nearest-at_most z d p) in
@@ -122,14 +122,14 @@ whole_le_nearest v z d positive le =
     let kept = nearest-le (v *ℤ d) d z d positive positive (over_le (v *ℤ d) z d positive le) in
     omega linear
 
--- and one that is at least a fraction is at least that number
+-- a whole number at least a fraction is at least the nearest number
 pub nearest_le_whole : (v z d : ℤ) → pos 0 <ℤ d → z ≤ℤ (v *ℤ d) → nearest z d ≤ℤ v
 nearest_le_whole v z d positive le =
     let whole = nearest-whole v d positive in
     let kept = nearest-le z d (v *ℤ d) d positive positive (over_le z (v *ℤ d) d positive le) in
     omega linear
 
--- so what lies between two whole numbers is rounded between them
+-- a number between two whole numbers is rounded between them
 pub nearest-between : (z u v d : ℤ) → pos 0 <ℤ d → IsBetween z (u *ℤ d) (v *ℤ d) → IsBetween (nearest z d) u v
 nearest-between z u v d positive (inl (low, high)) =
     inl (whole_le_nearest u z d positive low, nearest_le_whole v z d positive high)
@@ -170,7 +170,7 @@ part_between u v t d begun within = by_lt_z u v (λ up. inl (rising up)) (λ dow
         let turned = solve 3 (λ u v t. (v ⊖ u) ⊗ t ≗ ⊝ ((u ⊖ v) ⊗ t)) tt u v t in
         (omega linear, omega linear)
 
--- so rounded it lies between them
+-- the rounded point lies between them
 pub part_way-between : (u v t d : ℤ) → pos 0 ≤ℤ t → t ≤ℤ d → pos 0 <ℤ d →
     IsBetween (nearest (u *ℤ d +ℤ (v -ℤ u) *ℤ t) d) u v
 part_way-between u v t d begun within positive = nearest-between (u *ℤ d +ℤ (v -ℤ u) *ℤ t) u v d positive

@@ -11,13 +11,13 @@ use Rattle.overlay_geom.proofs.Merging.{JoinAlike}
 use Rattle.overlay_geom.proofs.Totals.{total-filter, total-IsPermutation}
 use Rattle.overlay_geom.proofs.Weights.{edge_weight}
 
--- what passes a test adds up to the same in another order
+-- the items that pass a test have equal sums in another order
 pub total-filter_shuffled : {X : Type 0} (f : X → ℤ) (p : X → Bool) (xs ys : List X) → IsPermutation xs ys →
     total f (filter p ys) ≡ total f (filter p xs)
 total-filter_shuffled f p xs ys h = total-filter p f ys ∙ total-IsPermutation (λ x. cond (p x) (f x) (pos 0)) xs ys h
     ∙ sym (total-filter p f xs)
 
--- the same edges in another order have the same joined edges
+-- a permutation of edges has equal joined edges
 pub alike_shuffled : (xs ys : List CountedEdge) → IsPermutation xs ys → JoinAlike xs ys
 alike_shuffled xs ys h = record { at = at }
   where
@@ -39,6 +39,6 @@ alike_shuffled xs ys h = record { at = at }
       };
     }
 
--- and weigh the same
+-- a permutation of edges has equal weight
 pub weight_shuffled : (xs ys : List CountedEdge) → IsPermutation xs ys → weight ys ≡ weight xs
 weight_shuffled xs ys h = sum_by-IsPermutation edge_weight xs ys h

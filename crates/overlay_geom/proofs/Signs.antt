@@ -6,7 +6,7 @@ use Rattle.std.proofs.Common.{arith}
 use Rattle.std.proofs.lemmas.Int.{ints, by_lt_z}
 use Rattle.overlay_geom.proofs.Products.{mul-add, mul-neg_ℤ}
 
--- for omega: what is linear over the whole numbers, with each product as one unknown
+-- for omega: linear facts of whole numbers, with each product as one unknown
 pub ruleset linear = (arith, same_out, Apart-out, lt_out, le_out, same_in, below_in, at_most_in, sum_is_lem, neg_is)
 
 -- by whether z is negative, 0 or positive
@@ -57,7 +57,7 @@ mul-lt k a b p q =
     let negated = mul-neg_ℤ k a in
     omega linear
 
--- and the other, also where it is 0
+-- the other, also where it is 0
 pub mul-le : (k a b : ℤ) → pos 0 ≤ℤ k → a ≤ℤ b → (k *ℤ a) ≤ℤ (k *ℤ b)
 mul-le k a b p q =
     let nonneg = mul-nonneg k (b -ℤ a) p (omega linear) in
@@ -65,7 +65,7 @@ mul-le k a b p q =
     let negated = mul-neg_ℤ k a in
     omega linear
 
--- ---- what a product by a number above 0 says of the other factor
+-- ---- the other factor, from a product by a number above 0
 
 -- two numbers are in strict order where their products are
 pub lt_of_mul-lt : (k a b : ℤ) → pos 0 <ℤ k → (k *ℤ a) <ℤ (k *ℤ b) → a <ℤ b
@@ -81,7 +81,7 @@ le_of_mul-le k a b p q = by_lt_z b a (λ lt. absurd (against lt)) (λ le. le)
     against : b <ℤ a → ⊥
     against lt = let less = mul-lt k b a p lt in omega linear
 
--- and equal where those are
+-- the factors are equal if the products are
 pub eq_of_mul-eq : (k a b : ℤ) → pos 0 <ℤ k → k *ℤ a ≡ k *ℤ b → a ≡ b
 eq_of_mul-eq k a b p e =
     let low = le_of_mul-le k a b p (omega linear) in

@@ -1,4 +1,4 @@
--- Sums of counts by ends: they are settled by what the edges between each two ends add up to.
+-- Sums of counts by ends, determined by the sums over the edges between each two ends.
 use Rattle.std.proofs.Common.{◌≡◌, ℕ, zero, suc, ◌+◌, ◌≤◌, Bool, true, false, cond, ℤ, pos, ◌+ℤ◌, List, [], ◌∷◌, length}
 use Rattle.std.proofs.Common.{refl, ap, sym, ◌∙◌, arith, inl, inr}
 use Rattle.std.specs.List.{All}
@@ -40,7 +40,7 @@ module _ (count : CountedEdge → ℤ) (passes : Edge → Bool) where
       total-parts (λ f. cond (passes (ends_of f)) (count f) (pos 0)) (λ f. edge_eq (ends_of f) e) es
       ∙ ap (λ z. z +ℤ sum_where count passes (without es e)) (sum_where-alike e (edges_between es e) alike)
 
-  -- so two lists agree if they agree between two ends, and without the edges between them
+  -- two lists agree if they agree between two ends, and without the edges between them
   sum_where-step : (e : Edge) (xs ys : List CountedEdge) → total count (edges_between xs e) ≡ total count
       (edges_between ys e) → sum_where count passes (without xs e) ≡ sum_where count passes (without ys e) →
       sum_where count passes xs ≡ sum_where count passes ys

@@ -35,7 +35,7 @@ total-within f bound each (x ∷ xs) =
     let sum = sum_by-cons bound x xs in
     record { low = omega (arith, ints); high = omega (arith, ints) }
 
--- what a part of the list adds up to is the sum over the list that takes nothing of the rest
+-- the sum of a part of the list is the sum over the list with 0 for the rest
 pub total-filter : {X : Type 0} (p : X → Bool) (f : X → ℤ) (xs : List X) →
     total f (filter p xs) ≡ total (λ x. cond (p x) (f x) (pos 0)) xs
 total-filter p f [] = refl
@@ -59,7 +59,7 @@ total-parts f p (x ∷ xs) =
       | false ↦ omega (arith, ints)
     ]
 
--- the sum is the one of what is above zero, less the one of what is below
+-- the sum is that of the positive parts minus that of the negative parts
 pub total-difference : {X : Type 0} (f : X → ℤ) (xs : List X) → up (total f xs) + sum_by (λ x. down (f x)) xs ≡ down
     (total f xs) + sum_by (λ x. up (f x)) xs
 total-difference f [] = refl
@@ -69,7 +69,7 @@ total-difference f (x ∷ xs) =
     let d = sum_by-cons (λ x. down (f x)) x xs in
     omega (arith, ints)
 
--- the same elements in another order add up to the same
+-- a permutation has an equal sum
 pub total-IsPermutation : {X : Type 0} (f : X → ℤ) (xs ys : List X) → IsPermutation xs ys → total f ys ≡ total f xs
 total-IsPermutation f xs ys h =
     let e = total-difference f xs in

@@ -14,11 +14,11 @@ use Rattle.overlay_geom.proofs.Between.{without, between_without}
 use Rattle.overlay_geom.proofs.Marks.{mark_weight-or}
 use Rattle.overlay_geom.proofs.Merging.{ComesBefore, Ascends, all_joined, AllPairs-head, AllPairs-tail}
 
--- what one edge weighs
+-- the weight of one edge
 abbrev pub edge_weight : CountedEdge → ℕ
 edge_weight e = weight_of_counts e.counts
 
--- a list weighs what its first edge and the rest weigh
+-- the weight of a list is that of its first edge plus that of the rest
 pub weight-cons : (e : CountedEdge) (es : List CountedEdge) → weight (e ∷ es) ≡ edge_weight e + weight es
 weight-cons e es = sum_by-cons edge_weight e es
 
@@ -37,7 +37,7 @@ pub weight_of_joined_edge : (es : List CountedEdge) (e : Edge) → edge_weight (
     (edges_between es e)
 weight_of_joined_edge es e = weight_of_totals (edges_between es e)
 
--- a list weighs what the edges between two ends and the others weigh
+-- the weight of a list is that of the edges between two ends plus that of the others
 pub weight-parts : (es : List CountedEdge) (e : Edge) → weight (edges_between es e) + weight (without es e) ≡ weight es
 weight-parts es e = sum_by-filter_both (λ f. edge_eq (ends_of f) e) (λ f. not (edge_eq (ends_of f) e))
     (λ f. refl) edge_weight es

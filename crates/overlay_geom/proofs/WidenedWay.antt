@@ -7,7 +7,7 @@ use Rattle.overlay_geom.proofs.OnWay.{place, part_way-within}
 use mir.Syntax.{Width, w64, w128}
 use mir.Val.{hbits}
 
--- a way between coordinates of a width n, of which a part of the width k is gone
+-- a way between coordinates of a width n, with a part of the width k
 pub record Way (n k : Width) (m b : ℕ) (u v t d : ℤ) : Type 0 where
   pub from : Within m u
   pub to : Within m v
@@ -27,7 +27,7 @@ part-within b t d begun part limit = record {
   high = omega (arith, ints, limit.high);
 }
 
--- what is computed of the widened numbers is the place on the way, and lies within the coordinates' limit
+-- the number computed from the widened numbers is the place on the way, and lies within the coordinates' limit
 pub Exact-part_way : (n k : Width) (m b : ℕ) (u v t d from to part whole result : ℤ) → m < 2 ^ hbits w64 →
     b < 2 ^ hbits w128 → Way n k m b u v t d →
     from ≡ to_z n (of_z n u) → to ≡ to_z n (of_z n v) → part ≡ to_z k (of_z k t) → whole ≡ to_z k (of_z k d) →
@@ -51,11 +51,11 @@ Exact-part_way n k m b u v t d from to part whole result room wide_room way a e 
     read_whole : Exact b d (to_z w128 (of_z w128 whole))
     read_whole = Exact-widened k w128 b d whole wide_room way.whole_fits way.limit g
 
--- so it fits the coordinates' width
+-- the number fits the coordinates' width
 pub Exact-fits : (w : Width) (m : ℕ) (z computed : ℤ) → m < 2 ^ hbits w → Exact m z computed → FitsSigned w computed
 Exact-fits w m z computed room e = rw e.same (Within-fits w m z room e.within)
 
--- and comes back from its bits as it was
+-- the number comes back from its bits unchanged
 pub Exact-narrowed : (w : Width) (m : ℕ) (z computed : ℤ) → m < 2 ^ hbits w → Exact m z computed →
     to_z w (of_z w computed) ≡ z
 Exact-narrowed w m z computed room e = to_z-of_z w computed (Exact-fits w m z computed room e) ∙ e.same

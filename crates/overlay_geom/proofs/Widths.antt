@@ -1,4 +1,4 @@
--- Numbers within a limit, and what the program computes of them in a wider type.
+-- Numbers within a limit, and the program's computations with them in a wider type.
 use Rattle.std.proofs.Common.{◌≡◌, ℕ, ◌*◌, ◌<◌, ◌≤◌, ◌^◌, arith, refl, to_z, of_z, FitsSigned}
 use Rattle.std.specs.Prelude.{ℤ, pos, negsuc, ◌-ℤ◌, ◌*ℤ◌}
 use Rattle.std.specs.Int.RustNames.{unsigned_abs}
@@ -36,7 +36,7 @@ Within-times m a b u v =
 pub Within-fits : (w : Width) (m : ℕ) (z : ℤ) → m < 2 ^ hbits w → Within m z → FitsSigned w z
 Within-fits w m z room h = let small = abs-Within m z h in fits_signed_from_abs w z (omega arith)
 
--- what the program computed is the number z, within m
+-- the computed number is the number z, within m
 pub record Exact (m : ℕ) (z computed : ℤ) : Type 0 where
   pub same : computed ≡ z
   pub within : Within m z
@@ -68,7 +68,7 @@ pub Exact-times : (w : Width) (m : ℕ) (a b x y : ℤ) → m * m < 2 ^ hbits w 
 Exact-times w m a b x y room u v =
     Exact-stored w (m * m) (a *ℤ b) (x *ℤ y) room (Within-times m a b u.within v.within) (rw (u.same, v.same) refl)
 
--- what the program computes as a cross product is the cross product, and fits
+-- the number computed as a cross product is the cross product, and fits
 pub record IsCross (w : Width) (m : ℕ) (ax ay bx by computed : ℤ) : Type 0 where
   pub fits : FitsSigned w computed
   pub exact : Exact (2 * (m * m)) (ax *ℤ by -ℤ ay *ℤ bx) (to_z w (of_z w computed))

@@ -28,7 +28,7 @@ subj_weighed = record {
       record { low = omega (arith, ints); high = omega (arith, ints) };
 }
 
--- and so is that of the clip
+-- the count of the clip is at most the weight
 pub clip_weighed : IsWeighed clip_of
 clip_weighed = record {
   within = λ e. let near = within_abs e.counts.clip in
@@ -52,7 +52,7 @@ winding_by-light count weighed es p m w light e =
     let within = winding_by-within count weighed es p in
     record { low = omega (arith, ints); high = omega (arith, ints) }
 
--- and so it is at the front of one
+-- the winding at the front of a list is within the weight of the list
 pub winding_by-front : {X : Type 0} (count : CountedEdge → ℤ) → IsWeighed count →
     (h : X → CountedEdge) (xs : List X) (i : ℕ) (p : PlanePoint) (m : ℕ) (w : ℤ) → weight (map h xs) < m →
     w ≡ winding_by count (map h (take i xs)) p → Within m w

@@ -224,7 +224,7 @@ module _ (holds : ℤ → ℤ → Bool) (subj clip : CountedEdge → ℤ) (es : 
       own.1.changes)
       (no_sign f c is)
 
-  -- and steps of which some are selected wind alike
+  -- steps of which some are selected wind alike
   pub alike_above_next : (taken : List Step) → IsBalancedPart es steps taken →
       winding_under es taken n.anchor ≡ winding_over es taken n.edge
   alike_above_next taken part =

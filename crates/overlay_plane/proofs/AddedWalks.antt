@@ -96,7 +96,7 @@ module _ (es : List CountedEdge) (steps : List Step) (along : WalksAlong es step
   contour_rises walk contour g = sym (ap (λ ss. total (signed_rise g) ss) contour.whole)
       ∙ contours_are_balanced (points_of walk) g
 
-  -- so a contour has balanced counts
+  -- a contour has balanced counts
   pub contour_part : (walk : List Step) → IsContour walk → AreInside walk → IsBalancedPart es steps walk
   contour_part walk contour inside = balanced_from_rises es steps along walk inside (contour_rises walk contour)
 

@@ -172,7 +172,7 @@ vertical_below p q r level =
     not_both true s = refl
     not_both false s = refl
 
--- so a vertical step adds to no winding
+-- a vertical step adds to no winding
 pub winding_part-vertical : (p : PlanePoint) (q r : Point) → q.x ≡ r.x →
     total (winding_part p) (steps_between q r) ≡ pos 0
 winding_part-vertical p q r level = by_equal (point_eq q r)

@@ -60,7 +60,7 @@ along-reflexive e v = up_to_itself (along e v)
 along-transitive : (e : Edge) (u v w : Point) → IsUpToAlong e u v → IsUpToAlong e v w → IsUpToAlong e u w
 along-transitive e u v w = up_to_through (along e u) (along e v) (along e w)
 
--- so points are in weak order along the edge
+-- points are in weak order along the edge
 pub along-order : (e : Edge) → IsWeakOrder (comes_first e) (IsUpToAlong e)
 along-order e = record { transitive = along-transitive e; passed = first_up_to e; failed = not_first_up_to e }
 

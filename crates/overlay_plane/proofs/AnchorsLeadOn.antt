@@ -73,7 +73,7 @@ module _ (walk : List Step) (contour : IsContour walk) (s : Step) (c : Contains 
         (Each-from_all_pairs (λ t u. edge_eq (edge_of t) (edge_of u) ≡ false) walk once)
         s other_step.0 c other_step.1 other_step.3)
 
-    -- so the anchor is not vertical
+    -- the anchor is not vertical
     wide : pos 0 <ℤ width (edge_of s)
     wide = by_lt_z (pos 0) (width (edge_of s)) (λ lt. lt) (λ narrow. absurd (against narrow))
       where

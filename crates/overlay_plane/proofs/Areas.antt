@@ -25,7 +25,7 @@ rest_sum_more : (first p : Point) (ps : List Point) → rest_sum first (p ∷ ps
 rest_sum_more first p [] = omega (arith, ints)
 rest_sum_more first p (q ∷ qs) = refl
 
--- so the wrapped sum goes on
+-- the wrapped sum goes on
 pub wrapped_rest_more : (w : Width) (first : Point) (ps : List Point) (i : ℕ) (p : Point) → i < length ps →
     get_or ps i p ≡ p →
     int_wrap w (cross_of p (next_in first (drop (i + 1) ps)) +ℤ int_wrap w (rest_sum first (drop (i + 1) ps)))

@@ -61,7 +61,7 @@ module _ (holds : ℤ → ℤ → Bool) (subj clip : CountedEdge → ℤ) (es : 
       (selected_steps_of_edges holds subj clip left es))
       (selected_once holds subj clip es ruled left)).balanced g
 
-  -- and the list is an arrangement by them
+  -- the list is an arrangement by them
   pub arranged_by_signs : IsBalancedArrangement sign es
   arranged_by_signs = record {
     planar = ruled.planar;

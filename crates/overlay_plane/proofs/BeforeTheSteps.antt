@@ -47,7 +47,7 @@ module _ (es : List CountedEdge) (steps taken : List Step) (walks : WalksAlong e
   nothing_before : CountsNothingBefore (count_on taken) es q
   nothing_before e at before = unwalked_counts_nothing taken e (λ s c along. none s c (end_before q s e along before))
 
-  -- so the law of leftmost points holds of the counts of the steps
+  -- the law of leftmost points holds of the counts of the steps
   outside : IsOutsideUpTo (count_on taken) es q
   outside = nothing_before_the_leftmost (count_on taken) es
       (record { planar = walks.planar; balanced = part.balanced })
@@ -65,7 +65,7 @@ module _ (es : List CountedEdge) (steps taken : List Step) (walks : WalksAlong e
       (λ s c along. both_ways (turns_left (edge_of s) (ends_of e)) (free s c (ap (λ g. g.a) along ∙ starts))
       (ap (λ g. turns_left g (ends_of e)) along ∙ turns))
 
-  -- so the winding is 0 above the top edge
+  -- the winding is 0 above the top edge
   over_top : (e : CountedEdge) → Contains es e → e.a ≡ q → NoneTakenAbove taken q (ends_of e) →
       winding_over es taken (ends_of e) ≡ pos 0
   over_top e at starts free = outside.above_top e at starts (nothing_above e free)

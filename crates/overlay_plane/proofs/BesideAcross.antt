@@ -125,7 +125,7 @@ module _ (s : Step) (long : ¬ (s.from ≡ s.to)) where
           by false = refl
 
   module _ (taken : List Step) where
-    -- so the count along the edge of s is how often s is taken minus how often it is taken back, with the sign of s
+    -- the count along the edge of s is how often s is taken minus how often it is taken back, with the sign of s
     count_along-is : count_along taken (edge_of s) ≡ sign_of s *ℤ
         (times_held taken s -ℤ times_held taken (reversed_step s))
     count_along-is = total-same counted

@@ -81,7 +81,7 @@ module _ (es : List CountedEdge) (e g : CountedEdge) (at_e : Contains es e) (at_
       (subst (λ (k : Edge). is_under k (ends_of g) x (pos 1) ≡ true) (edge_eq-same (ends_of f) (ends_of g) same)
       (and_parts (covers (ends_of f) x (pos 1)) (is_under (ends_of f) (ends_of g) x (pos 1)) t).1)))
 
-  -- so the sums are those under g, of g, and between
+  -- the sums are those under g, of g, and between
   pub under_parted : (count : CountedEdge → ℤ) → HasDistinctEnds es →
       total_under ends_of count es (ends_of e) x (pos 1) ≡
       (total_under ends_of count es (ends_of g) x (pos 1) +ℤ count g) +ℤ total_taken is_between count es

@@ -131,13 +131,13 @@ module _ (filled : Hand) (contours : List Contour) (numbered : AreNumbers 0 cont
         by (own_hole n) is hole same = none-some n (sym same)
         by free_hole is hole same = none_lost at.0 b.contour at.1 is (at.2 ∙ same)
 
-    -- so the shapes have all of the contours' parts
+    -- the shapes have all of the contours' parts
     pub all_parts : {Y : Type 0} (f : List Step → List Y) →
         IsPermutation (flat_map f (walks_in contours)) (flat_map f (walks_of (shapes_bound bound)))
     all_parts f = subst (λ ys. IsPermutation ys (flat_map f (walks_of (shapes_bound bound)))) (bound_parts f)
         (parts_alike f bound numbered_again below_again has_number)
 
--- so the shapes have each contour once
+-- the shapes have each contour once
 pub shapes_have_each_walk : ShapesHaveEachWalk
 shapes_have_each_walk filled contours numbered shapes found none_lost =
     subst (λ ws. IsPermutation ws walks) (single_parts (walks_in contours))

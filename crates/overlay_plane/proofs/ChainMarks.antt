@@ -45,7 +45,7 @@ module _ (old : List CountedEdge) where
   own_edge : (e : CountedEdge) → point_lt e.a e.b ≡ true → edge_of (step_along e) ≡ ends_of e
   own_edge e runs = ap (λ t. edge_by t (step_along e)) runs
 
-  -- so each edge makes its own marks
+  -- each edge makes its own marks
   make_at_first : IsForwardBy ends_of old → MakeMarks old own_chain old
   make_at_first forward = record {
     made = λ d f has. record {

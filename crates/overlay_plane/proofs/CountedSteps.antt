@@ -60,7 +60,7 @@ module _ (es : List CountedEdge) (steps : List Step) (walks : WalksAlong es step
   taken_as_factor true z = solve 1 (λ a. a ≗ a ⊗ number (pos 1)) tt z
   taken_as_factor false z = sym (*ℤ-zero z)
 
-  -- so the steps wind as their counts on the edges
+  -- the steps wind as their counts on the edges
   pub winding_counted : (p : PlanePoint) → winding taken p ≡ winding_by (count_on taken) es p
   winding_counted p =
       total-same (λ s. cond (is_strictly_below (edge_of s) p) (sign_of s) (pos 0))

@@ -125,7 +125,7 @@ module _ (es : List CountedEdge) (forward : IsForwardBy ends_of es) (e : Counted
             meetings.only from.2,
       )
 
-  -- so each cut is on e
+  -- each cut is on e
   pub cut_on : (p : PlanePoint) → Contains (cuts_of es e) p → IsOn (ends_of e) p
   cut_on p at_p = (cut_meets p at_p).3.common.0
 

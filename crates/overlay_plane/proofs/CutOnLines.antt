@@ -39,7 +39,7 @@ vertical_goes_up e forward level = ⊎_elim (λ l. let less = lt_from_test e.a.x
     (λ r. lt_from_test e.a.y e.b.y (and_parts (int_eq e.a.x e.b.x) (int_lt e.a.y e.b.y) r).1)
     (or_cases (int_lt e.a.x e.b.x) (int_eq e.a.x e.b.x && int_lt e.a.y e.b.y) forward)
 
--- so the points on its line have that x-coordinate
+-- the points on its line have that x-coordinate
 on_vertical_line : (e : Edge) (v : Point) → point_lt e.a e.b ≡ true → e.a.x ≡ e.b.x → IsOnLine e v → v.x ≡ e.a.x
 on_vertical_line e v forward level on =
     let identity = solve 6 (λ ax ay bx by vx vy. formE ax ay bx by vx vy (number (pos 1)) ≗ (by ⊖ ay) ⊗ (ax ⊖ vx) ⊕

@@ -35,7 +35,7 @@ by_taken taken s = by (is_step_of taken s) refl
     by true e = inl ((is_step_of_decides taken s).0 e)
     by false e = inr e
 
--- what is left is one of the steps, and not taken
+-- the rest is one of the steps, and not taken
 pub left_parts : (steps taken : List Step) (s : Step) → Contains (without steps taken) s →
     Contains steps s × (is_step_of taken s ≡ false)
 left_parts steps taken s c =

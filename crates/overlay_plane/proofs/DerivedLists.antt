@@ -1,4 +1,4 @@
--- Lists of edges with what they carry: shuffled and merged by runs, and given part by part.
+-- Lists of edges with their values: shuffled and merged by runs, and given part by part.
 use Rattle.std.proofs.Common.{List, [], ◌∷◌, ◌++◌, Contains, sym, subst, append_assoc}
 use Rattle.std.proofs.lemmas.List.{append-nil}
 use Rattle.overlay_plane.specs.DerivedData.{AreGiven, none, next}

@@ -75,7 +75,7 @@ module _ (filled : ℤ → Bool) (es : List CountedEdge) (fillable : IsFillable 
       (ap filled (sym (winding_inside shape es (arranged_by_subject (λ w z. filled w) shape shape es ruled) f c p on
       no_end)) ∙ fills)))
 
-  -- so a point of both closed regions is where the edges tell
+  -- a point of both closed regions is where the edges tell
   from_point : (p : PlanePoint) → IsInClosedRegion filled es subj_of p → IsInClosedRegion filled es clip_of p →
       EdgeOrEnd
   from_point p (inl s) (inl k) =

@@ -152,7 +152,7 @@ ends_on_side e f wide meet ia ib = by_sign (side e (in_plane f.a))
     crossed high low = let other = below_with e f f.b f.a wide meet (λ s t ps pt. (mixed_on f s t ps pt).1) ib ia low in
         omega linear
 
--- so the test for being below e has one answer at both ends
+-- the test for being below e has one answer at both ends
 pub ends_alike : (e f : Edge) → pos 0 <ℤ width e → MeetInEnds e f → IsInner e f.a.x (pos 1) → IsInner e f.b.x (pos 1) →
     int_lt (side e (in_plane f.a)) (pos 0) ≡ int_lt (side e (in_plane f.b)) (pos 0)
 ends_alike e f wide meet ia ib = ⊎_elim below above (ends_on_side e f wide meet ia ib)

@@ -72,7 +72,7 @@ Contains-from_filter p xs x c = (
 pub Contains-map : {X Y : Type 0} (f : X → Y) (xs : List X) (x : X) → Contains xs x → Contains (map f xs) (f x)
 Contains-map f xs x c = Contains-mapped f xs c.0 x c.1 (sym c.2)
 
--- and an entry of the mapped list is what some entry is mapped to
+-- an entry of the mapped list is what some entry is mapped to
 pub Contains-from_map : {X Y : Type 0} (f : X → Y) (xs : List X) (y : Y) → Contains (map f xs) y →
     (x : X) × Contains xs x × (f x ≡ y)
 Contains-from_map f [] y c = elim c.1 [ ]
@@ -95,7 +95,7 @@ Contains-flat_map f (y ∷ ys) x v c h =
       | inr later ↦ Contains-append_right (f y) (flat_map f ys) v (Contains-flat_map f ys x v later h)
     ]
 
--- and an entry of that list is one of some entry's part
+-- an entry of that list is one of some entry's part
 pub Contains-from_flat_map : {X Y : Type 0} (f : X → List Y) (xs : List X) (v : Y) → Contains (flat_map f xs) v →
     (x : X) × Contains xs x × Contains (f x) v
 Contains-from_flat_map f [] v c = elim c.1 [ ]

@@ -107,7 +107,7 @@ module _ (filled : Hand) (contours : List Contour) (bindable : CanBeBound filled
           (false_from_ne_true (point_lt h.point a.a) (λ less. anchored.leftmost h.lowest c
           (end_before h.lowest a.a (ap (λ (p : Point). point_lt p a.a) h.lowest_starts ∙ less))))
 
-      -- so the other cannot come before it by points
+      -- the other cannot come before it by points
       earlier : point_lt after.first.a a.a ≡ true → ⊥
       earlier less = h.none_before k.0 (own_inside k.0 k.1) (end_before k.0 h.point
           (ap (λ (e : Edge). point_lt e.a h.point) k.2

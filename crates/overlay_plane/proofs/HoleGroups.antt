@@ -31,7 +31,7 @@ left_one_way : (e f : Edge) → turns_left e f ≡ true → turns_left f e ≡ f
 left_one_way e f turns = test_from_ge (pos 0) (edge_turn f e)
     (let up = lt_from_test (pos 0) (edge_turn e f) turns in let back = edge_turn_exchanged e f in omega linear)
 
--- where the winding is one number on the left and the right of a step, it is so on its filled and its empty side
+-- where the winding is constant on the left and the right of a step, it is so on its filled and its empty side
 sides_alike : (filled : Hand) (es : List CountedEdge) (taken : List Step) (s : Step) →
     winding_beside left es taken s ≡ winding_beside right es taken s →
     winding_beside filled es taken s ≡ winding_beside (other_hand filled) es taken s
@@ -135,7 +135,7 @@ module _ (es : List CountedEdge) (steps : List Step) (along : WalksAlong es step
     abbrev AreApart : Type 0
     AreApart = (s : Step) → Contains second s → ¬ (Contains first s)
 
-    -- so the winding of the first is 0 beside the second, if that starts no later
+    -- the winding of the first is 0 beside the second, if that starts no later
     zero_beside : AreApart → is_hole filled second ≡ true → StartsNoLater (edge_of (start_of first))
         (edge_of (start_of second)) →
         (s : Step) → Contains second s → winding_beside (other_hand filled) es first s ≡ pos 0

@@ -104,7 +104,7 @@ module _ (es : List CountedEdge) (filled : Hand) (steps walk : List Step)
       start start_taken)
       (filled_over filled es walk start (first_filled filled walk hole) ∙ zero_over)
 
-  -- and the edge at its anchor, below which it is 0, is not filled above
+  -- the edge at its anchor, below which it is 0, is not filled above
   pub empty_above_anchor : (e : Edge) → IsAnchor walk e → HasEmptyAbove filled walk e
   empty_above_anchor e anchored = record {
     step = step;

@@ -65,7 +65,7 @@ module _ (es : List CountedEdge) (steps : List Step) (along : WalksAlong es step
       (alternating_steps_lead_on group group_alternates (other_hand filled)) walk orbit) s c)
       (filled_zero s (in_group s c))
 
-  -- and the edge at its anchor, below which it is 0, is not filled above
+  -- the edge at its anchor, below which it is 0, is not filled above
   pub empty_above_in_group : (e : Edge) → IsAnchor walk e → HasEmptyAbove filled walk e
   empty_above_in_group e anchored = record {
     step = step;

@@ -38,7 +38,7 @@ module _ (es : List CountedEdge) (forward : IsForwardBy ends_of es) where
           let cut = Contains-from_map nearest_point (cuts_of es e) v rounded in
           inr (e, cut.0, at_e, cut_meets es forward e at_e cut.0 cut.1, cut.2)
 
-  -- so each computed point is hot
+  -- each computed point is hot
   pub computed_is_hot : (v : Point) → Contains (hot_points es) v → IsHot es v
   computed_is_hot v at_v =
       let from = Contains-from_flat_map added_by es v at_v in
@@ -72,7 +72,7 @@ module _ (es : List CountedEdge) (forward : IsForwardBy ends_of es) where
       subst (Contains (hot_points es)) (sym (nearest_point-rounding.one p cut.0 cut.2))
       (end_or_cut_is_computed e (nearest_point cut.0) at_e (cut_is_computed es forward e at_e cut.0 cut.1))
 
-  -- so each hot point is computed
+  -- each hot point is computed
   pub hot_is_computed : (v : Point) → IsHot es v → Contains (hot_points es) v
   hot_is_computed v (inl end) =
       let of = Contains-from_any (λ e. (v ≡ e.a) ⊎ (v ≡ e.b)) es end in

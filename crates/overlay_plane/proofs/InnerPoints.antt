@@ -89,7 +89,7 @@ below_whole v p at g = same_tests (is_strictly_below g p) (is_strictly_below g (
         (test_from_le (g.a.x *ℤ p.d) p.x (omega linear)) (test_from_lt p.x (g.b.x *ℤ p.d) (omega linear)))
         (test_from_lt (pos 0) (side g p) (omega linear))
 
--- so the winding there is that at the whole point
+-- the winding there is that at the whole point
 pub winding_at_whole : (count : CountedEdge → ℤ) (es : List CountedEdge) (v : Point) (p : PlanePoint) → IsAt v p →
     winding_by count es p ≡ winding_by count es (in_plane v)
 winding_at_whole count es v p at = total-same (λ f. cond (is_strictly_below (ends_of f) p) (count f) (pos 0))

@@ -63,7 +63,7 @@ module _ (steps : List Step) (alternates : Alternates steps) (filled : Hand) (gr
         let own = Contains-from_filter test groups found.0 found.1 in
         (found.0, own.0, own.1, found.2)
 
-    -- and each step of such a group is one of them
+    -- each step of such a group is one of them
     pub in_passing : (group : List Step) → Contains groups group → test group ≡ true → (s : Step) → Contains group s →
         Contains passing s
     in_passing group at passes s c = Contains-flat_map (λ (w : List Step). w) (filter test groups) group s

@@ -23,7 +23,7 @@ module _ {X : Type 0} (xs : List X) (d : X) where
   pub item_round-within : (k : ℕ) → item_round xs d (k % length xs) ≡ item_round xs d k
   item_round-within k = ap (λ j. get_or xs j d) (mod-mod k (length xs))
 
-  -- and the item after it is the one after that
+  -- the item after it is the one after that
   pub item_round-next : (k : ℕ) → item_round xs d (k % length xs + 1) ≡ item_round xs d (k + 1)
   item_round-next k = ap (λ j. get_or xs j d) (mod-add-mod k (length xs) 1)
 

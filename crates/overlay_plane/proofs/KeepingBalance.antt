@@ -149,7 +149,7 @@ pieces_rise count points each g e =
     exchanged : (s c r : ℤ) → (s *ℤ c) *ℤ r ≡ c *ℤ (s *ℤ r)
     exchanged = solve 3 (λ s c r. (s ⊗ c) ⊗ r ≗ c ⊗ (s ⊗ r)) tt
 
--- so a list whose edges are cut is balanced
+-- a list whose edges are cut is balanced
 balanced_cut : (count : CountedEdge → ℤ) (points : CountedEdge → List Point) (es : List CountedEdge) →
     ((e : CountedEdge) (s : Step) → count (piece_along e s) ≡ sign_of s *ℤ count e) →
     IsBalanced ends_of count es → IsBalanced ends_of count (flat_map (pieces_through points) es)

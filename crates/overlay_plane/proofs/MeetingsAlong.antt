@@ -55,7 +55,7 @@ end_held e f v along at =
     let between = (Decides-is_between e v).0 parts.1 in
     (end, record { on_line = end_on_line e f v along end; from = between.0; to = between.1 })
 
--- and each of those is among them
+-- each of those is among them
 held_end : (e f : Edge) (v : Point) → IsOneOfEnds f v → IsHeldBy e v → Contains (ends_between e f) v
 held_end e f v end held = Contains-filter (is_between e) (f.a ∷ f.b ∷ []) v (listed end)
     ((Decides-is_between e v).1 (held.from, held.to))

@@ -135,7 +135,7 @@ pub record IsBelow (e f : Edge) : Type 0 where
   pub b_below_a : e.b.y <ℤ f.a.y
   pub b_below_b : e.b.y <ℤ f.b.y
 
--- so no point of e is on f
+-- no point of e is on f
 below_have_no_common : (e f : Edge) (p : PlanePoint) → IsBelow e f → ¬ (IsCommon e f p)
 below_have_no_common e f p below (on_e, on_f) = by on_e.in_y on_f.in_y
   where

@@ -65,7 +65,7 @@ module _ (e : Edge) (before : IsBefore e.a e.b) (p : PlanePoint) (on : IsOn e p)
     nearest-between p.y e.a.y e.b.y p.d p.positive on.in_y,
   )
 
-  -- and the line passes the test
+  -- the line passes the test
   line_passes : line_meets e v ≡ true
   line_passes = by_lt_z e.a.x e.b.x (λ wide. by_lt_z e.a.y e.b.y (rising wide) (falling wide)) upright
     where

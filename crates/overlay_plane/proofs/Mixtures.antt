@@ -69,7 +69,7 @@ mixed_to s t v xa da xb db s_nonneg t_nonneg at_a at_b =
     let identity = solve 5 (λ s t v da db. v ⊗ (s ⊗ da ⊕ t ⊗ db) ≗ s ⊗ (v ⊗ da) ⊕ t ⊗ (v ⊗ db)) tt s t v da db in
     omega linear
 
--- so the mixture of two numbers between bounds in order is between them
+-- the mixture of two numbers between bounds in order is between them
 mixed_in_order : (s t u v xa da xb db : ℤ) → pos 0 ≤ℤ s → pos 0 ≤ℤ t → pos 0 <ℤ da → pos 0 <ℤ db → u ≤ℤ v →
     IsBetween xa (u *ℤ da) (v *ℤ da) → IsBetween xb (u *ℤ db) (v *ℤ db) →
     IsBetween (s *ℤ xa +ℤ t *ℤ xb) (u *ℤ (s *ℤ da +ℤ t *ℤ db)) (v *ℤ (s *ℤ da +ℤ t *ℤ db))

@@ -89,7 +89,7 @@ within_mixture k m a b n da db u v xa xb x d w s_nonneg t_nonneg g_nonneg sum me
     (reach_mixed k (a *ℤ db) (b *ℤ da) (pos 2 *ℤ u *ℤ da) xa da (pos 2 *ℤ v *ℤ db) xb db s_nonneg t_nonneg at_a at_b))
     close
 
--- so the whole point is near
+-- the whole point is near
 pub near_between : (e f : Edge) (p : PlanePoint) (k m : ℕ) (w : Point) → MeanOfEnds f p → IsNear k e f.a →
     IsNear k e f.b → IsCloseTo m w p → IsNear (m + k) e w
 near_between e f p k m w mean near_a near_b close = record {

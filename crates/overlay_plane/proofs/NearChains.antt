@@ -47,7 +47,7 @@ IsNearStep k e s = IsBetweenGood (IsNear k e) s
 near_back : (k : ℕ) (e : Edge) (s : Step) → IsNearStep k e s → IsNearStep k e (reversed_step s)
 near_back k e s h = record { long = long_back s h.long; from = h.to; to = h.from }
 
--- and the ends of its edge are those of the step
+-- the ends of its edge are those of the step
 near_ends : (k : ℕ) (e : Edge) (s : Step) → IsNearStep k e s → IsNear k e (edge_of s).a × IsNear k e (edge_of s).b
 near_ends k e s h = by (is_forward s)
   where
@@ -73,7 +73,7 @@ module _ (m k : ℕ) (e : Edge) (old : List CountedEdge) (r : Round) (round : Is
       at p here = near_between e (ends_of f) p k m (r.whole_at p)
           (mean_of_ends (ends_of f) p forward (round.on f c p here)) near_a near_b (takes f c p here)
 
-  -- so the chain of the edge of a near step is near
+  -- the chain of the edge of a near step is near
   chain_near : (s : Step) (f : CountedEdge) → Contains r.edges f → ends_of f ≡ edge_of s → IsNearStep k e s →
       All (IsNearStep (m + k) e) (chain_of r f)
   chain_near s f c is h = good_through (IsNear (m + k) e) f.a (whole_cuts r f ++ f.b ∷ []) (nearer m k e f.a near_a)

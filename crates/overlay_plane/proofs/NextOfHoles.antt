@@ -77,7 +77,7 @@ module _ (holds : ℤ → ℤ → Bool) (subj clip : CountedEdge → ℤ) (es : 
           (and_from (covers h anchor.a.x (pos 1)) (covers found.0 anchor.a.x (pos 1)) (below_covers h d low) over_found)
           under))
 
-  -- so a hole has a next walk, by each of its anchors
+  -- a hole has a next walk, by each of its anchors
   pub next_of_hole : is_hole filled hole ≡ true → (next : List Step) × (n : IsNextWalk filled walks hole next)
       × (n.anchor ≡ anchor)
   next_of_hole is =

@@ -70,7 +70,7 @@ module _ (steps : List Step) (alternates : Alternates steps) (hand : Hand) where
           not_both hand s.to s.from u.to t.from (alternates.long s c) (arrives_after s u t c from_s t_arrives different)
           back
 
-  -- so the steps lead on by the hand
+  -- the steps lead on by the hand
   pub leads_on : LeadsOn steps hand
   leads_on = record {
     long = alternates.long;

@@ -99,7 +99,7 @@ module _ (es : List CountedEdge) (steps : List Step) (along : WalksAlong es step
       (λ is. subst (λ h. winding_beside h es taken s ≡ once_round h) is (beside s c))
       (λ is. subst (λ h. winding_beside h es taken s ≡ once_round h) is (beside s c))
 
-  -- so the count on each edge is its sign, once round
+  -- the count on each edge is its sign, once round
   sign_of_edge : (e : CountedEdge) →
       count_on taken e ≡ once_round filled *ℤ selected_sign (is_once filled) (count_on taken) (count_on taken) es e
   sign_of_edge e = ⊎_elim

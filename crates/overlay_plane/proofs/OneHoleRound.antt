@@ -26,7 +26,7 @@ use Rattle.overlay_plane.proofs.PlacesOfContours.{Contains-place}
 use Rattle.std.proofs.lemmas.Option.{same_Some}
 use Rattle.overlay_plane.proofs.WalkedEdges.{one_anchor, one_next_edge}
 
--- what stands at a place is one
+-- the entry at a place is one
 pub same_at : {X : Type 0} (xs : List X) (i : ℕ) (x y : X) → slice_get xs i ≡ Some x → slice_get xs i ≡ Some y → x ≡ y
 same_at xs i x y at_x at_y = sym (get_or_from_slice_get xs i x x at_x) ∙ get_or_from_slice_get xs i y x at_y
 

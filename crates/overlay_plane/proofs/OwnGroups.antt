@@ -86,7 +86,7 @@ module _ (es : List CountedEdge) (steps : List Step) (along : WalksAlong es step
       (λ over. once_not_none filled (sym (group_once s is.among) ∙ filled_over filled es group s over
       ∙ none_over_start es steps group along alternates filled whole_part s is))
 
-  -- and a walk in it that has a start of it winds once on the filled sides of the group
+  -- a walk in it that has a start of it winds once on the filled sides of the group
   pub outline_once : (walk : List Step) → HasStart (other_hand filled) group walk → (t : Step) → Contains group t →
       winding_beside filled es walk t ≡ once_round filled
   outline_once walk has t c =

@@ -10,11 +10,11 @@ use Rattle.overlay_plane.specs.RoledContours.{Role, outline, own_hole, free_hole
 use Rattle.overlay_plane.specs.BoundContours.{walks_in, known_in}
 use Rattle.std.proofs.lemmas.Option.{same_Some}
 
--- what stands at a place is an entry
+-- the entry at a place is an entry
 pub Contains-place : {X : Type 0} (xs : List X) (i : ℕ) (x : X) → slice_get xs i ≡ Some x → Contains xs x
 Contains-place xs i x at = (i, slice_get_within xs i x at, get_or_from_slice_get xs i x x at)
 
--- what stands at a place of a mapped list is what the entry there is mapped to
+-- the entry at a place of a mapped list is what the entry there is mapped to
 pub place_mapped : {X Y : Type 0} (f : X → Y) (xs : List X) (i : ℕ) (y : Y) → slice_get (map f xs) i ≡ Some y →
     (x : X) × (slice_get xs i ≡ Some x) × (f x ≡ y)
 place_mapped f [] i y at = absurd (none-some y at)

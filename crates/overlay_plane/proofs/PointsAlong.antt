@@ -67,7 +67,7 @@ comes_first-order e = record {
     ranks : IsStrictWeakOrder (λ v w. is_lt (order_along (int_le e.a.y e.b.y) v w))
     ranks = ranks_by (order_along-total (int_le e.a.y e.b.y)) (λ v. v)
 
--- and two of which neither comes first are equal
+-- two of which neither comes first are equal
 pub comes_first-ties : (e : Edge) (v w : Point) → comes_first e v w ≡ false → comes_first e w v ≡ false → v ≡ w
 comes_first-ties e v w forth back =
     let t = int_le e.a.y e.b.y in

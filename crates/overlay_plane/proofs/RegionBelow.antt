@@ -40,7 +40,7 @@ below_under f e p meet over_f over_e under low =
     spans : (g : Edge) → covers g p.x p.d ≡ true → Spans g p.x p.d
     spans g over = record { from = covers_from g p.x p.d over; to = let r = covers_to g p.x p.d over in omega linear }
 
--- so the edges strictly below a point are taken with all under them
+-- the edges strictly below a point are taken with all under them
 pub takes_below : {X : Type 0} (ends : X → Edge) (xs : List X) → IsSettledBy ends xs → (p : PlanePoint) →
     TakesDownward ends xs p.x p.d (λ e. is_strictly_below (ends e) p)
 takes_below {X} ends xs settled p = record {

@@ -18,7 +18,7 @@ steps_of_contours [] each = refl
 steps_of_contours (w ∷ ws) each = ap₂ (λ a b. a ++ b) (All-head IsContour w ws each).whole
     (steps_of_contours ws (All-tail IsContour w ws each))
 
--- so the points of the contours wind as the selected steps
+-- the points of the contours wind as the selected steps
 pub results_wind : ResultsWind
 results_wind holds subj clip es ruled filled hand_of walks cut keep result shown p =
     thinned_contours_wind_alike keep (map points_of walks) result shown p

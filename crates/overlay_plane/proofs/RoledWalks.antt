@@ -49,7 +49,7 @@ module _ (filled : Hand) where
       by true rest = rest n
       by false rest = rest (suc n)
 
-  -- and a contour whose shape is to be found is a hole among the walks
+  -- a contour whose shape is to be found is a hole among the walks
   pub free_hole_at : (n : ℕ) (walks : List (List Step)) (i : ℕ) (c : Contour) →
       slice_get (contours_from filled n walks) i ≡ Some c →
       c.role ≡ free_hole → (slice_get walks i ≡ Some c.steps) × (is_hole filled c.steps ≡ true)

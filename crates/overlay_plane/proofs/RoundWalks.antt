@@ -12,7 +12,7 @@ module _ (begins ends : Step → ℤ) where
   abbrev AreLinked : List Step → Type 0
   AreLinked ss = (k : ℕ) → suc k < length ss → begins (get_or ss (suc k) no_step) ≡ ends (get_or ss k no_step)
 
-  -- so the sum is what the first begins with, less what the last ends with
+  -- the sum is what the first begins with, less what the last ends with
   linked_total : (s : Step) (ss : List Step) → AreLinked (s ∷ ss) →
       total (λ t. begins t -ℤ ends t) (s ∷ ss) ≡ begins s -ℤ ends (get_or (s ∷ ss) (length ss) no_step)
   linked_total s [] linked = +ℤ_idr (begins s -ℤ ends s)

@@ -112,7 +112,7 @@ module _ (e g : Edge) (forward_e : IsForward e) (forward_g : IsForward g) (level
       rise_up h forward upright s = let r = rises_upright h forward (omega linear) in omega linear
 
   module _ (meets : edge_eq e g ≡ false → MeetInEnds e g) where
-    -- two that start in one point are one edge
+    -- two that start in one point are equal
     pub same_from_start : e.a ≡ g.a → edge_eq e g ≡ true
     same_from_start same = by (edge_eq e g) refl
       where
@@ -128,7 +128,7 @@ module _ (e g : Edge) (forward_e : IsForward e) (forward_g : IsForward g) (level
             (λ at. one (sym (at_whole g.b e.b at))) (meets apart (in_plane e.b) (end_on e, on_g)).1)
             (start_reaches same)
 
-    -- two that end in one point are one edge
+    -- two that end in one point are equal
     pub same_from_end : e.b ≡ g.b → edge_eq e g ≡ true
     same_from_end same = by (edge_eq e g) refl
       where

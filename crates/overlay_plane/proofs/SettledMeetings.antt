@@ -72,7 +72,7 @@ end_of_sooner e f e_forward f_forward along alike sooner begins = by (alike f.b 
         (ap (λ (v : Point). v.y) (sym same)))
     by (inr at) = at_whole e.b f.b at
 
--- so two overlapping edges of which each end on the other is an end of both are equal
+-- two overlapping edges of which each end on the other is an end of both are equal
 one_edge : (e f : Edge) → IsBefore e.a e.b → IsBefore f.a f.b → IsAlong e f → EndsAlike e f → IsBefore f.a e.b →
     IsBefore e.a f.b → e ≡ f
 one_edge e f e_forward f_forward along alike f_begins e_begins = λ i. record { a = same_start i; b = same_end i }

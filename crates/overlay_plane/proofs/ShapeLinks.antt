@@ -129,7 +129,7 @@ place_of_child filled cs stand l link =
 own_same : (m n : ℕ) → own_hole m ≡ own_hole n → m ≡ n
 own_same m n e = same_Some m n (ap stands_in e)
 
--- so a link is told by its child
+-- a link is told by its child
 pub child_once : (filled : Hand) (cs : List Contour) → CanBeBound filled (walks_in cs) → AreInShapes cs →
     (k l : ChildLink) → IsLink filled cs k → IsLink filled cs l → k.child_shape ≡ l.child_shape → k ≡ l
 child_once filled cs can stand k l of_k of_l same =

@@ -112,7 +112,7 @@ module _ (holds : ℤ → ℤ → Bool) (subj clip : CountedEdge → ℤ) (es : 
   shuffled = subst (IsPermutation steps) (steps_of_all (shapes_bound bound) all_contours)
       (each_step holds subj clip es filled in_groups keeps contours kept shapes found all)
 
-  -- so each of them has each of its steps once
+  -- each of them has each of its steps once
   once_in : (shape : List (List Step)) → Contains (shapes_bound bound) shape → HasEachOnce (all_steps shape)
   once_in shape c = AllPairs-from_each Differ (all_steps shape)
       (Each-part Differ (all_steps shape) (all_steps (walks_of (shapes_bound bound)))

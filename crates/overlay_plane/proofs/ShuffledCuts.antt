@@ -73,7 +73,7 @@ orbit_alike xs ys same hand walk orbit = record {
           (same.1 u c));
     }
 
--- what is left when some are taken is the same
+-- the rest when some are taken is the same
 without_alike : (xs ys : List Step) → HaveSame xs ys → (taken : List Step) →
     HaveSame (without xs taken) (without ys taken)
 without_alike xs ys same taken = (

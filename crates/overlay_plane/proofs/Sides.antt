@@ -113,7 +113,7 @@ module _ (e : Edge) (p : PlanePoint) (on : side e p ≡ pos 0) (inner : IsInner 
       by true over = tests (edge_eq e f) refl over
       by false over = refl
 
-  -- so the winding there is the sum of the counts under e
+  -- the winding there is the sum of the counts under e
   pub total_below-inner : {X : Type 0} (ends : X → Edge) (count : X → ℤ) (xs : List X) → MeetsAll ends xs e →
       total_below ends count xs p ≡ total_under ends count xs e p.x p.d
   total_below-inner ends count xs meets = total-same (λ f. cond (is_strictly_below (ends f) p) (count f) (pos 0))

@@ -30,7 +30,7 @@ one_entry_of (x ∷ xs) h e f at_e at_f same = ⊎_elim
     (λ later_f. one_entry_of xs h.1 e f later_e later_f same) (Contains-cases x xs f at_f))
     (Contains-cases x xs e at_e)
 
--- and a sum over these is one term
+-- a sum over these is one term
 single_total_of : (es : List CountedEdge) → Each Differ es → (c : CountedEdge → ℤ) (e : CountedEdge) → Contains es e →
     total (λ f. cond (edge_eq (ends_of f) (ends_of e)) (c f) (pos 0)) es ≡ c e
 single_total_of [] h c e at = elim at.1 [ ]

@@ -155,7 +155,7 @@ module _ (old : List CountedEdge) (r : Round) (forward : IsForwardBy ends_of old
         ∙ ap (steps_through (nearest_point (in_plane e.a)))
         (sym (map-append nearest_point (r.cuts e) (in_plane e.b ∷ [])))
 
-    -- so each of its steps is that of a piece
+    -- each of its steps is that of a piece
     pub step_of_snap : (s : Step) → Contains (chain_of r e) s → IsSnapStep r s
     step_of_snap s at =
         let found = step_of_neighbours IsUpToPlace place_up_to_itself nearest_point (in_plane e.a) later_stops

@@ -140,7 +140,7 @@ module _ (old : List CountedEdge) (r : Round) (forward : IsForwardBy ends_of old
           refl,
         )
 
-    -- so steps that meet share an end
+    -- steps that meet share an end
     share_an_end : MeetingStepsPassPixels → StepsMeet p q k l → ShareAnEnd (step_near p q) (step_near k l)
     share_an_end core meet = elim (core p q k l meet) [
       | inl pieces ↦ by_test _ (Decides-are_along (ends_of e) (ends_of f)) (λ along. ends_of_overlap along pieces)

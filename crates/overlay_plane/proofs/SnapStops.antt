@@ -160,7 +160,7 @@ module _ (r : Round) (rounding : (p : PlanePoint) → r.whole_at p ≡ nearest_p
   rounded_places = map-append nearest_point (r.cuts e) (in_plane e.b ∷ [])
       ∙ ap₂ (λ f v. map f (r.cuts e) ++ v ∷ []) (λ i p. sym (rounding p) i) (nearest_itself e.b)
 
-  -- so the steps are its chain
+  -- the steps are its chain
   pub rounded_chain-is : rounded_chain r e ≡ chain_of r e
   rounded_chain-is = ap₂ steps_through (nearest_itself e.a) rounded_places
 
@@ -171,7 +171,7 @@ module _ (r : Round) (rounding : (p : PlanePoint) → r.whole_at p ≡ nearest_p
         (All-append (IsOn (ends_of e)) (r.cuts e) (in_plane e.b ∷ []) on
         (All-cons (IsOn (ends_of e)) (in_plane e.b) [] (end_on (ends_of e)) (All-nil (IsOn (ends_of e)))))
 
-    -- so each point through which the chain leads is the one nearest a point of the edge
+    -- each point through which the chain leads is the one nearest a point of the edge
     pub rounded_after : All (IsRounded (ends_of e)) (map nearest_point (places_after r e))
     rounded_after = All-map (IsRounded (ends_of e)) nearest_point (places_after r e)
         (All-weaker (IsOn (ends_of e)) (λ p. IsRounded (ends_of e) (nearest_point p)) (λ p at. (p, at, refl))
@@ -179,7 +179,7 @@ module _ (r : Round) (rounding : (p : PlanePoint) → r.whole_at p ≡ nearest_p
         (All-append (IsOn (ends_of e)) (r.cuts e) (in_plane e.b ∷ []) on
         (All-cons (IsOn (ends_of e)) (in_plane e.b) [] (end_on (ends_of e)) (All-nil (IsOn (ends_of e))))))
 
-    -- and each step leads from one to another
+    -- each step leads from one to another
     pub chain_between_rounded : All (IsBetweenGood (IsRounded (ends_of e))) (chain_of r e)
     chain_between_rounded = subst (All (IsBetweenGood (IsRounded (ends_of e)))) rounded_chain-is
         (good_through (IsRounded (ends_of e)) (nearest_point (in_plane e.a)) (map nearest_point (places_after r e))

@@ -67,7 +67,7 @@ mean_turned f q m =
       mean_y = omega linear;
     }
 
--- so a point of a step is a mean of its ends, whichever way the step leads
+-- a point of a step is a mean of its ends, whichever way the step leads
 mean_of_step : (f : Edge) (q : PlanePoint) → point_eq f.a f.b ≡ false → IsOn f q → MeanOfEnds f q
 mean_of_step f q long on = by (point_lt f.a f.b) refl
   where

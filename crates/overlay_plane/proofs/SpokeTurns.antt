@@ -51,7 +51,7 @@ module _ (v p q : Point) (e g : Edge) (he hg : Bool) (at_p : IsAlong v p e he) (
   dot_is = ap₂ (λ a b. a +ℤ b) (ap₂ (λ a b. a *ℤ b) at_p.across at_q.across) (ap₂ (λ a b. a *ℤ b) at_p.up at_q.up)
       ∙ dotted he hg (width e) (rise e) (width g) (rise g)
 
-  -- so the part of a turn is known by signs
+  -- the part of a turn is known by signs
   part_is : IsForward e → IsForward g → part_of_turn right v p q ≡ part_by_sign (alike he hg)
       (seen (alike he hg) (sign_at (edge_turn e g)))
   part_is forward_e forward_g = ap₂

@@ -162,7 +162,7 @@ module _ (e : Edge) (p q r : PlanePoint) (on_q : IsOn e q) (on_r : IsOn e r)
       let same = lower_by_side in
       neg_of_mul-neg (p.d *ℤ (q.d *ℤ r.d)) (side (record { a = u; b = v }) p) scale-positive (omega linear)
 
-  -- so the step crosses p's vertical line as a point of e tells
+  -- the step crosses p's vertical line as a point of e tells
   pub step_crosses : CrossesAt e p (record { a = u; b = v })
   step_crosses = record {
     at = between;

@@ -35,7 +35,7 @@ test_from_le a b h = let e : true ≡ int_le a b = omega (arith, ints) in sym e
 pub test_from_gt : (a b : ℤ) → b <ℤ a → int_le a b ≡ false
 test_from_gt a b h = let e : false ≡ int_le a b = omega (arith, ints) in sym e
 
--- so the test tells whether the first number is at most the second
+-- the test tells whether the first number is at most the second
 pub Decides-int_le : (a b : ℤ) → Decides (int_le a b) (a ≤ℤ b)
 Decides-int_le a b = (le_from_test a b, test_from_le a b)
 

@@ -97,7 +97,7 @@ module _ (walks : List (List Step)) (contours : All IsContour walks) (single : A
     not_before e anchor s c = false_from_ne_true (point_lt (edge_of s).a e.a)
         (λ before. anchor.leftmost s c (end_before s e.a before))
 
-    -- so two anchors start in one point
+    -- two anchors start in one point
     anchors_start : (e f : Edge) → IsAnchor w e → IsAnchor w f → e.a ≡ f.a
     anchors_start e f anchor other = by (point_eq e.a f.a) refl
       where

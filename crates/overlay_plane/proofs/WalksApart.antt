@@ -80,7 +80,7 @@ module _ (holds : ℤ → ℤ → Bool) (subj clip : CountedEdge → ℤ) (es : 
       (different_edges selected (selected_alternate holds subj clip es cut.ruled filled) selected (λ s c. c)
       (selected_steps_once holds subj clip es cut.ruled filled))
 
-  -- so no two of the filled-above edges are equal
+  -- no two of the filled-above edges are equal
   pub filled_above_distinct : AllPairs (λ e f. edge_eq e f ≡ false) (all_filled_above filled walks)
   filled_above_distinct = distinct_above filled walks all_edges_once
 

@@ -129,7 +129,7 @@ module _ (r : Round) (h : CutsWhole r) where
         subst (λ w. IsAt w p) found.2 (cut_whole e p has found.1),
       )
 
-  -- and each whole point at such a point is one of them
+  -- each whole point at such a point is one of them
   pub meeting_cut : (e : CountedEdge) (p : PlanePoint) (v : Point) → Contains r.edges e → MeetsAnother r.edges e p →
       IsAt v p → Contains (whole_cuts r e) v
   meeting_cut e p v has meets at =
@@ -169,7 +169,7 @@ module _ (r : Round) (h : CutsWhole r) where
       (λ is. subst (IsHeldBy (ends_of e)) is (holds_end (ends_of e) (goes_forward e has)))
       (cut_held e v has)
 
-  -- and the stops are in order
+  -- the stops are in order
   pub stops_rise : (e : CountedEdge) → Contains r.edges e → Each IsUpTo (stops r e)
   stops_rise e has =
       Each-between_ends IsUpTo e.a e.b (whole_cuts r e) (before_up_to e.a e.b (goes_forward e has))

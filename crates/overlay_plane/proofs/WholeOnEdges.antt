@@ -32,7 +32,7 @@ at_itself v = (omega (arith, ints), omega (arith, ints))
 pub at_whole : (v w : Point) → IsAt v (in_plane w) → v ≡ w
 at_whole v w at = same_point v w (let x = at.0 in omega (arith, ints)) (let y = at.1 in omega (arith, ints))
 
--- points of the plane at one whole point are one point
+-- points of the plane at one whole point are equal
 pub same_place_at : (v : Point) (p q : PlanePoint) → IsAt v p → IsAt v q → SamePlace p q
 same_place_at v p q at_p at_q = (crossed v.x p.x q.x at_p.0 at_q.0, crossed v.y p.y q.y at_p.1 at_q.1)
   where
@@ -67,7 +67,7 @@ on_of_held e v p forward at held =
     (subst (λ w. IsUpTo (over e.a p.d) w) (at_place v p at) (over_up_to e.a v p.d p.positive held.from))
     (subst (λ w. IsUpTo w (over e.b p.d)) (at_place v p at) (over_up_to v e.b p.d p.positive held.to))
 
--- and an edge on which it lies holds that whole point
+-- an edge on which it lies holds that whole point
 pub held_of_on : (e : Edge) (v : Point) (p : PlanePoint) → IsBefore e.a e.b → IsAt v p → IsOn e p → IsHeldBy e v
 held_of_on e v p forward at on =
     let order = order_of_on e p forward on in

@@ -8,7 +8,7 @@ use Rattle.overlay_geom.specs.Plane.{Edge}
 use Rattle.overlay_scan.specs.Scan.{Entry, IsAtMost, AnswersRise}
 use Rattle.overlay_scan.specs.Lists.{PassBefore}
 
--- what is at most an answer that is not Greater is not Greater
+-- an answer at most one that is not Greater is not Greater
 not_greater : (o p : Ordering) → IsAtMost o p → not (is_gt p) ≡ true → not (is_gt o) ≡ true
 not_greater Less p most passes = refl
 not_greater Equal p most passes = refl

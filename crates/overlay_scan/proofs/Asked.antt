@@ -24,7 +24,7 @@ use Rattle.overlay_scan.proofs.Moving.{sweep_after_move, sweep_from_live, live_i
 use Rattle.overlay_scan.proofs.Prefixes.{filter_is_prefix}
 use Rattle.overlay_scan.proofs.PutIn.{lower_before, asked_before, found_below, put_in, live_with}
 
--- the sweep at x has what is live of the edges that are held then
+-- the sweep at x has the live edges among those held then
 pub now_is : {I V : Type 0} (whole : I → ℤ) (x : I) (es : List (LiveEdge I V)) (reached : Option I) → reached ≡ Some x →
     sweep_of whole es reached ≡ record { entries = live_of whole (whole x) es; reached = Some (whole x) }
 now_is whole x es reached at = ap (λ o. record {
@@ -34,7 +34,7 @@ now_is whole x es reached at = ap (λ o. record {
 
 module _ {I V : Type 0} (whole : I → ℤ) (x : I) (old : List (LiveEdge I V)) (from : Option I)
     (moves : MayMoveTo (whole x) (sweep_of whole old from)) where
-  -- what is live of the sweep is what is live of the edges that are held
+  -- the live entries of the sweep are those of the held edges
   pub live_is : live_at (whole x) (sweep_of whole old from).entries ≡ live_of whole (whole x) old
   live_is = live_held (whole x) (option_map whole from) (plain_entries whole old) moves
 
@@ -46,7 +46,7 @@ module _ {I V : Type 0} (whole : I → ℤ) (x : I) (old : List (LiveEdge I V)) 
         ∙ ap (λ fs. record { entries = fs; reached = Some (whole x) }) (same ∙ sym live_is)
 
     module _ (post : List (IntPoint I) → Ordering → Type 0) (v : Option V) where
-      -- so it does after a look-up
+      -- a look-up moves the sweep
       pub moved : IsLookedUp whole post (whole x) old new [] v →
           sweep_of whole new reached ≡ moved_to (whole x) (sweep_of whole old from)
       moved found = only_moved (found.now ∙ sym found.was)
@@ -67,7 +67,7 @@ module _ {I V : Type 0} (whole : I → ℤ) (x : I) (old : List (LiveEdge I V)) 
           (sweep_of whole new reached).entries n parted.pass parted.fail (live_is ∙ found.was)
           (ap (λ s. s.entries) (now_is whole x new reached at) ∙ found.now)
 
-  -- what is found is the value of the last live entry that passes
+  -- the value found is that of the last live entry that passes
   pub value_passes : (post : List (IntPoint I) → Ordering → Type 0) (new : List (LiveEdge I V)) (put : List (Entry V))
       (v : Option V) (found : IsLookedUp whole post (whole x) old new put v) (passes : Entry V → Bool) →
       Tells whole post passes (live_at (whole x) (sweep_of whole old from).entries) →
@@ -92,7 +92,7 @@ module _ {I V : Type 0} (whole : I → ℤ) (x : I) (old : List (LiveEdge I V)) 
       (λ k d lt a b at_a at_b o p. ap (λ q. not (is_gt q)) (answered k d lt a b at_a at_b o p))
       (pass_before answer (live_at (whole x) (sweep_of whole old from).entries) rise) default
 
--- what a closure that tells lines under an edge from others tells of entries
+-- a closure that tells lines under an edge from others tells entries under it
 pub told_by : {I V : Type 0} (whole : I → ℤ) (post : List (IntPoint I) → Ordering → Type 0) (e d : Edge)
     (fs : List (Entry V)) →
     d ≡ e → ((line : List (IntPoint I)) → (o : Ordering) → post line o → not (is_gt o) ≡ is_lower
@@ -172,7 +172,7 @@ pub ends_after : (limit : ℕ) (x : ℤ) (e d : Edge) → d ≡ e → IsOver lim
 ends_after limit x e d same over = let to = covers_to e x (pos 1) over.over in let end = ap (λ f. f.b.x) same in
     test_from_lt x d.b.x (omega (arith, ints))
 
--- what holds holds after an error
+-- a fact that holds also holds after an error
 pub on_err : {A E P : Type 0} (r : Result A E) → P → OnErr r P
 on_err (Ok a) p = tt
 on_err (Err e) p = p

@@ -39,7 +39,7 @@ cross-side f p = solve 6
     (λ ax ay bx by x y. (bx ⊖ ax) ⊗ (y ⊖ ay) ⊖ (by ⊖ ay) ⊗ (x ⊖ ax) ≗ (bx ⊖ ax) ⊗ (y ⊖ ay ⊗ number (pos 1)) ⊖
     (by ⊖ ay) ⊗ (x ⊖ ax ⊗ number (pos 1))) tt f.a.x f.a.y f.b.x f.b.y p.x p.y
 
--- of two edges that start in one point the one is under the other where that leads to the left of it
+-- of two edges that start in one point, f is under e where e leads to the left of f
 under_where_left : (f e : Edge) → e.a ≡ f.a → is_under f e e.a.x (pos 1) ≡ int_lt (pos 0) (cross_at e.a f.b e.b)
 under_where_left f e one = sym ((under_beside_a_node e f).start (sym one))
     ∙ subst (λ (p : Point). turns_left (record { a = p; b = f.b }) e ≡ int_lt (pos 0) (cross_at e.a f.b e.b)) one refl

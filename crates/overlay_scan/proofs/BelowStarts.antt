@@ -26,8 +26,7 @@ use Rattle.overlay_plane.proofs.WhereEdgesStart.{covers_spans, under_from_gap}
 use Rattle.overlay_scan.specs.Lists.{is_lower_at_start, is_lower}
 use Rattle.overlay_scan.proofs.AtStarts.{tested, cross-side, starts_before}
 
--- where the ways lead from one point, the way along f leads to the left of the middle, and that to the left of e, f
--- leads to the left of e
+-- left turns combine for vectors from one point: from f to the middle, and from the middle to e, gives from f to e
 turns_on : (f g e : Edge) → pos 0 <ℤ width f → pos 0 <ℤ width g → pos 0 ≤ℤ width e → turns_left f g ≡ true →
     turns_left g e ≡ true → turns_left f e ≡ true
 turns_on f g e wide_f wide_g not_back fg ge =
@@ -41,7 +40,7 @@ turns_on f g e wide_f wide_g not_back fg ge =
     through = solve 6 (λ u v w p q r. v ⊗ (u ⊗ r ⊖ p ⊗ w) ≗ w ⊗ (u ⊗ q ⊖ p ⊗ v) ⊕ u ⊗ (v ⊗ r ⊖ q ⊗ w)) tt
 
 module _ (e : Edge) (forward : point_lt e.a e.b ≡ true) where
-  -- an edge over the start of e, which meets e in ends alone if it is another one
+  -- an edge over the start of e that is e or meets e in ends alone
   pub record IsBeside (f : Edge) : Type 0 where
     pub over : covers f e.a.x (pos 1) ≡ true
     pub meets : edge_eq e f ≡ false → MeetInEnds e f
@@ -98,7 +97,7 @@ module _ (e : Edge) (forward : point_lt e.a e.b ≡ true) where
           let same = starts_there f at zero in
           not_strictly (omega linear) ∙ ap (λ b. b && turns_left f e) (point_eq-of_same f.a e.a same) ∙ turned f same
 
-  -- what is under an edge that is below the start of e is below it too
+  -- an edge under an edge below the start of e is below that start too
   pub below_through : (f g : Edge) → IsBeside f → IsBeside g → MeetInEnds g f → is_under f g e.a.x (pos 1) ≡ true →
       is_below_anchor e g ≡ true →
       is_below_anchor e f ≡ true

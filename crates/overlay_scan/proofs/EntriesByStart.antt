@@ -1,4 +1,4 @@
--- Entries in the order of their starts: those from a place on start no further left, and what is below a start stands
+-- Entries in the order of their starts: those from a place on start no further left, and those below a start come
 -- before it.
 use Rattle.std.proofs.Common.{◌≡◌, ◌⊎◌, ⊎_elim, inl, inr, ℕ, zero, suc, ◌+◌, ◌<◌, true, false, ◌&&◌, ℤ, pos, ◌*ℤ◌, ◌≤ℤ◌}
 use Rattle.std.proofs.Common.{◌<ℤ◌, int_lt, int_le, List, length, take, drop, get_or, Contains, sym, ap, ◌∙◌, subst}
@@ -23,13 +23,13 @@ use Rattle.overlay_plane.proofs.Tests.{ge_from_test, lt_from_test, test_from_le,
 use Rattle.overlay_scan.specs.Scan.{Entry, Sweep, live_at, IsOver, MeetsOthers, IsNewAmong}
 use Rattle.overlay_scan.specs.Sweeps.{IsByStart, IsSwept}
 
--- a fact of all from a place on holds of what stands there
+-- a fact of all from a place on holds of the entry there
 pub at_front : {X : Type 0} (P : X → Type 0) (xs : List X) (i : ℕ) (x : X) → i < length xs → x ≡ get_or xs i x →
     All P (drop i xs) → P x
 at_front P xs i x lt is all = subst P (sym is)
     (All-head P (get_or xs i x) (drop (i + 1) xs) (subst (All P) (drop_more xs i x lt) all))
 
--- and of all after it
+-- a fact of all items holds of all items after an item
 pub after_front : {X : Type 0} (P : X → Type 0) (xs : List X) (i : ℕ) (x : X) → i < length xs → All P (drop i xs) →
     All P (drop (i + 1) xs)
 after_front P xs i x lt all = All-tail P (get_or xs i x) (drop (i + 1) xs) (subst (All P) (drop_more xs i x lt) all)
@@ -80,7 +80,7 @@ module _ {V : Type 0} (es : List (Entry V)) (i : ℕ) (e : Entry V) (lt : i < le
       ∙ sym (get_or-take i es c.0 f below) ∙ c.2)
       (distinct c.0 i e below lt)))
 
-  -- what is below its start stands before it
+  -- entries below its start come before it
   pub below_stands_before : IsByStart es → point_lt e.edge.a e.edge.b ≡ true → (f : Entry V) → Contains es f →
       is_below_anchor e.edge f.edge ≡ true →
       Contains (take i es) f
@@ -109,7 +109,7 @@ module _ {V : Type 0} (es : List (Entry V)) (i : ℕ) (e : Entry V) (lt : i < le
     new_among_live distinct = all_of_entries (λ f. edge_eq e.edge f.edge ≡ false) (live_at x s.entries)
         (λ f c. new_among distinct f (swept.from f c))
 
-    -- and it meets each in ends alone
+    -- the edge meets each live edge in ends alone
     pub meets_live : IsSettledBy (λ f. f.edge) es → MeetsOthers e.edge (live_at x s.entries)
     meets_live settled = all_of_entries (λ f. edge_eq e.edge f.edge ≡ false → MeetInEnds e.edge f.edge)
         (live_at x s.entries)

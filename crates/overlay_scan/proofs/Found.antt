@@ -12,7 +12,7 @@ use Rattle.overlay_scan.specs.Scan.{Entry, live_at, value_or}
 use Rattle.overlay_scan.specs.HeldEntries.{live_where}
 
 module _ {V : Type 0} where
-  -- what is live at x was live before
+  -- edges live at x were live before
   pub live_twice : (x y : ℤ) → y ≤ℤ x → (fs : List (Entry V)) → live_at x (live_at y fs) ≡ live_at x fs
   live_twice x y le [] = refl
   live_twice x y le (f ∷ fs) = by (live_twice x y le fs) (int_lt y f.edge.b.x) refl (int_lt x f.edge.b.x) refl
@@ -26,13 +26,13 @@ module _ {V : Type 0} where
       by rest false was false now = ap (λ t. live_at x (cond t (f ∷ live_at y fs) (live_at y fs))) was
           ∙ rest ∙ sym (ap (λ t. cond t (f ∷ live_at x fs) (live_at x fs)) now)
 
-  -- what is live of a sweep's entries is what is live of all that are held
+  -- the live entries of a sweep are those of all held entries
   pub live_held : (x : ℤ) (o : Option ℤ) (fs : List (Entry V)) → IfSome o (λ y. y ≤ℤ x) →
       live_at x (live_where o fs) ≡ live_at x fs
   live_held x None fs moves = refl
   live_held x (Some y) fs moves = live_twice x y moves fs
 
-  -- ---- a list of what passes, and what fails
+  -- ---- a list of entries that pass, and of entries that fail
 
   module _ (test : Entry V → Bool) where
     pub filter_parted : (before after : List (Entry V)) → All (λ f. test f ≡ true) before → All (λ f. test f ≡ false)

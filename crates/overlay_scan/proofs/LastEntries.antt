@@ -22,7 +22,7 @@ last_pushed o (y ∷ xs) x = last_pushed (Some y) xs x
 pub before_one : (n : ℕ) → ¬ (n ≡ 0) → n - 1 + 1 ≡ n
 before_one n some = omega arith
 
--- the last of the first n items, n not 0, is the one at n - 1
+-- the last of the first n items, n not 0, is the item at n - 1
 pub last_of_first : {X : Type 0} (xs : List X) (n : ℕ) (x : X) → ¬ (n ≡ 0) → n ≤ length xs → x ≡ get_or xs (n - 1) x →
     last_or None (take n xs) ≡ Some x
 last_of_first xs n x some le is = ap (last_or None)

@@ -33,7 +33,7 @@ module _ {I V : Type 0} (whole : I → ℤ) (x : ℤ) where
       live_of whole x es ≡ live_of whole x (take n es) ++ live_of whole x (drop n es)
   live_parts es n = ap (live_of whole x) (sym (take-append-drop n es)) ∙ live-append (take n es) (drop n es)
 
-  -- what is live is still so where all else is dropped
+  -- live edges are still live after all others are dropped
   pub live_kept : (es : List (LiveEdge I V)) → live_of whole x (filter (λ f. int_lt x (whole f.b.x)) es)
       ≡ live_of whole x es
   live_kept es = ap (live_at x) (map-filter (plain_entry whole) (λ f. int_lt x f.edge.b.x) es)
@@ -47,7 +47,7 @@ module _ {I V : Type 0} (whole : I → ℤ) (x : ℤ) where
     pub ended_from : int_lt x (whole f.b.x) ≡ false → live_of whole x (drop k es) ≡ live_of whole x (drop (k + 1) es)
     ended_from ended = ap (live_of whole x) rest_is ∙ live-ended f (drop (k + 1) es) ended
 
-    -- another one in its place
+    -- a new edge in its place
     pub live_replaced : (e : LiveEdge I V) → int_lt x (whole f.b.x) ≡ false → int_lt x (whole e.b.x) ≡ true →
         live_of whole x (slice_set es k e)
         ≡ live_of whole x (take k es) ++ plain_entry whole e ∷ live_of whole x (drop k es)

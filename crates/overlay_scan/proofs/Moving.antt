@@ -55,7 +55,7 @@ module _ {V : Type 0} (limit : ℕ) (x y : ℤ) (later : x ≤ℤ y) (fs : List 
       ∙ AllPairs-filter (λ f g. is_under f.edge g.edge x (pos 1) ≡ true) (λ f. int_lt y f.edge.b.x) fs live.order
       i j d lt end
 
-  -- what is live at x and at y later is as a list live at y
+  -- the edges live at x, and later at y, are those live at y
   pub live_later : AreLive limit y (live_at y fs)
   live_later = record { over = over_later; apart = meet_later; order = order_later }
 
@@ -91,7 +91,7 @@ pub sweep_moved : {V : Type 0} (limit : ℕ) (x : ℤ) (s new : Sweep V) → IsS
     new ≡ moved_to x s → IsSweep limit new
 sweep_moved limit x s new held later is = subst (IsSweep limit) (sym is) (sweep_after_move limit x s held later)
 
--- what is live is in range
+-- live edges are in range
 pub live_in_range : {V : Type 0} (limit : ℕ) (x : ℤ) (fs : List (Entry V)) → AreLive limit x fs →
     All (λ f. IsInRange limit f.edge) fs
 live_in_range limit x fs live k d lt = let at = live.over k d lt in record { a = at.a_in_range; b = at.b_in_range }

@@ -17,7 +17,7 @@ prefix-same s t [] h = refl
 prefix-same s t (x ∷ xs) h = ap (λ b. cond b (1 + prefix_len s xs) 0) (All-head (λ x. s x ≡ t x) x xs h)
     ∙ ap (λ n. cond (t x) (1 + n) 0) (prefix-same s t xs (All-tail (λ x. s x ≡ t x) x xs h))
 
--- what fails if it makes x pass, which fails
+-- an item fails if its passing would make x pass, which fails
 fails_with : (s t : Bool) → s ≡ false → (t ≡ true → s ≡ true) → t ≡ false
 fails_with s true e h = absurd (false≢true (sym e ∙ h refl))
 fails_with s false e h = refl
@@ -45,7 +45,7 @@ drop_next : {X : Type 0} (n : ℕ) (x : X) (xs : List X) → drop (1 + n) (x ∷
 drop_next n x xs = ap (λ m. drop m (x ∷ xs)) (one_more n)
 
 module _ {X : Type 0} (test : X → Bool) where
-  -- what passes is what the count passes
+  -- the items that pass are those that the count passes
   pub filter_is_prefix : (xs : List X) → PassBefore test xs → filter test xs ≡ take (prefix_len test xs) xs
   filter_is_prefix [] h = refl
   filter_is_prefix (x ∷ xs) h = by (test x) refl
@@ -67,7 +67,7 @@ module _ {X : Type 0} (test : X → Bool) where
           (All-cons (λ x. test x ≡ true) x (take (prefix_len test xs) xs) e rest))
       by false e rest = rw e (All-nil (λ x. test x ≡ true))
 
-  -- and each of the others fails
+  -- each of the other items fails
   pub others_fail : (xs : List X) → PassBefore test xs → All (λ x. test x ≡ false) (drop (prefix_len test xs) xs)
   others_fail [] h = All-nil (λ x. test x ≡ false)
   others_fail (x ∷ xs) h = by (test x) refl

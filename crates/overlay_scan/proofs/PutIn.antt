@@ -25,7 +25,7 @@ use Rattle.overlay_scan.proofs.Prefixes.{prefix-same, filter_is_prefix, prefix_p
 
 -- ---- lists with one more item
 
--- what holds of all items and of the new
+-- a fact of all items and of the new item
 pub All-with : {X : Type 0} (P : X → Type 0) (xs ys : List X) (n : X) → All P (xs ++ ys) → P n → All P (xs ++ n ∷ ys)
 All-with P [] ys n all here = All-cons P n ys here all
 All-with P (x ∷ xs) ys n all here = All-cons P x (xs ++ n ∷ ys) (All-head P x (xs ++ ys) all)
@@ -52,7 +52,7 @@ module _ {V : Type 0} (limit : ℕ) (x : ℤ) (e : Edge) (fs : List (Entry V)) (
       (λ apart. meet_in_ends_exchanged f.edge e (meets k d lt (edge_eq-flip f.edge e apart)))
       (live.over k d lt).over at_e.over
 
-  -- what is under an entry that is under the edge is under the edge
+  -- entries under an entry that is under the edge are under the edge
   pub under_before : PassBefore (λ f. is_under f.edge e x (pos 1)) fs
   under_before i j d lt end below =
       let f = get_or fs i d in
@@ -60,7 +60,7 @@ module _ {V : Type 0} (limit : ℕ) (x : ℤ) (e : Edge) (fs : List (Entry V)) (
       under_transitive f.edge g.edge e x (pos 1) (omega (arith, ints)) (live.over i d (omega arith)).over
       (live.over j d end).over at_e.over (live.order i j d lt end) below
 
-  -- so it passes in the front of the list alone
+  -- the test passes in the front of the list alone
   pub lower_before : PassBefore (λ f. is_lower f.edge e) fs
   lower_before i j d lt end lower = tests_agree i d (omega arith)
       ∙ under_before i j d lt end (sym (tests_agree j d end) ∙ lower)
@@ -89,7 +89,7 @@ module _ {V : Type 0} (limit : ℕ) (x : ℤ) (e : Edge) (fs : List (Entry V)) (
         over_if (get_or (drop n fs) k d) (All-drop (λ f. IsOver limit x f.edge) n fs live.over k d lt).over
         (All-drop (λ f. MeetInEnds e f.edge) n fs all_meet k d lt) (fails k d lt)
 
-    -- put in where the count ends, it is above what is under it and below the others
+    -- inserted where the count ends, the entry is above those under it and below the others
     pub put_in : (new : List (Entry V)) → new ≡ take (prefix_len (λ f. is_lower f.edge e) fs) fs
         ++ record { edge = e; value = value } ∷ drop (prefix_len (λ f. is_lower f.edge e) fs) fs →
         IsPutIn x (record { edge = e; value = value }) fs new
@@ -112,7 +112,7 @@ module _ {V : Type 0} (limit : ℕ) (x : ℤ) (e : Edge) (fs : List (Entry V)) (
     meets = meets k d lt;
   }
 
-  -- what is under an entry that is below the start is below it
+  -- entries under an entry below the start are below it
   below_before : PassBefore (λ f. is_below_anchor e f.edge) fs
   below_before i j d lt end below = below_through e asked.forward (get_or fs i d).edge (get_or fs j d).edge
       (beside i d (omega arith)) (beside j d end)
@@ -124,18 +124,18 @@ module _ {V : Type 0} (limit : ℕ) (x : ℤ) (e : Edge) (fs : List (Entry V)) (
   tests_below : All (λ f. is_lower f.edge e ≡ is_below_anchor e f.edge) fs
   tests_below k d lt = lower_is_below e asked.forward (get_or fs k d).edge (beside k d lt)
 
-  -- so it passes in the front of the list alone
+  -- the test passes in the front of the list alone
   pub asked_before : PassBefore (λ f. is_lower f.edge e) fs
   asked_before i j d lt end lower = tests_below i d (omega arith)
       ∙ below_before i j d lt end (sym (tests_below j d end) ∙ lower)
 
-  -- what is below the start is what the count passes
+  -- the entries below the start are those that the count passes
   pub found_below : take (prefix_len (λ f. is_lower f.edge e) fs) fs ≡ filter (λ f. is_below_anchor e f.edge) fs
   found_below = ap (λ n. take n fs) (prefix-same (λ f. is_lower f.edge e) (λ f. is_below_anchor e f.edge) fs
       tests_below)
       ∙ sym (filter_is_prefix (λ f. is_below_anchor e f.edge) fs below_before)
 
--- what a new entry is put in to is live with it
+-- the entries that a new entry is inserted between are live with it
 pub live_with : {V : Type 0} (limit : ℕ) (x : ℤ) (n : Entry V) (fs new : List (Entry V)) → AreLive limit x fs →
     IsOver limit x n.edge →
     All (λ f. MeetInEnds n.edge f.edge) fs → IsPutIn x n fs new → AreLive limit x new

@@ -22,7 +22,7 @@ use Rattle.overlay_plane.proofs.Totals.{total-same, total-zero, total-add}
 use Rattle.overlay_plane.proofs.WhereEdgesStart.{covers_start}
 use Rattle.overlay_scan.proofs.BelowStarts.{IsBeside, below_through}
 
--- an edge below the start of another one is over that start
+-- an edge below the start of an edge is over that start
 pub below_is_over : (e f : Edge) → point_lt e.a e.b ≡ true → point_lt f.a f.b ≡ true → is_below_anchor e f ≡ true →
     covers f e.a.x (pos 1) ≡ true
 below_is_over e f forward_e forward_f below = ⊎_elim
@@ -63,7 +63,7 @@ module _ (count : CountedEdge → ℤ) (es : List CountedEdge) (r : IsBalancedAr
           (starts_elsewhere f strict) ∙ +ℤ_idr (count f)
       by false other = +ℤ_idl (cond (point_eq f.a e.a && turns_left (ends_of f) (ends_of e)) (count f) (pos 0))
 
-  -- so the winding below the edge is the sum of the counts of the edges below its start
+  -- the winding below the edge is the sum of the counts of the edges below its start
   pub winding_counts_below : winding_below count es e ≡ total_taken below count es
   winding_counts_below = winding_from_a_start count es r e at_e
       ∙ sym (total-add (λ f. cond (is_strictly_below (ends_of f) (in_plane e.a)) (count f) (pos 0))
@@ -91,7 +91,7 @@ module _ (count : CountedEdge → ℤ) (es : List CountedEdge) (r : IsBalancedAr
         (meets_under (ends_of g) (ends_of f) e.a.x (pos 1) (r.planar.settled g f at_g at_f) under) under is;
   }
 
-  -- and it is the winding above the greatest edge below
+  -- the winding is that above the greatest edge below
   pub winding_above_the_greatest : (g : CountedEdge) → IsGreatestTaken es e.a.x (pos 1) below g →
       winding_below count es e ≡ winding_above count es g
   winding_above_the_greatest g h = winding_counts_below

@@ -11,7 +11,7 @@ use Rattle.overlay_tree.specs.Trees.{IsHeightBalanced, IsRebalanced, IsTooHigh}
 use Rattle.overlay_tree.proofs.Standing.{height_on, in_top, kept_more, linked_stands}
 use Rattle.overlay_tree.proofs.Rotations.{only, sides_differ}
 
--- the same tree from the other side
+-- the tree seen from the other side
 pub exchanged : (side : Side) (a : Tree) (i : ℕ) (b : Tree) → fork_on (opposite side) b i a ≡ fork_on side a i b
 exchanged Left a i b = refl
 exchanged Right a i b = refl

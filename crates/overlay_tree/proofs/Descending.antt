@@ -1,4 +1,4 @@
--- One step of the way down: a side of a node was gone down, and the node is put above what is left of it.
+-- A step of the descent: after the descent into a side of a node, the node goes above the rest of it.
 use Rattle.std.proofs.Common.{◌≡◌, ◌⊎◌, ⊎_elim, inl, inr, Bool, true, false, not, ℕ, ℤ, ◌<◌, ◌≤◌, int_lt, List, [], ◌∷◌}
 use Rattle.std.proofs.Common.{◌++◌}
 use Rattle.std.proofs.Common.{length, slice_get, Option, None, Some, refl, sym, ap, subst, ◌∙◌, arith}
@@ -53,7 +53,7 @@ in_exchanged k xs out into ys at = ⊎_elim (λ first. inl (in_left k xs (out ++
     (in_either k into ys rest))
     (in_either k xs (into ++ ys) at)
 
--- what stands before and after the place, seen from the node above
+-- the entries before and after the place, seen from the node above
 abbrev pub before_on : Side → List ℕ → ℕ → List ℕ → List ℕ
 before_on Left before i rest = before
 before_on Right before i rest = rest ++ i ∷ before
@@ -139,7 +139,7 @@ can_go_on side i a b old root put near can near_is stands = record {
   other = λ k at also. can.other k (in_near side a i b k at) also;
 }
 
--- ---- by what the way came to
+-- ---- by the end of the descent
 
 module _ {I V : Type 0} (whole : I → ℤ) (post : List (IntPoint I) → Ordering → Type 0) (x : ℤ)
     (es : List (LiveEdge I V)) where
@@ -174,7 +174,7 @@ module _ {I V : Type 0} (whole : I → ℤ) (post : List (IntPoint I) → Orderi
 
     module _ (f : LiveEdge I V) (there : slice_get es i ≡ Some f) (live : int_lt x (whole f.b.x) ≡ true) (o : Ordering)
         (answered : post (f.a ∷ f.b ∷ []) o) (side_is : side ≡ side_of o) where
-      -- what the order's answer says
+      -- the order's answer tells whether the entry passes
       passes_left : (o : Ordering) (t : Bool) → Left ≡ side_of o → not (is_gt o) ≡ t → t ≡ false
       passes_left Less t is says = absurd (subst is_left is tt)
         where
@@ -287,7 +287,7 @@ module _ {I V : Type 0} (whole : I → ℤ) (x : ℤ) (es : List (LiveEdge I V))
   callable_here Right a b may = All-head Callable (plain_entry whole f) (entries_of a)
       (All-rest Callable (entries_of b) (plain_entry whole f ∷ entries_of a) (split_at b a may)) f.a f.b refl refl
 
-  -- and on those of a side
+  -- the order may be called on the entries of a side
   pub callable_on : (side : Side) (a b : Tree) → IsCallableOn whole pre (entries_of (fork_on side a i b)) →
       IsCallableOn whole pre (entries_of a)
   callable_on Left a b may = All-first Callable (entries_of a) (plain_entry whole f ∷ entries_of b) (split_at a b may)

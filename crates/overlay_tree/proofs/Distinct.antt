@@ -6,7 +6,7 @@ use Rattle.std.proofs.lemmas.Bool.{eqb-true, or_cases, false_from_ne_true, false
 use Rattle.std.proofs.lemmas.Map.Steps.{length-le_from_distinct_below}
 use Rattle.overlay_tree.specs.Trees.{IsIn, AreDistinct}
 
--- ---- what is in two lists together
+-- ---- two lists together
 
 pub in_left : (k : ℕ) (is js : List ℕ) → IsIn k is → IsIn k (is ++ js)
 in_left k [] js at = absurd at

@@ -69,7 +69,7 @@ module _ (ls : List Links) (put : Option NodeIndex) (i : NodeIndex) (side : Side
         (callable_on whole x es pre i.place f there live side way.near way.far
         (subst (λ v. IsCallableOn whole pre (live_entries whole x es (items v))) way.is may))
 
-  -- what is below has been gone down, and the node is above it
+  -- the descent below is done, and the node is above it
   module _ {I V : Type 0} (whole : I → ℤ) (post : List (IntPoint I) → Ordering → Type 0) (x : ℤ)
       (es : List (LiveEdge I V)) (between : List Links) (near far : Option NodeIndex)
       (far_is : far ≡ on (opposite side) links) (e : End V)

@@ -18,7 +18,7 @@ use Rattle.overlay_tree.proofs.Parted.{live-here}
 use Rattle.overlay_tree.proofs.Settling.{tree_at_is}
 use Rattle.overlay_tree.proofs.Standing.{all_inside}
 
--- the same entries of the same nodes
+-- entries of the nodes are unchanged
 same_entries : {I V : Type 0} (es new : List (LiveEdge I V)) (is : List ℕ) →
     ((k : ℕ) → IsIn k is → slice_get new k ≡ slice_get es k) → filter_map (slice_get new) is ≡ filter_map
     (slice_get es) is

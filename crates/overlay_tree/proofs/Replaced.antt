@@ -175,7 +175,7 @@ module _ {ls between : List Links} {i : ℕ} {l r : Tree} {root near far : Optio
         (λ k there. subst (IsIn k) (sym all_same) (inr there));
   }
 
-  -- and has kept its top and its height
+  -- the side has kept its root and its height
   pub first_taken_kept : (near ≡ root_of l) × (height left ≡ height l) →
       IsFirstTaken ls between (Fork l i r) first (Some (record { place = i }))
   first_taken_kept same = first_taken (settled_already ls between near far Left i l r left at.stands at.balanced

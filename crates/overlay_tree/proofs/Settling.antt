@@ -22,7 +22,7 @@ use Rattle.overlay_tree.proofs.Parted.{live-append, live-without}
 use Rattle.overlay_tree.proofs.Replaced.{stored}
 use Rattle.overlay_tree.proofs.Standing.{get_set_same, set_one, still_stands, all_inside}
 
--- ---- the tree below a root is the one that stands there
+-- ---- the tree below a root is the tree that stands there
 
 tree_of_is : (n : ℕ) (ls : List Links) (t : Tree) (root : Option NodeIndex) → root ≡ root_of t → Stands ls t →
     height t ≤ n → tree_of n ls root ≡ t
@@ -54,7 +54,7 @@ module _ {I V : Type 0} (whole : I → ℤ) (post : List (IntPoint I) → Orderi
   abbrev L : List ℕ → List (Entry V)
   L is = live_entries whole x es is
 
-  -- some way down was gone so often, and dropped so many
+  -- a number of descents have been made, and a number of entries dropped
   pub record IsSettling (t : Tree) (old_visits : ℕ) (ls : List Links) (root free put : Option NodeIndex)
       (visits : ℕ) : Type 0 where
     pub tree : Tree
@@ -204,7 +204,7 @@ module _ {I V : Type 0} (whole : I → ℤ) (post : List (IntPoint I) → Orderi
           few = visited.few;
         }
 
-        -- and there are as many nodes as before
+        -- the number of nodes is unchanged
         pub count_dropped : length after ≡ length ls
         count_dropped = one.length_kept ∙ kept.length_kept
 

@@ -1,4 +1,4 @@
--- A tree that stands in a list of links, and what becomes of it as links change.
+-- A tree that stands in a list of links, also after changes of links.
 use Rattle.std.proofs.Common.{◌≡◌, ⊎_elim, inl, inr, ℕ, zero, suc, ◌+◌, ◌<◌, ◌≤◌, max, List, [], ◌∷◌}
 use Rattle.std.proofs.Common.{length, slice_get, slice_set, IfSome, Some, refl, sym, ap, subst, ◌∙◌, arith}
 use Rattle.std.proofs.lemmas.List.{length-set}
@@ -51,7 +51,7 @@ kept_twice is first second third one two = record {
   length_kept = two.length_kept ∙ one.length_kept;
 }
 
--- a tree of which no node has changed stands as before
+-- a tree whose nodes have not changed stands as before
 pub still_stands : (is : List ℕ) (old new : List Links) → AreKeptBut is old new → (t : Tree) → Stands old t →
     AreApart (items t) is → Stands new t
 still_stands is old new kept Leaf at apart = tt
@@ -87,7 +87,7 @@ height_le_count (Fork l i r) =
 
 -- ---- the two sides of a node
 
--- what is in a tree with two sides
+-- the nodes of a tree with two sides
 pub in_near : (side : Side) (a : Tree) (i : ℕ) (b : Tree) (k : ℕ) → IsIn k (items a) → IsIn k
     (items (fork_on side a i b))
 in_near Left a i b k at = in_left k (items a) (i ∷ items b) at

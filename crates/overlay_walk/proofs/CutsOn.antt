@@ -1,4 +1,4 @@
--- A cut under way: the walks so far, before each cut of what is left, are a cut of all steps.
+-- A cut under way: the walks so far, before each cut of the rest, are a cut of all steps.
 use Rattle.std.proofs.Common.{◌≡◌, ◌<◌, not, List, [], ◌∷◌, ◌++◌, length, sym, ap, ◌∙◌, subst, arith}
 use Rattle.std.proofs.lemmas.List.{append-nil, append_assoc, length-append}
 use Rattle.std.proofs.lemmas.List.Sorted.{length_permutation}
@@ -33,7 +33,7 @@ module _ (hand_of : Step → Hand) (all left : List Step) (walks : List (List St
     (far : IsCutSoFar hand_of all left walks) (s : Step) (start : IsStart left s)
     (walk : List Step) (orbit : IsOrbit left (hand_of s) walk) (begins : step_round walk 0 ≡ s) (after : List Step)
     (rest : after ≡ without left walk) where
-  -- a cut of what a walk leaves is one of what was left, with the walk in front
+  -- a cut of the steps left by a walk, with the walk in front, is a cut of the steps before
   completes_on : (later : List (List Step)) → IsCutInto hand_of (without left walk) later →
       IsCutInto hand_of left (walk ∷ later)
   completes_on later cut = by walk orbit begins cut
@@ -46,7 +46,7 @@ module _ (hand_of : Step → Hand) (all left : List Step) (walks : List (List St
           next (subst (λ u. IsStart left u) (sym same) start)
           (subst (λ u. IsOrbit left (hand_of u) (t ∷ ts)) (sym same) round) cut
 
-  -- the start's hand leads on, and its orbit leaves what can be cut
+  -- the start's hand leads on, and the steps left by its orbit can be cut
   leaves : LeavesCuttable hand_of left s
   leaves = cuts_leave_cuttable hand_of left far.cuttable s start.among
 

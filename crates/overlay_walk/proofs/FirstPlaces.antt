@@ -15,12 +15,12 @@ abbrev pub IsFirstOf : (ℕ → Bool) → (ℕ → ℕ → Bool) → ℕ → ℕ
 IsFirstOf is_open comes_before low high None = (k : ℕ) → low ≤ k → k < high → is_open k ≡ false
 IsFirstOf is_open comes_before low high (Some m) = IsFirstPlace is_open comes_before low high m
 
--- the place comes before the one found so far, if there is one
+-- the place comes before the place found so far, if there is one
 abbrev pub comes_first : (ℕ → ℕ → Bool) → Option ℕ → ℕ → Bool
 comes_first comes_before None i = true
 comes_first comes_before (Some k) i = comes_before i k
 
--- the place where it is open and comes first, else the one found so far
+-- the place if it is open and comes first, else the place found so far
 abbrev pub first_so_far : (ℕ → Bool) → (ℕ → ℕ → Bool) → Option ℕ → ℕ → Option ℕ
 first_so_far is_open comes_before found i = cond (is_open i && comes_first comes_before found i) (Some i) found
 
@@ -60,7 +60,7 @@ module _ (is_open : ℕ → Bool) (before : ℕ → ℕ → Bool) (bound : ℕ) 
         (λ here. subst (λ j. before j i ≡ false) (sym here) (irreflexive i));
   }
 
-  -- past a place that is not open what was found stays
+  -- a place that is not open does not change the place found
   stays_past_taken : (i : ℕ) (found : Option ℕ) → IsFirstOf is_open before low i found → is_open i ≡ false →
       IsFirstOf is_open before low (i + 1) found
   stays_past_taken i None none at = λ k h below. up_to_next i k below (none k h)
@@ -73,7 +73,7 @@ module _ (is_open : ℕ → Bool) (before : ℕ → ℕ → Bool) (bound : ℕ) 
         (λ here. absurd (both_ways (is_open k) (subst (λ j. is_open j ≡ false) (sym here) at) opened));
   }
 
-  -- and past one that does not come first
+  -- a place that does not come first does not change it either
   stays_past_later : (i : ℕ) (found : Option ℕ) → IsFirstOf is_open before low i found →
       comes_first before found i ≡ false → IsFirstOf is_open before low (i + 1) found
   stays_past_later i None none later = absurd (both_ways true later refl)
@@ -85,7 +85,7 @@ module _ (is_open : ℕ → Bool) (before : ℕ → ℕ → Bool) (bound : ℕ) 
         (λ here. subst (λ j. before j m ≡ false) (sym here) later);
   }
 
-  -- so one more place is looked at
+  -- one more place is tested
   pub looked_at : (i : ℕ) (found : Option ℕ) → low ≤ i → i < bound → IsFirstOf is_open before low i found →
       IsFirstOf is_open before low (i + 1) (first_so_far is_open before found i)
   looked_at i found above within first = by (is_open i) refl (comes_first before found i) refl

@@ -4,7 +4,7 @@ use Rattle.overlay_geom.specs.Plane.{Point}
 use Rattle.overlay_geom.proofs.Identities.{solve, ◌⊕◌, ◌⊗◌, ◌⊖◌, ◌≗◌}
 use Rattle.overlay_plane.specs.Turn.{dot_at}
 
--- of the vectors from v to p and to q, by the numbers of the one and of the other turned
+-- the inner product of the vectors from v to p and to q, as a cross product with the second turned
 pub cross_with_turned : (v p q : Point) (px py back qx : ℤ) → px ≡ p.x -ℤ v.x → py ≡ p.y -ℤ v.y → back ≡ v.y -ℤ q.y →
     qx ≡ q.x -ℤ v.x
     → px *ℤ qx -ℤ py *ℤ back ≡ dot_at v p q

@@ -41,7 +41,7 @@ module _ (q : Asked) (es : List CountedEdge) where
     cut = subst (λ t. IsCutBy t (filled_asked q) (is_kept q) (selected_of q es) contours) (sym is) cut;
   }
 
-  -- and without
+  -- the kept contours without groups
   pub kept_without : (walks : List (List Step)) (contours : List Contour) → q.ogc ≡ false →
       AreCutFrom (region_asked q) subj_of clip_of es (filled_asked q) walks →
       contours ≡ contours_from (filled_asked q) 0 (filter (is_kept q) walks) → AreKept contours

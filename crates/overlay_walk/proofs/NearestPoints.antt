@@ -16,7 +16,7 @@ use Rattle.overlay_plane.proofs.TurnOrder.{first_cases, first_by_part, first_by_
 use Rattle.overlay_walk.specs.Nearest.{Nearest, HasSeen, IsMetFirst, IsNearestOf, IsNearer}
 
 module _ (hand : Hand) (v u : Point) (long : ¬ (u ≡ v)) where
-  -- what is met before a point is met before each that is not met before that point
+  -- a point met before another is met before each point that is not met before that
   pub met_before_later : (p q r : Point) → IsMetBefore hand v u p q → is_met_before hand v u r q ≡ false →
       IsMetBefore hand v u p r
   met_before_later p q r pq later = ⊎_elim
@@ -43,7 +43,7 @@ module _ (hand : Hand) (v u : Point) (long : ¬ (u ≡ v)) where
           (first_by_turn (part_of_turn hand v u r) (part_of_turn hand v u q) (turn hand v r q) (sym same) on)))
           (λ none. let exchanged = turn_exchanged hand v q r in omega linear)
 
-  -- what is met before the first of a list is met before each of it
+  -- a point met before the first of a list is met before each point of it
   before_each : (ps : List Point) (p t : Point) → IsMetFirst hand v u ps t → IsMetBefore hand v u p t →
       All (IsMetBefore hand v u p) ps
   before_each ps p t first nearer = subst (λ qs. All (IsMetBefore hand v u p) qs) (sym first.stands)
@@ -55,7 +55,7 @@ module _ (hand : Hand) (v u : Point) (long : ¬ (u ≡ v)) where
       (λ q later. met_before_later p t q nearer later)
       first.back first.not_after)))
 
-  -- what is met before each of a list is met before its first
+  -- a point met before each point of a list is met before its first
   before_first : (ps : List Point) (p t : Point) → IsMetFirst hand v u ps t → All (IsMetBefore hand v u p) ps →
       IsMetBefore hand v u p t
   before_first ps p t first all = All-contains (IsMetBefore hand v u p) ps t all
@@ -108,7 +108,7 @@ nearer_of_all n p nearer is seen h = by n.nearest h.nearest is
       λ all. same ∙ before_first n.hand n.node n.start h.apart seen p t first all,
     )
 
--- and with p the ray has seen them and p
+-- with p the ray has seen the points and p
 pub seen_too : (n : Nearest) (p : Point) (nearer : Bool) → nearer ≡ is_nearer n p → (seen : List Point) →
     HasSeen n seen →
     HasSeen (and_added n nearer p) (seen ++ p ∷ [])

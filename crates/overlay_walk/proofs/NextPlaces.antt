@@ -33,7 +33,7 @@ module _ (ss : List Step) (hand : Hand) (v u : Point) where
   pub place_met-irreflexive : (k : ℕ) → is_place_met_before ss hand v u k k ≡ false
   place_met-irreflexive k = met_irreflexive hand v u (step_at ss k).to
 
-  -- what is met before a place is met before all before which that is met
+  -- the order in which places are met is transitive
   pub place_met-transitive : ¬ (u ≡ v) → (bound : ℕ) (i j k : ℕ) → i < bound → j < bound → k < bound →
       is_place_met_before ss hand v u i j ≡ true → is_place_met_before ss hand v u j k ≡ true →
       is_place_met_before ss hand v u i k ≡ true
@@ -68,7 +68,7 @@ module _ (ss : List Step) (hand : Hand) (v u : Point) where
 module _ (ss : List Step) (marks : List Bool) (hand : Hand) (v u : Point) (long : ¬ (u ≡ v)) (low i : ℕ)
     (found : Option ℕ) (above : low ≤ i)
     (first : IsFirstOf (is_open marks) (is_place_met_before ss hand v u) low i found) where
-  -- what is found then is the first, whether or not the place is open
+  -- the place found then is the first, whether or not the place is open
   first_on : (opened nearer : Bool) → is_open marks i ≡ opened →
       (opened ≡ true → nearer ≡ comes_first (is_place_met_before ss hand v u) found i) →
       IsFirstOf (is_open marks) (is_place_met_before ss hand v u) low (i + 1) (cond (opened && nearer) (Some i) found)
@@ -109,13 +109,13 @@ module _ (ss : List Step) (marks : List Bool) (hand : Hand) (v u : Point) (long 
       at_place true = refl
       at_place false = refl
 
-  -- and where it is not, with the ray as it is
+  -- a place that is not open leaves the ray as it is
   pub place_passed : is_open marks i ≡ false → IsFirstOf (is_open marks) (is_place_met_before ss hand v u) low
       (i + 1) found
   place_passed shut = first_on false false shut (λ e. absurd (both_ways false refl e))
 
 module _ (ss : List Step) (marks : List Bool) (hand : Hand) (s : Step) where
-  -- what is found in the run of the steps that leave the end of s
+  -- the place found in the run of the steps that leave the end of s
   pub next_place : (low high : ℕ) → IsRun ss s.to low high → (found : Option ℕ) →
       IsFirstOf (is_open marks) (is_place_met_before ss hand s.to s.from) low high found →
       IsNextPlace ss marks hand s found

@@ -1,4 +1,4 @@
--- The step at the place that a search for the next step finds, and what is left once it is taken.
+-- The step at the place that a search for the next step finds, and the rest once it is taken.
 use Rattle.std.proofs.Common.{◌≡◌, ℕ, ◌<◌, Bool, true, ℤ, List, [], ◌∷◌, length, get_or, sym, ap, ◌∙◌, subst}
 use Rattle.std.specs.Prelude.{Any, Contains, None, set}
 use Rattle.std.proofs.lemmas.List.{length-map}
@@ -41,7 +41,7 @@ module _ {I : Type 0} (whole : I → ℤ) (steps : List (StepTaken I)) (marks : 
     found_left = subst (λ u. Contains (unmarked steps marks) u) (sym is)
         (unmarked_at steps marks t m same within next.untaken)
 
-    -- and the next of them
+    -- the step found is the next of them
     pub found_next : IsNextStep (plain_steps whole (unmarked steps marks)) hand s (plain_step whole t)
     found_next = subst (λ ss. IsNextStep ss hand s (plain_step whole t))
         (sym (unmarked-map (plain_step whole) steps marks))

@@ -28,7 +28,7 @@ unmarked-none [] n = refl
 unmarked-none (x ∷ xs) zero = refl
 unmarked-none (x ∷ xs) (suc n) = ap (λ ys. x ∷ ys) (unmarked-none xs n)
 
--- what stands at an open place is not marked
+-- the item at an open place is not marked
 pub unmarked_at : {X : Type 0} (xs : List X) (ms : List Bool) (d : X) (k : ℕ) → length ms ≡ length xs → k < length xs →
     is_open ms k ≡ true → Contains (unmarked xs ms) (get_or xs k d)
 unmarked_at [] ms d k same h at = absurd (elim h [ ])
@@ -45,12 +45,12 @@ pub record IsOpenAt {X : Type 0} (xs : List X) (ms : List Bool) (d x : X) (k : �
   pub untaken : is_open ms k ≡ true
   pub is : get_or xs k d ≡ x
 
--- the same one place later
+-- the item is at an open place one further on
 later : {X : Type 0} (y : X) (xs : List X) (m : Bool) (ms : List Bool) (d x : X) → (k : ℕ) × IsOpenAt xs ms d x k →
     (k : ℕ) × IsOpenAt (y ∷ xs) (m ∷ ms) d x k
 later y xs m ms d x (k, h) = (suc k, record { below = let b = h.below in omega arith; untaken = h.untaken; is = h.is })
 
--- what is not marked stands at an open place
+-- an item that is not marked is at an open place
 pub place_of_unmarked : {X : Type 0} (xs : List X) (ms : List Bool) (d x : X) → length ms ≡ length xs →
     Contains (unmarked xs ms) x → (k : ℕ) × IsOpenAt xs ms d x k
 place_of_unmarked [] ms d x same c = absurd (elim c.1 [ ])

@@ -93,7 +93,7 @@ module _ {I : Type 0} (whole : I → ℤ) where
         (point_lt-itself (plain_step whole (get_or ss i d)).from))
         (cases_lt i j)
 
-    -- so each test passes in the front of the list alone
+    -- each test passes in the front of the list alone
     pub below-parted : IsPartitionedBy (leaves_below p) ss
     below-parted i j d up h less =
         point_lt-after_up_to (plain_step whole (get_or ss i d)).from (plain_step whole (get_or ss j d)).from p
@@ -105,7 +105,7 @@ module _ {I : Type 0} (whole : I → ℤ) where
         (ap not (point_lt-before_up_to p (plain_step whole (get_or ss i d)).from (plain_step whole (get_or ss j d)).from
         less (later_leaves i j d up h))) at))
 
-    -- what leaves a smaller point is up to p
+    -- a step that leaves a smaller point leaves a point up to p
     below_is_in_front : (s : StepTaken I) → leaves_below p s ≡ true → leaves_up_to p s ≡ true
     below_is_in_front s less = ap not (point_lt-order.one_way (plain_step whole s).from p less)
 
@@ -150,7 +150,7 @@ module _ {I : Type 0} (whole : I → ℤ) where
                   (both_ways (leaves_up_to p (get_or ss k d)) (up_to.1 k d up h) not_larger)) (cases_lt k high),
             )
 
-    -- and the second front may be looked for from the first on
+    -- the second front may be searched from the first on
     pub run_until : (low high : ℕ) → low ≤ length ss →
         IsPartitionPoint (λ s. leaves_below p s ≡ true) (λ s. leaves_below p s ≡ false) ss low →
         LeaveUpTo (plain_steps whole ss) p low high → IsRun (plain_steps whole ss) p low high

@@ -32,7 +32,7 @@ module _ (fill : FillRule) (rule : OverlayRule) (es : List CountedEdge) where
   steps_between_sides filled e above below = cond (cond above (not below) below)
       (step_with_left (cond (is_left_hand filled) above below) (ends_of e) ∷ []) []
 
-  -- so they tell the selected steps
+  -- the bits tell the selected steps
   selected_by_bits : (filled : Hand) → flat_map (steps_by_bits rule filled) (map (vector_of fill es) es)
       ≡ selected_steps (rules_hold fill rule) subj_of clip_of filled es
   selected_by_bits filled =
@@ -42,12 +42,12 @@ module _ (fill : FillRule) (rule : OverlayRule) (es : List CountedEdge) where
       (holds_below (rules_hold fill rule) subj_of clip_of es e)) es
       (λ e c. ap₂ (steps_between_sides filled e) (above_by_bits e) (below_by_bits e))
 
-  -- and so do the vectors of the edges
+  -- the vectors of the edges tell the selected steps
   selected_by_vectors : (filled : Hand) (vs : List Vector) → vs ≡ map (vector_of fill es) es →
       flat_map (steps_by_bits rule filled) vs ≡ selected_steps (rules_hold fill rule) subj_of clip_of filled es
   selected_by_vectors filled vs are = ap (flat_map (steps_by_bits rule filled)) are ∙ selected_by_bits filled
 
-  -- what they tell, in a list without steps
+  -- the steps that they tell, in a list without steps
   pub selected_in_room : (filled : Hand) (room : List Step) (vs : List Vector) (ss : List Step) → room ≡ [] →
       vs ≡ map (vector_of fill es) es →
       ss ≡ room ++ flat_map (steps_by_bits rule filled) vs →

@@ -38,7 +38,7 @@ selected_are_long limit es content holds subj clip filled =
     subst (λ t. IsLong limit t) (sym own.1.walks)
     (step_is_long limit own.0 (All-contains (IsHeld limit) es own.0 content.held own.1.entry) _))
 
--- and those of their walks
+-- the steps of their walks are long
 pub walks_are_long : (limit : ℕ) (es : List CountedEdge) → IsContent limit es →
     (holds : ℤ → ℤ → Bool) (subj clip : CountedEdge → ℤ)
     (filled : Hand) (walks : List (List Step)) → AreCutFrom holds subj clip es filled walks →

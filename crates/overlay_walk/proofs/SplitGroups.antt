@@ -53,7 +53,7 @@ module _ {I A : Type 0} (whole : I → ℤ) where
     outlines_plain gs are = ap (plain_walks whole) are
         ∙ map-filter (λ (g : Vec (StepTaken I) A). plain_steps whole g.items) (λ g. not (is_hole filled g)) groups
 
-    -- and the steps of the others
+    -- the steps of the other groups
     pub holes_plain : (ss : List (StepTaken I)) →
         ss ≡ flat_map (λ g. g.items) (filter (λ (g : Vec (StepTaken I) A). is_hole filled (plain_steps whole g.items))
         groups) →
@@ -62,7 +62,7 @@ module _ {I A : Type 0} (whole : I → ℤ) where
         ∙ steps_plain (filter (λ g. is_hole filled (plain_steps whole g.items)) groups)
         ∙ ap all_steps (map-filter (λ (g : Vec (StepTaken I) A). plain_steps whole g.items) (is_hole filled) groups)
 
--- what is known of the steps
+-- the known facts of the steps
 pub record AreGood (limit : ℕ) (steps : List Step) : Type 0 where
   pub alternate : Alternates steps
   pub once : HasEachOnce steps
@@ -83,12 +83,12 @@ module _ (limit : ℕ) (steps : List Step) (good : AreGood limit steps) (filled 
             (orbit_inside steps good.alternate filled g own.orbit s d));
       }
 
-  -- so of those that are outlines
+  -- the facts hold of the groups that are outlines
   pub outlines_good : All (AreGood limit) (filter (λ g. not (is_hole filled g)) groups)
   outlines_good = all_of_entries (AreGood limit) (filter (λ g. not (is_hole filled g)) groups)
       (λ g c. group_good g (Contains-from_filter (λ h. not (is_hole filled h)) groups g c).0)
 
-  -- and of the steps of all others
+  -- the facts hold of the steps of all other groups
   pub holes_good : AreGood limit (all_steps (filter (is_hole filled) groups))
   holes_good = record {
     alternate = passing_alternate steps good.alternate filled groups grouped (is_hole filled);
@@ -102,7 +102,7 @@ module _ (limit : ℕ) (steps : List Step) (good : AreGood limit steps) (filled 
         (passing_inside steps good.alternate filled groups grouped (is_hole filled) s d));
   }
 
--- the same steps in another order are cut with groups into the same contours
+-- a permutation of the steps is cut with groups into equal contours
 pub grouped_alike : (filled : Hand) (keeps : List Step → Bool) (xs ys : List Step) → HaveSame xs ys →
     (contours : List Contour) →
     IsCutInGroups filled keeps xs contours → IsCutInGroups filled keeps ys contours

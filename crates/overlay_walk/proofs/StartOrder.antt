@@ -27,7 +27,7 @@ pub starts_by_slopes : (e f : Edge) → e.a ≡ f.a → turns_left f e ≡ true 
 starts_by_slopes e f same left = or_right (point_lt e.a f.a) (is_left_at_start e f)
     (and_from (point_eq e.a f.a) (turns_left f e) (point_eq-of_same e.a f.a same) left)
 
--- so what does not start before another has no smaller point, and from the same point no higher slope
+-- an edge that does not start before another has no smaller point, and from an equal point no higher slope
 pub not_by_points : (e f : Edge) → starts_before e f ≡ false → point_lt e.a f.a ≡ false
 not_by_points e f later = false_from_ne_true (point_lt e.a f.a)
     (λ less. both_ways (starts_before e f) later (starts_by_points e f less))
@@ -52,13 +52,13 @@ turned : (e f : Edge) → is_left_at_start e f ≡ true → turns_left f e ≡ t
 turned e f both = (and_parts (point_eq e.a f.a) (turns_left f e) both).1
 
 module _ (e f g : Edge) (he : IsForward e) (hf : IsForward f) (hg : IsForward g) where
-  -- left of what is left
+  -- left of the rest
   left_of_left : turns_left f e ≡ true → turns_left g f ≡ true → turns_left g e ≡ true
   left_of_left ef fg = test_from_lt (pos 0) (edge_turn g e)
       (left_after_left g f e hg hf he (lt_from_test (pos 0) (edge_turn g f) fg)
       (lt_from_test (pos 0) (edge_turn f e) ef))
 
-  -- what starts before an edge starts before all before which that starts
+  -- the order of starts is transitive
   starts_before-transitive : starts_before e f ≡ true → starts_before f g ≡ true → starts_before e g ≡ true
   starts_before-transitive ef fg = ⊎_elim
       (λ less. starts_by_points e g (⊎_elim
@@ -73,7 +73,7 @@ module _ (e f g : Edge) (he : IsForward e) (hf : IsForward f) (hg : IsForward g)
       second : (point_lt f.a g.a ≡ true) ⊎ (is_left_at_start f g ≡ true)
       second = or_cases (point_lt f.a g.a) (is_left_at_start f g) fg
 
-  -- what does not start before an edge does not start before what that does not start before
+  -- edges that do not start before each other chain
   pub starts_before-chain : starts_before e f ≡ false → starts_before f g ≡ false → starts_before e g ≡ false
   starts_before-chain ef fg = false_from_ne_true (starts_before e g)
       (λ eg. ⊎_elim by_points by_slopes (or_cases (point_lt e.a g.a) (is_left_at_start e g) eg))

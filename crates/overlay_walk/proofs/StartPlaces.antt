@@ -91,7 +91,7 @@ module _ (marks : List Bool) (places : List ℕ) where
         subst (λ j. is_open marks j ≡ false) (sym (get_or_default_zero places at.0 k at.1) ∙ at.2)
         (passed.shut at.0 (omega arith))
 
-    -- the one after them, where it is open, is the first place by where the edges start
+    -- the place after them, if it is open, is the first place by the starts of the edges
     first_place : n < length places → is_open marks (get_or places n 0) ≡ true →
         IsFirstPlace (is_open marks) (is_place_started_before ss) 0 (length ss) (get_or places n 0)
     first_place within opened = record {
@@ -117,7 +117,7 @@ module _ (marks : List Bool) (places : List ℕ) where
             (cases_lt n i))
             (cases_lt i n)
 
-    -- so it is, read with its own default
+    -- the place, read with its own default, is the first too
     pub place_read : (count m : ℕ) → length ss ≡ count → n < length places → m ≡ get_or places n m →
         (n < length places → is_open marks (get_or places n 0) ≡ true) →
         IsFirstPlace (is_open marks) (is_place_started_before ss) 0 count m

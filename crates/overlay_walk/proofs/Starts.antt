@@ -45,7 +45,7 @@ module _ {I : Type 0} (whole : I → ℤ) (limit : ℕ) (steps : List (StepTaken
     start_left = subst (λ t. Contains (unmarked steps marks) t) (sym is)
         (unmarked_at steps marks s m same first.below first.untaken)
 
-    -- and is the start
+    -- the step found is the start
     pub start_found : IsStart (plain_steps whole (unmarked steps marks)) (plain_step whole s)
     start_found =
         let counted = length-map steps (plain_step whole) in

@@ -14,7 +14,7 @@ use Rattle.overlay_walk.specs.Places.{is_open, step_at}
 use Rattle.overlay_walk.specs.Steps.{unmarked}
 use Rattle.overlay_walk.proofs.OpenPlaces.{unmarked_at}
 
--- a step alone is left out where it is the one
+-- a single step leaves out exactly that step
 alone : (s t : Step) (b : Bool) → step_eq s t ≡ b → is_step_of (s ∷ []) t ≡ b
 alone s t true e = ap (λ c. c || false) e
 alone s t false e = ap (λ c. c || false) e

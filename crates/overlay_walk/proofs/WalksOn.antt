@@ -22,7 +22,7 @@ use Rattle.overlay_plane.proofs.OrbitsApart.{is_step_of_decides}
 use Rattle.overlay_plane.proofs.OrbitsSoFar.{orbits_grow}
 use Rattle.overlay_plane.proofs.TurnOrder.{met_total}
 
--- ---- what is left
+-- ---- the rest
 
 -- lists with the same steps leave the same
 without-same : (steps xs ys : List Step) → ((s : Step) → is_step_of xs s ≡ is_step_of ys s) →
@@ -143,7 +143,7 @@ module _ (steps : List Step) (hand : Hand) (leads : LeadsOn steps hand) (start :
     comes_round same = round.closes
         (subst (λ u. IsNextStep steps hand (last_of all) u) (same ∙ sym way.begins) on_from_last)
 
-    -- and has taken all its steps
+    -- the walk has taken all its steps
     pub takes_all : t ≡ start → after ≡ without steps all
     takes_all same = taken ∙ ap (λ ss. without ss (t ∷ [])) way.rest ∙ by all (let l = longer in omega arith)
         (way.begins ∙ sym same)

@@ -13,7 +13,7 @@ use Rattle.overlay_walk.specs.declared.step.Step.{Step as StepTaken}
 use Rattle.overlay_walk.specs.Steps.{plain_steps, IsLong}
 use Rattle.overlay_walk.specs.Walks.{plain_walks}
 
--- what a list is mapped to stands at the place at which an entry was read
+-- the mapped list has the mapped entry at the place of an entry
 pub mapped_at : {X Y : Type 0} (f : X → Y) (xs : List X) (k : ℕ) (x : X) (y : Y) → k < length xs → x ≡ get_or xs k x →
     y ≡ f x → slice_get (map f xs) k ≡ Some y
 mapped_at f xs k x y inside is same = slice_get_read (map f xs) (length xs) k y (sym (length-map xs f)) inside
@@ -30,7 +30,7 @@ module _ {I A : Type 0} (whole : I → ℤ) (ws : List (Vec (StepTaken I) A)) (k
   pub walks_more : plain_walks whole (take (k + 1) ws) ≡ plain_walks whole (take k ws) ++ plain_steps whole w.items ∷ []
   walks_more = mapped_more (at_numbers whole) ws k w inside is
 
-  -- the walk at the place is the one that was read there
+  -- the walk at the place is the walk read there
   pub walk_read : (d : List Step) → get_or (plain_walks whole ws) k d ≡ plain_steps whole w.items
   walk_read d = read_mapped (at_numbers whole) ws k w d inside is
 
@@ -46,7 +46,7 @@ module _ {I A : Type 0} (whole : I → ℤ) where
   walk_at ws k w ss inside is same =
       mapped_at (at_numbers whole) ws k w (plain_steps whole ss) inside is (ap (plain_steps whole) same)
 
-  -- and are long, where those of all walks are
+  -- the steps of the walk are long, if those of all walks are
   pub long_walk : (limit : ℕ) (ws : List (Vec (StepTaken I) A)) (k : ℕ) (w : Vec (StepTaken I) A)
       (ss : List (StepTaken I)) → k < length ws →
       w ≡ get_or ws k w → ss ≡ w.items → All (All (IsLong limit)) (plain_walks whole ws) →

@@ -1,4 +1,4 @@
--- The steps that a walk takes: a walk under way, with what its edges carry.
+-- The steps that a walk takes: a walk under way, with the values of its edges.
 use Rattle.std.proofs.Common.{◌≡◌, ℕ, ◌+◌, ◌≤◌, not, ℤ, List, [], ◌∷◌, ◌++◌, length, All, sym, subst, arith}
 use Rattle.std.specs.Prelude.{Any, Contains}
 use Rattle.std.proofs.lemmas.List.{length-map, map-append}
@@ -16,7 +16,7 @@ use Rattle.overlay_walk.specs.Steps.{plain_step, plain_steps, IsLong}
 use Rattle.overlay_walk.specs.declared.step.Step.{Step as StepTaken}
 use Rattle.overlay_walk.proofs.WalksOn.{IsUnderWay, sets_out, walked_few, way_goes_on, comes_round, takes_all, walks_on}
 
--- what two lists leave has each step once, where the steps do
+-- the steps left by a list of steps, each once, occur once each
 pub without_once : (steps taken : List Step) → HasEachOnce steps → HasEachOnce (without steps taken)
 without_once steps taken once = AllPairs-from_each Differ (without steps taken)
     (Each-filter Differ (λ t. not (is_step_of taken t)) steps (Each-from_all_pairs Differ steps once))
@@ -77,7 +77,7 @@ module _ {I : Type 0} (whole : I → ℤ) (limit : ℕ) (all : List (StepTaken I
     module _ (t : StepTaken I) (after : List (StepTaken I))
         (next : IsNextStep (plain_steps whole left) hand (plain_step whole s) (plain_step whole t))
         (taken : plain_steps whole after ≡ without (plain_steps whole left) (plain_step whole t ∷ [])) where
-      -- where the start comes again the walk is the orbit, and what it took is gone
+      -- when the start comes again the walk is the orbit, and its steps are taken
       pub taken_round : plain_step whole t ≡ plain_step whole start → IsOrbit (plain_steps whole all) hand
           (plain_steps whole (walk ++ s ∷ []))
       taken_round same = subst (λ ts. IsOrbit (plain_steps whole all) hand ts) (sym pushed)
@@ -93,7 +93,7 @@ module _ {I : Type 0} (whole : I → ℤ) (limit : ℕ) (all : List (StepTaken I
           next taken same)
 
       module _ (among : Contains left t) (fewer : All (Contains left) after) where
-        -- what is left was there
+        -- the entries left were there
         pub fewer_taken : All (Contains all) after
         fewer_taken = All-weaker (Contains left) (Contains all)
             (λ u c. All-contains (Contains all) left u taking.fewer c) after fewer

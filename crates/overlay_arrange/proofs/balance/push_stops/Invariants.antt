@@ -1,4 +1,4 @@
--- The larger ends of the edges so far stand behind what stood before.
+-- The larger ends of the edges so far are behind the earlier ends.
 use Rattle.std.proofs.Common.{◌≡◌, ◌++◌, map, take}
 use Rattle.overlay_arrange.specs.Content.{plain_edges}
 use Rattle.overlay_arrange.specs.Ends.{plain_ends, counted_stop}

@@ -1,4 +1,4 @@
--- The piece lies between points in range, and weighs what its edge does.
+-- The piece lies between points in range, and weighs as much as its edge.
 use Rattle.std.proofs.Common.{arith}
 use Rattle.overlay_geom.specs.Points.{plain_point}
 use Rattle.overlay_arrange.specs.Content.{plain_edge}

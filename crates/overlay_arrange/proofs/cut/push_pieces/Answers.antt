@@ -1,4 +1,4 @@
--- The next piece moves from what is to come to what stands, and a heavy beginning makes a heavy whole.
+-- The next piece moves from the pieces to come to those done, and a heavy beginning makes a heavy whole.
 use Rattle.std.proofs.Common.{◌≤◌, ◌+◌, ◌++◌, [], ◌∷◌, map, drop, length, List, refl, sym, subst, ◌∙◌, rules}
 use Rattle.std.specs.Prelude.{IsTrue}
 use Rattle.std.proofs.lemmas.List.{at_drop_all}

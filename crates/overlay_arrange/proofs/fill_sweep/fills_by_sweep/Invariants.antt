@@ -1,4 +1,4 @@
--- The sides of the edges swept so far are at their places, the sweep may go on to the rest, and the windings above the
+-- The sides of the edges swept so far are at their places. The sweep may go on to the rest, and the windings above the
 -- last edge are known.
 use Rattle.std.proofs.Common.{◌≡◌, length, take, drop, get_or}
 use Rattle.std.specs.List.{All}

@@ -1,4 +1,4 @@
--- The next edge is put in above what is under it, if it is not vertical.
+-- The next edge is inserted above the edges under it, if it is not vertical.
 use Rattle.std.proofs.Common.{◌≡◌, ◌+◌, ◌<◌, ◌+ℤ◌, int_lt, length, take, get_or, sym, ap, ap₂, ◌∙◌, subst, arith, ℤ}
 use Rattle.std.proofs.lemmas.List.{length-map, get_or_default}
 use Rattle.overlay_geom.specs.Edges.{CountedEdge, ends_of, subj_of, clip_of}

@@ -1,4 +1,4 @@
--- The ends of the edges so far stand behind what stood before.
+-- The ends of the edges so far are behind the earlier points.
 use Rattle.std.proofs.Common.{◌≡◌, ◌++◌, flat_map, take}
 use Rattle.overlay_geom.specs.Points.{plain_points}
 use Rattle.overlay_arrange.specs.Content.{plain_edges}

@@ -1,4 +1,4 @@
--- The points of the meetings so far stand behind what stood before.
+-- The points of the meetings so far are behind the earlier points.
 use Rattle.std.proofs.Common.{◌≡◌, ◌++◌, map, take}
 use Rattle.overlay_geom.specs.Points.{plain_points}
 use Rattle.overlay_arrange.specs.Meetings.{plain_meetings, Meeting}

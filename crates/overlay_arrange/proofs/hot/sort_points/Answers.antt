@@ -1,4 +1,4 @@
--- The sort puts the points in their order, and what then stands twice is dropped.
+-- The sort puts the points in their order, and repeated points are dropped.
 use Rattle.std.proofs.Common.{◌≡◌, ap, sym, subst, ◌∙◌, rules}
 use Rattle.std.specs.List.{dedup}
 use Rattle.std.specs.Ordering.{is_lt}

@@ -1,5 +1,5 @@
--- A loop over the edges that are near the edge: each adds what it and the edge lead each other through, and is marked,
--- or meets it in ends alone.
+-- A loop over the near edges of an edge. Each adds the points through which the two lead each other, and is marked, or
+-- meets it in ends alone.
 use Rattle.std.proofs.Common.{◌<◌, length, get_or, inl, inr, refl, take, sym, subst, arith}
 use Rattle.std.proofs.lemmas.List.{get_or_default, length-map, take_all, take_more}
 use Rattle.overlay_geom.proofs.Mapped.{All-mapped_at}

@@ -1,4 +1,4 @@
--- Both are in the span, and what lies between left and right in it lies between them.
+-- Both are in the span, and each number of the span between left and right lies between them.
 use Rattle.std.proofs.Common.{sym, ◌∙◌}
 use Rattle.overlay_geom.proofs.PointOrder.{Decides-point_lt}
 use Rattle.overlay_geom.proofs.Signs.{linear}

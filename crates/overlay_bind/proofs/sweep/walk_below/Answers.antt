@@ -1,4 +1,4 @@
--- The look-up asks what is asked here.
+-- The conditions of the look-up are those given here.
 use Rattle.overlay_scan.proofs.LinesFit.{line_fits}
 use Rattle.overlay_bind.proofs.sweep.walk_below.Goals as goal
 

@@ -1,4 +1,4 @@
--- The next step moves from what is to come to what stands.
+-- The next step moves from the steps to come to those done.
 use Rattle.std.proofs.Common.{◌+◌, ◌++◌, [], ◌∷◌, map, drop, cond}
 use Rattle.overlay_geom.specs.Plane.{steps_between}
 use Rattle.overlay_geom.specs.Points.{plain_point, plain_points, InRange}

@@ -5,7 +5,7 @@ use Rattle.overlay_extract.specs.Laws.{NoTwoShapesWindRoundOnePoint}
 use Rattle.overlay_extract.specs.Results.{filled_asked}
 use Rattle.overlay_extract.proofs.laws.no_two_shapes_wind_round_one_point.Goals as goal
 
--- what is the one or the other, by a test
+-- a number chosen by a test is one of the two choices
 one_or_other : (b : Bool) (once z : ℤ) → z ≡ cond b once (pos 0) → (z ≡ once) ⊎ (z ≡ pos 0)
 one_or_other true once z is = inl is
 one_or_other false once z is = inr is

@@ -44,7 +44,7 @@ is_straight-requires-else-is_straight-clause-third g c =
     All-mapped_at (InRange g.I.IntNumber.limit) (plain_point g.I.IntNumber.whole) _ _ _
     (omega arith) c.index-points-from-else-is_straight-2.is c.requires.in_range
 
--- a list narrowed to a part of it, and that part to another one
+-- a list narrowed to a part of it, and that part to a further part
 IsNarrowed-range : {I : Type 0} (whole : I → ℤ) (xs : List (IntPoint I)) (i j m n : ℕ) →
     IsNarrowed (plain_points whole xs) (plain_points whole (slice_range xs i j)) →
     IsNarrowed (slice_range (plain_points whole xs) i j) (slice_range (plain_points whole xs) m n) →

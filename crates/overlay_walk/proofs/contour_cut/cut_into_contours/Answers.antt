@@ -1,4 +1,4 @@
--- Each walk is the orbit of the start of what is left, so the walks are a cut.
+-- Each walk is the orbit of the start of the rest, so the walks are a cut.
 use Rattle.std.proofs.Common.{[], ◌∷◌, All, Contains, sym, ap, subst, arith}
 use Rattle.std.proofs.lemmas.List.{length-map, map-append}
 use Rattle.std.proofs.lemmas.List.Elements.{All-nil, All-push, All-weaker, All-contains, All-contains_itself}

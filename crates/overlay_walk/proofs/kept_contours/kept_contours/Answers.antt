@@ -1,4 +1,4 @@
--- The contours are kept as the options ask, and so what is true of such contours is true of them.
+-- The contours are kept as the options ask, so the facts of kept contours hold of them.
 use Rattle.std.proofs.Common.{◌≡◌, false, All, sym, subst, ◌∙◌}
 use Rattle.std.proofs.lemmas.Bool.{false≢true}
 use Rattle.std.proofs.lemmas.List.Elements.{All-filter}

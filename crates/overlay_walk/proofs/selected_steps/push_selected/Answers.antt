@@ -1,4 +1,4 @@
--- The next edge moves from what is to come to what stands, and its step has its number.
+-- The next edge moves from the edges to come to those done, and its step has its number.
 use Rattle.std.proofs.Common.{◌≡◌, ◌+◌, Some, map, drop, refl, ap, ◌∙◌}
 use Rattle.std.specs.List.{slice_get}
 use Rattle.std.specs.Option.{option_map}

@@ -18,7 +18,7 @@ use Rattle.overlay_plane.specs.DerivedData.{computed_chain}
 use Rattle.overlay_arrange.specs.Content.{IsContent}
 use Rattle.overlay_arrange.proofs.content.Content.+split_since.Goals as goal
 
--- edges of which the meetings are found are not settled
+-- edges whose meetings are found are not settled
 not_settled : {X : Type 0} {found : Option X} {x : X} {P : Type 0} → found ≡ Some x → (found ≡ None) ↔ P → ¬ P
 not_settled is law settled = let none = sym is ∙ law.1 settled in absurd (cc)
 
@@ -143,7 +143,7 @@ returns-in_ok-merge-2-clause-carried g n c =
     c.cut_at.new.self c.merge-else-is_rounded.new.self
     c.in_ok-merge-2.ensures.ok settled c.in_ok-merge-2.ensures.carried)
 
--- the store is reached by merging, cutting and what follows
+-- the store is reached by merging, cutting and the later rounds
 pub returns-in_err-is_rounded-clause-store : goal.returns-in_err-is_rounded-clause-store
 returns-in_err-is_rounded-clause-store g n c =
     reached_on g.C.EdgeCount.writes _ _ _ c.in_ok-merge.ensures.store c.in_err-is_rounded.ensures.store

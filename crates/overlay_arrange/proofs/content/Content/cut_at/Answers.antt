@@ -57,7 +57,7 @@ returns-in_err-pieces-clause-too_many g c = λ same.
 pub cut_edges-requires-clause-order : goal.cut_edges-requires-clause-order
 cut_edges-requires-clause-order g c = rw c.deref-2.ensures.value c.requires.order
 
--- what is not rounded is whole
+-- the negation of whole is rounded
 not_false : (b : Bool) → not b ≡ false → b ≡ true
 not_false true same = refl
 not_false false same = sym same

@@ -10,7 +10,7 @@ use Rattle.overlay_plane.specs.SnapPoints.{snap_points}
 use Rattle.overlay_arrange.specs.Snapping.AreLedBySnapping.{cut, snapped}
 use Rattle.overlay_arrange.proofs.content.Content.lead_once.Goals as goal
 
--- where an answer says two things, it says what follows from both
+-- an answer with two facts has their consequence
 both_say : {T E P Q R : Type 0} (answer : Result T E) → OnOk answer P → OnOk answer Q → (P → Q → R) → OnOk answer R
 both_say (Ok v) p q both = both p q
 both_say (Err e) p q both = p

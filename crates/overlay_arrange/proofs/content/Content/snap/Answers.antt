@@ -9,7 +9,7 @@ use Rattle.overlay_arrange.proofs.RoundsTaken.{cut_where_unsettled, split_at_onc
 use Rattle.overlay_arrange.proofs.SnapsTaken.{heavy_by_snapping, snapped_carrying}
 use Rattle.overlay_arrange.proofs.content.Content.snap.Goals as goal
 
--- edges of which the meetings are found are not settled
+-- edges whose meetings are found are not settled
 not_settled : {X : Type 0} {found : Option X} {x : X} {P : Type 0} → found ≡ Some x → (found ≡ None) ↔ P → ¬ P
 not_settled is law settled = let none = sym is ∙ law.1 settled in absurd (cc)
 

@@ -1,4 +1,4 @@
--- The content is what contracts see as the core's edges.
+-- The content is the core's edges as contracts see them.
 use Rattle.std.proofs.Common.{◌≡◌, false, [], rules, subst, ap, ◌∙◌}
 use Rattle.std.specs.Prelude.{◌↔◌, IfOk}
 use Rattle.overlay_plane.specs.Arrangements.{IsReachedBy}

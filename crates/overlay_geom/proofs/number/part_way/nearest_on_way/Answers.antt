@@ -21,7 +21,7 @@ counted_up c = record {
   whole = ap unsigned_abs (to_z-of_z w128 c.args.d c.ranges.d);
 }
 
--- and on the way down
+-- the numbers of the way down
 counted_down : (c : goal.After-half_down) →
     Counted c.args.from c.args.to c.args.t c.args.d c.abs_diff.result
     (unsigned_abs (to_z w128 (of_z w128 c.args.t))) (unsigned_abs (to_z w128 (of_z w128 c.args.d)))
@@ -40,7 +40,7 @@ within_up c =
     part_way-within greatest_of_64_bits c.args.from c.args.to c.args.t c.args.d
     c.requires.from c.requires.to c.requires.begun c.requires.part c.requires.divides
 
--- and on the way down
+-- the place on the way down is within the range
 within_down : (c : goal.After-half_down) → Within greatest_of_64_bits (place c.args.from c.args.to c.args.t c.args.d)
 within_down c =
     part_way-within greatest_of_64_bits c.args.from c.args.to c.args.t c.args.d
@@ -55,7 +55,7 @@ risen c = rises c.args.from c.args.to c.args.t c.args.d _ _ _ _ _ rising (counte
     rising = rw (← to_z-of_z w64 c.args.from c.ranges.from, ← to_z-of_z w64 c.args.to c.ranges.to)
         (omega (arith, ints, c.if-from-to.true))
 
--- and with it taken away on the way down
+-- the distance is taken away on the way down
 fallen : (c : goal.After-half_down) → c.args.from -ℤ pos c.half_down.result ≡ place c.args.from c.args.to
     c.args.t c.args.d
 fallen c = falls c.args.from c.args.to c.args.t c.args.d _ _ _ _ _ falling
@@ -78,7 +78,7 @@ far_up c = record {
   );
 }
 
--- and on the way down
+-- the distance on the way down is in range
 far_down : (c : goal.After-half_down) → Within 9223372036854775806 (pos c.half_down.result)
 far_down c = record {
   low = omega (arith, ints);
@@ -91,14 +91,14 @@ far_down c = record {
   );
 }
 
--- so the program computes the place, on the way up
+-- the program computes the place, on the way up
 computed_up : (c : goal.After-half_up) → to_z w64 (of_z w64 c.args.from) +ℤ to_z w64 c.half_up.result ≡ place
     c.args.from c.args.to c.args.t c.args.d
 computed_up c =
     ap₂ (λ a b. a +ℤ b) (to_z-of_z w64 c.args.from c.ranges.from)
     (to_z_pos w64 c.half_up.result (omega (arith, ints, (far_up c).high))) ∙ risen c
 
--- and on the way down
+-- the program computes the place, on the way down
 computed_down : (c : goal.After-half_down) → to_z w64 (of_z w64 c.args.from) -ℤ to_z w64 c.half_down.result ≡ place
     c.args.from c.args.to c.args.t c.args.d
 computed_down c =
