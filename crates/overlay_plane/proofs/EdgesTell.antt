@@ -23,7 +23,7 @@ use Rattle.overlay_plane.proofs.SingleEntries.{one_entry}
 use Rattle.overlay_plane.proofs.WholeOnEdges.{forward_from_test, at_itself, on_of_held, by_end}
 
 module _ (filled : ℤ → Bool) (es : List CountedEdge) (fillable : IsFillable filled es) where
-  -- each rule on the sides of the two that needs a filled side rules the list
+  -- a rule on the fillings of both shapes rules the list, if it fails where neither shape is filled
   ruled_by : (rule : Bool → Bool → Bool) → rule false false ≡ false →
       IsRuled (λ s c. rule (filled s) (filled c)) subj_of clip_of es
   ruled_by rule none = record {

@@ -99,8 +99,8 @@ off_inside e f p wide meet on_f inner zero =
     ⊎_elim (λ (a : IsAt e.a p). let is = a.0 in absurd (omega linear)) (λ (b : IsAt e.b p). let is = b.0 in
     absurd (omega linear)) (meet p (on_e, on_f)).0
 
--- two points over the inside of e lie on one side of an edge that e meets in ends alone, if each mixture of them is off
--- it
+-- a point q over the inside of e is below e if a point p over it is, and if each mixture of both is on an edge that e
+-- meets in ends alone
 pub below_with : (e f : Edge) (p q : Point) → pos 0 <ℤ width e → MeetInEnds e f →
     ((s t : ℤ) (ps : pos 0 ≤ℤ s) (pt : pos 0 <ℤ t) → IsOn f (mixed s t p q ps pt)) → IsInner e p.x (pos 1) →
     IsInner e q.x (pos 1) →
@@ -121,7 +121,7 @@ between_from_ends u v = by_lt_z u v
     (λ lt. (inl (omega (arith, ints), omega (arith, ints)), inl (omega (arith, ints), omega (arith, ints))))
     (λ ge. (inr (omega (arith, ints), omega (arith, ints)), inr (omega (arith, ints), omega (arith, ints))))
 
--- both ends are on the edge
+-- the smaller end is on the edge
 pub start_on : (f : Edge) → IsOn f (in_plane f.a)
 start_on f = record {
   on_line = side-start f;
