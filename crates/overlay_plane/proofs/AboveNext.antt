@@ -40,11 +40,11 @@ signs_differ true false h e = omega linear
 signs_differ false true h e = omega linear
 signs_differ false false h e = cc
 
--- what is not above 0 is at most 0
+-- a number not above 0 is at most 0
 not_above : (z : ℤ) → ¬ (pos 0 <ℤ z) → z ≤ℤ pos 0
 not_above z h = by_lt_z (pos 0) z (λ more. absurd (h more)) (λ le. le)
 
--- what is taken or not
+-- a term that is taken, or 0
 at_most_taken : (t : Bool) (z : ℤ) → (t ≡ true → z ≤ℤ pos 0) → cond t z (pos 0) ≤ℤ pos 0
 at_most_taken true z h = h refl
 at_most_taken false z h = omega linear
@@ -224,7 +224,7 @@ module _ (holds : ℤ → ℤ → Bool) (subj clip : CountedEdge → ℤ) (es : 
       own.1.changes)
       (no_sign f c is)
 
-  -- steps of which some are selected wind alike
+  -- part of the selected steps have equal windings there
   pub alike_above_next : (taken : List Step) → IsBalancedPart es steps taken →
       winding_under es taken n.anchor ≡ winding_over es taken n.edge
   alike_above_next taken part =

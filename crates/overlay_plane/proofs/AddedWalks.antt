@@ -21,7 +21,7 @@ use Rattle.overlay_plane.proofs.KeepingBalance.{contours_are_balanced}
 use Rattle.overlay_plane.proofs.Telescopes.{signed_rise}
 use Rattle.overlay_plane.proofs.Totals.{Contains-head, Contains-later}
 
--- the winding on a hand's side, of the one below and the count along the edge
+-- the winding on a hand's side, from the winding below and the count along the edge
 abbrev side_by : Hand → Bool → (under count : ℤ) → ℤ
 side_by left forward under count = cond forward (under +ℤ count) under
 side_by right forward under count = cond forward under (under +ℤ count)
@@ -59,7 +59,7 @@ module _ (es : List CountedEdge) (steps : List Step) (along : WalksAlong es step
       (winding ys (midpoint (edge_of s))) (count_along ys (edge_of s))
       ∙ sym (ap₂ (λ a b. a +ℤ b) (beside_is hand xs in_x s) (beside_is hand ys in_y s))
 
-  -- and nothing winds alike
+  -- an empty list has winding 0
   beside_nothing : (hand : Hand) (s t : Step) → winding_beside hand es [] s ≡ winding_beside hand es [] t
   beside_nothing hand s t = none s ∙ sym (none t)
     where
@@ -108,7 +108,7 @@ module _ (es : List CountedEdge) (steps : List Step) (along : WalksAlong es step
       ∙ ap₂ (λ a b. a +ℤ b) (contour_rises w (each w (Contains-head w ws)) g)
       (contours_rise g ws (λ v e. each v (Contains-later w ws v e)))
 
-  -- and they have balanced counts together
+  -- the steps together have balanced counts
   pub contours_part : (ws : List (List Step)) → ((w : List Step) → Contains ws w → IsContour w) →
       AreInside (all_steps ws) → IsBalancedPart es steps (all_steps ws)
   contours_part ws each inside = balanced_from_rises es steps along (all_steps ws) inside

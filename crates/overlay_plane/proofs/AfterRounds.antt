@@ -13,13 +13,13 @@ use Rattle.overlay_plane.specs.Arrangements.{IsReachedBy, ArrangementsKeepBalanc
 use Rattle.overlay_plane.proofs.AnyRounds.{IsAnyRound, any_round, any_rounds}
 use Rattle.overlay_plane.proofs.KeepingBalance.{merging_keeps_balance, cutting_keeps_balance}
 
--- what a round leaves has balanced counts
+-- the pieces of a round have balanced counts
 balance_after_round : (old : List CountedEdge) (r : Round) → IsAnyRound old r → HasBalancedCounts old →
     HasBalancedCounts (pieces_of r)
 balance_after_round old r round balanced = cutting_keeps_balance r.edges (whole_cuts r)
     (merging_keeps_balance old r.edges round.merged balanced)
 
--- and so has what all rounds leave
+-- the pieces of all rounds have balanced counts
 balance_after_rounds : (old : List CountedEdge) (rounds : List Round) → AreEachRounds IsAnyRound old rounds →
     HasBalancedCounts old → HasBalancedCounts (after_rounds old rounds)
 balance_after_rounds old [] cut balanced = balanced
@@ -38,7 +38,7 @@ pub no_round_on_settled : (old : List CountedEdge) (r : Round) → IsMerged old 
 no_round_on_settled old r merged settled round = round.unsettled
     (subst IsSettled (IsMerged-unique old old r.edges merged round.merged) settled)
 
--- so none can be taken on a list that was arranged
+-- no round can be taken on a list that was arranged
 pub no_rounds_again : (first second : Solver) (earlier again : List Round) (before old : List CountedEdge) →
     IsReachedBy first earlier before old → AreRounds second old again → 1 ≤ length again → ⊥
 no_rounds_again first second earlier [] before old reached cut some = omega arith

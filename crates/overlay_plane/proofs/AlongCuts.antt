@@ -98,7 +98,7 @@ module _ (filled : Hand) (es : List CountedEdge) (steps : List Step) (along : Wa
         once : HasEachOnce walk
         once = orbits_have_each_once steps hand (alternating_steps_lead_on steps alternates hand) walk orbit
 
-    -- and so is that of a part that has none of its steps
+    -- the winding of a part without steps of the orbit is constant along it too
     others_winding : (taken : List Step) → IsBalancedPart es steps taken →
         ((s : Step) → Contains walk s → ¬ (Contains taken s)) → HasOneWinding filled es taken walk
     others_winding taken part none s t c d = by_either_hand filled hand es taken (pos 0) s t (level s c) (level t d)
@@ -118,7 +118,7 @@ module _ (filled : Hand) (es : List CountedEdge) (steps : List Step) (along : Wa
     not_taken s c taken = both_ways (is_step_of walk s) (left_parts steps walk s c).1
         ((is_step_of_decides walk s).1 taken)
 
-    -- along an orbit of what it leaves its winding is one
+    -- along an orbit of the rest its winding is constant
     past_winding : (other : List Step) → IsSomeOrbit (without steps walk) other → HasOneWinding filled es walk other
     past_winding other own s t c d = all_round own.remaining own.hand other own.orbit
         (λ u. winding_beside filled es walk s ≡ winding_beside filled es walk u)
@@ -130,7 +130,7 @@ module _ (filled : Hand) (es : List CountedEdge) (steps : List Step) (along : Wa
         in_steps : (u : Step) → Contains own.remaining u → Contains steps u
         in_steps u e = (left_parts steps walk u (own.inside u e)).0
 
-    -- and that of an orbit of what it leaves is one along it
+    -- the winding of an orbit of the rest is constant along it
     before_winding : (other : List Step) → IsSomeOrbit (without steps walk) other → HasOneWinding filled es other walk
     before_winding other own = others_winding other
         (record {
@@ -144,7 +144,7 @@ module _ (filled : Hand) (es : List CountedEdge) (steps : List Step) (along : Wa
         in_steps u e = (left_parts steps walk u (own.inside u (orbit_inside own.remaining own.alternates own.hand other
             own.orbit u e))).0
 
--- so along each walk of a cut each of its walks winds alike
+-- along each walk of a cut each of its walks has a constant winding
 pub walks_wind_alike : (filled : Hand) (es : List CountedEdge) (hand_of : Step → Hand) (steps : List Step) →
     WalksAlong es steps → Alternates steps → (walks : List (List Step)) → IsCutInto hand_of steps walks →
     (taken walk : List Step) → Contains walks taken → Contains walks walk → HasOneWinding filled es taken walk

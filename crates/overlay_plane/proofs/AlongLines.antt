@@ -17,7 +17,7 @@ use Rattle.overlay_plane.proofs.LineForms.{formE}
 use Rattle.overlay_plane.proofs.Strip.{starts_first}
 use Rattle.overlay_plane.proofs.Tests.{lt_from_test, ge_from_test, test_from_lt, int_le-not, same_tests}
 
--- what the step adds to the winding at p
+-- the winding that the step adds at p
 abbrev pub winding_part : PlanePoint → Step → ℤ
 winding_part p s = cond (is_strictly_below (edge_of s) p) (sign_of s) (pos 0)
 
@@ -43,7 +43,7 @@ same_sign w z v y pw pv e = same_tests (int_lt (pos 0) z) (int_lt (pos 0) y)
     (λ t. test_from_lt (pos 0) z (pos_of_mul-pos w z pw (let more = mul-pos v y pv (lt_from_test (pos 0) y t) in
     omega linear)))
 
--- what is left of a point is left of each further right
+-- points to the left of a point are to the left of each further right
 left_further : (p : PlanePoint) (u v : Point) → u.x ≤ℤ v.x → is_left_of p u ≡ true → is_left_of p v ≡ true
 left_further p u v order left =
     let positive = p.positive in
@@ -89,7 +89,7 @@ sides_in_proportion e q r p on_q on_r =
     let none_r = mul-zero (q.x *ℤ p.d -ℤ p.x) (side e (in_plane r)) on_r in
     omega linear
 
--- of two points the one that is not smaller has no smaller x
+-- of two points, one that is not smaller has no smaller x
 not_smaller : (q r : Point) → point_lt q r ≡ false → r.x ≤ℤ q.x
 not_smaller q r back = by_lt_z q.x r.x
     (λ lt. absurd (false≢true (sym back ∙ ap (λ t. t || (int_eq q.x r.x && int_lt q.y r.y)) (test_from_lt q.x r.x lt))))

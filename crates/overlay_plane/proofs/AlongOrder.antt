@@ -38,16 +38,16 @@ comes_first-along e v w = ap (λ t. int_lt v.x w.x || (int_eq v.x w.x && t)) (by
     by true = refl
     by false = turned v.y w.y
 
--- so the test tells it
+-- the test tells the order
 Decides-comes_first : (e : Edge) (v w : Point) → Decides (comes_first e v w) (IsBefore (along e v) (along e w))
 Decides-comes_first e v w = Decides-at (comes_first e v w) _ (comes_first-along e v w)
     (Decides-point_lt (along e v) (along e w))
 
--- what comes first comes up to the other
+-- a point that comes first comes up to the other
 first_up_to : (e : Edge) (v w : Point) → comes_first e v w ≡ true → IsUpToAlong e v w
 first_up_to e v w h = before_up_to (along e v) (along e w) ((Decides-comes_first e v w).0 h)
 
--- and where it does not, the other comes up to it
+-- if it does not, the other comes up to it
 not_first_up_to : (e : Edge) (v w : Point) → comes_first e v w ≡ false → IsUpToAlong e w v
 not_first_up_to e v w h = by_order (along e w) (along e v) (λ up. up)
     (λ before. absurd (not_from_Decides (comes_first e v w) (Decides-comes_first e v w) h before))
@@ -56,7 +56,7 @@ not_first_up_to e v w h = by_order (along e w) (along e v) (λ up. up)
 pub along-reflexive : (e : Edge) (v : Point) → IsUpToAlong e v v
 along-reflexive e v = up_to_itself (along e v)
 
--- and up to what a point up to which it comes does
+-- `up to` along the edge is transitive
 along-transitive : (e : Edge) (u v w : Point) → IsUpToAlong e u v → IsUpToAlong e v w → IsUpToAlong e u w
 along-transitive e u v w = up_to_through (along e u) (along e v) (along e w)
 

@@ -33,12 +33,12 @@ comes_before-itself e = false_from_ne_true (comes_before e e) (λ before. ⊎_el
 before_by_points : (e f : Edge) → point_lt e.a f.a ≡ true → is_anchored_before e f ≡ true
 before_by_points e f less = or_left (point_lt e.a f.a) (point_eq e.a f.a && turns_left e f) less
 
--- and by its slope, from the same point
+-- from an equal point the slope decides
 before_by_slopes : (e f : Edge) → e.a ≡ f.a → turns_left e f ≡ true → is_anchored_before e f ≡ true
 before_by_slopes e f same left = or_right (point_lt e.a f.a) (point_eq e.a f.a && turns_left e f)
     (and_from (point_eq e.a f.a) (turns_left e f) (point_eq-of_same e.a f.a same) left)
 
--- before an edge that is before another one is before that
+-- the order of anchors is asymmetric
 pub comes_before-transitive : (e f g : Edge) → comes_before e f ≡ true → comes_before f g ≡ true →
     comes_before e g ≡ true
 comes_before-transitive e f g ef fg =
@@ -86,7 +86,7 @@ comes_before-transitive e f g ef fg =
 both_forward : (e f : Edge) → IsForward e → IsForward f → (leads_forward e && leads_forward f) ≡ true
 both_forward e f h k = and_from (leads_forward e) (leads_forward f) h k
 
--- what is before an edge is before all before which that is
+-- the order of anchors is transitive
 pub anchored_before-transitive : (e f g : Edge) → IsForward e → IsForward f → IsForward g →
     is_anchored_before e f ≡ true → is_anchored_before f g ≡ true →
     is_anchored_before e g ≡ true
@@ -109,7 +109,7 @@ anchored_before-one_way e f he hf ef = false_from_ne_true (is_anchored_before f 
     (λ fe. both_ways (is_anchored_before e e) (anchored_before-itself e he)
     (anchored_before-transitive e f e he hf he ef fe))
 
--- what is not before another edge does not start before it
+-- an edge that is not before another does not start before it
 not_by_points : (e f : Edge) → is_anchored_before e f ≡ false → point_lt e.a f.a ≡ false
 not_by_points e f not_before = false_from_ne_true (point_lt e.a f.a)
     (λ less. both_ways (is_anchored_before e f) not_before (before_by_points e f less))
@@ -119,7 +119,7 @@ not_by_slopes : (e f : Edge) → is_anchored_before e f ≡ false → e.a ≡ f.
 not_by_slopes e f not_before same = false_from_ne_true (turns_left e f)
     (λ left. both_ways (is_anchored_before e f) not_before (before_by_slopes e f same left))
 
--- what is not before an edge is not before what that is not before
+-- edges that are not before each other chain
 pub anchored_before-chain : (e f g : Edge) → IsForward e → IsForward f → IsForward g → is_anchored_before e f ≡ false →
     is_anchored_before f g ≡ false →
     is_anchored_before e g ≡ false

@@ -38,7 +38,7 @@ starts_at v t long none ends = by (is_forward t) refl ends
 
 module _ (walk : List Step) (contour : IsContour walk) (s : Step) (c : Contains walk s)
     (anchor : IsAnchor walk (edge_of s)) where
-  -- another step walks along an edge that starts where the anchor does: the one before it, or the one after it
+  -- another step walks along an edge that starts where the anchor does: the step before, or the step after
   other_step : (t : Step) × Contains walk t × ((edge_of t).a ≡ (edge_of s).a) × ¬ (s ≡ t)
   other_step = by (is_forward s) refl
     where
@@ -66,7 +66,7 @@ module _ (walk : List Step) (contour : IsContour walk) (s : Step) (c : Contains 
           )
 
   module _ (once : HasEachEdgeOnce walk) (settled : IsSettledBy edge_of walk) where
-    -- its edge is another one
+    -- its edge differs from the anchor
     other_edge : edge_eq (edge_of other_step.0) (edge_of s) ≡ false
     other_edge = ⊎_elim (λ before. edge_eq-flip (edge_of s) (edge_of other_step.0) before) (λ after. after)
         (either_way (λ t u. edge_eq (edge_of t) (edge_of u) ≡ false) walk

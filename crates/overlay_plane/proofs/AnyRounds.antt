@@ -23,7 +23,7 @@ pub record IsAnyRound (old : List CountedEdge) (r : Round) : Type 0 where
   pub on : (e : CountedEdge) → Contains r.edges e → (p : PlanePoint) → Contains (r.cuts e) p → IsOn (ends_of e) p
   pub rounding : IsRounding r.whole_at
 
--- so does a cutting round
+-- a cutting round is such a round
 pub any_of_cut : (old : List CountedEdge) (r : Round) → IsRound old r → IsAnyRound old r
 any_of_cut old r round = record {
   merged = round.merged;
@@ -34,7 +34,7 @@ any_of_cut old r round = record {
   rounding = round.rounding;
 }
 
--- what always takes the nearest whole point is a rounding
+-- taking the nearest whole point is a rounding
 rounding_of_nearest : (whole_at : PlanePoint → Point) → ((p : PlanePoint) → whole_at p ≡ nearest_point p) →
     IsRounding whole_at
 rounding_of_nearest whole_at is = record {
@@ -43,7 +43,7 @@ rounding_of_nearest whole_at is = record {
   one = λ p q same. is p ∙ nearest_point-rounding.one p q same ∙ sym (is q);
 }
 
--- and so does a snap
+-- a snap is such a round
 pub any_of_snap : (old : List CountedEdge) (r : Round) → IsSnap old r → IsAnyRound old r
 any_of_snap old r snap = record {
   merged = snap.merged;
@@ -54,13 +54,13 @@ any_of_snap old r snap = record {
   rounding = rounding_of_nearest r.whole_at snap.rounding;
 }
 
--- so does each round of each solver
+-- each round of each solver is such a round
 pub any_round : (solver : Solver) (old : List CountedEdge) (r : Round) → IsRoundBy solver old r → IsAnyRound old r
 any_round Rounds old r round = any_of_cut old r round
 any_round Snapping old r (inl (whole, round)) = any_of_cut old r round
 any_round Snapping old r (inr (not_whole, snap)) = any_of_snap old r snap
 
--- and so do all rounds of a solver
+-- all rounds of a solver are such rounds
 pub any_rounds : (solver : Solver) (es : List CountedEdge) (rs : List Round) → AreRounds solver es rs →
     AreEachRounds IsAnyRound es rs
 any_rounds solver es [] are = tt

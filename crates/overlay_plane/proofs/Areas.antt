@@ -45,7 +45,7 @@ next_in_more first ps i p inside is = at_drop_more (next_in first) ps i p inside
 pub wrapped_nothing : (w : Width) → int_wrap w (pos 0) ≡ pos 0
 wrapped_nothing w = int_wrap_fits w (pos 0) (search rules)
 
--- and all that is left of the whole list is its double area
+-- the rest of the whole list is its double area
 pub whole_sum : (first : Point) (ps : List Point) → get_or ps 0 first ≡ first → rest_sum first ps ≡ double_area ps
 whole_sum first [] is = refl
 whole_sum first (p ∷ ps) is = ap (λ q. cross_sum q p ps) (sym is)

@@ -1,5 +1,5 @@
--- Steps are balanced on an arrangement where what a number given to each point rises by along them adds up to 0: along
--- an orbit it telescopes, and in a set that alternates each step ends where its next step begins.
+-- Steps are balanced on an arrangement where the rises of a number given to each point sum to 0 along them. Along an
+-- orbit they telescope. In a set that alternates each step ends where its next step begins.
 use Rattle.std.proofs.Common.{◌≡◌, ℕ, suc, ◌<◌, Bool, true, false, cond, not, ℤ, pos, ◌-ℤ◌, ◌*ℤ◌, List, [], ◌∷◌, length}
 use Rattle.std.proofs.Common.{get_or, Contains, filter, refl, sym, ap, ◌∙◌, subst, arith}
 use Rattle.std.proofs.lemmas.Bool.{both_ways, false_from_ne_true}
@@ -39,11 +39,11 @@ module _ (es : List CountedEdge) (steps : List Step) (walks : WalksAlong es step
   abbrev rise : CountedEdge → ℤ
   rise e = g e.b -ℤ g e.a
 
-  -- what a step rises on an edge: nothing but on its own
+  -- the rise of a step on an edge: 0 except on its own edge
   abbrev rise_on : CountedEdge → Step → ℤ
   rise_on e s = rise e *ℤ cond (edge_eq (edge_of s) (ends_of e)) (sign_of s) (pos 0)
 
-  -- over all edges this is what g rises by along the step
+  -- over all edges it is the rise of g along the step
   rise_of_step : (s : Step) → Contains taken s → total (λ e. rise_on e s) es ≡ signed_rise g s
   rise_of_step s c =
       total-same (λ e. rise_on e s) (λ e. cond (edge_eq (ends_of e) (ends_of own)) (rise e *ℤ sign_of s) (pos 0)) es
@@ -82,7 +82,7 @@ balanced_from_rises es steps walks taken inside level =
 
 -- ---- orbits
 
--- each step of the list but the first begins where the one before it ends
+-- each step of the list but the first begins where the step before ends
 abbrev IsLinked : List Step → Type 0
 IsLinked ss = (k : ℕ) → suc k < length ss → (get_or ss (suc k) no_step).from ≡ (get_or ss k no_step).to
 
@@ -96,7 +96,7 @@ rise_of_linked g s (t ∷ ts) linked =
     let meet : g t.from ≡ g s.to = ap g (linked 0 (omega arith)) in
     omega linear
 
--- and round an orbit it is 0
+-- round an orbit it is 0
 orbit_rises : (steps : List Step) (hand : Hand) (walk : List Step) → IsOrbit steps hand walk →
     (g : Point → ℤ) → total (signed_rise g) walk ≡ pos 0
 orbit_rises steps hand [] orbit g = refl
@@ -134,7 +134,7 @@ orbits_have_each_once steps hand leads walk orbit i j d less within = false_from
 -- ---- sets that alternate
 
 module _ (steps : List Step) (alternates : Alternates steps) where
-  -- what a step is followed by, if the test of whether it is in the set gives this
+  -- the next step, by the answer whether the step is in the set
   next_by : (s : Step) (b : Bool) → is_step_of steps s ≡ b → Step
   next_by s true e = (has_next steps right (leads_on steps alternates right) s ((is_step_of_decides steps s).0 e)).0
   next_by s false e = s
@@ -152,12 +152,12 @@ module _ (steps : List Step) (alternates : Alternates steps) where
       by true e = (has_next steps right (leads_on steps alternates right) s ((is_step_of_decides steps s).0 e)).1
       by false e = absurd (both_ways (is_step_of steps s) e ((is_step_of_decides steps s).1 c))
 
-  -- what a step follows, if the test of whether it is in the set gives this
+  -- the previous step, by the answer whether the step is in the set
   before_by : (t : Step) (b : Bool) → is_step_of steps t ≡ b → Step
   before_by t true e = (next_surjective steps alternates right t ((is_step_of_decides steps t).0 e)).0
   before_by t false e = t
 
-  -- the step of which a step of the set is the next
+  -- the step before a step of the set
   before_of : Step → Step
   before_of t = before_by t (is_step_of steps t) refl
 
@@ -172,7 +172,7 @@ module _ (steps : List Step) (alternates : Alternates steps) where
           (found.1, found.2)
       by false e = absurd (both_ways (is_step_of steps t) e ((is_step_of_decides steps t).1 c))
 
-  -- t is the next step of s exactly where s is the one before t
+  -- t is the next step of s exactly where s is the step before t
   one_after_other : (s t : Step) → Contains steps s → Contains steps t → step_eq t (next_of s) ≡ step_eq s (before_of t)
   one_after_other s t c d = same_tests (step_eq t (next_of s)) (step_eq s (before_of t)) forth back
     where

@@ -41,7 +41,7 @@ module _ (holds : ℤ → ℤ → Bool) (subj clip : CountedEdge → ℤ) (es : 
       let found = Contains-from_map edge_of walk anchor anchored.among in
       subst (IsEdgeOf es) found.2 (edge_listed holds subj clip es filled walks have walk at found.0 found.1)
 
-  -- and covers the x-coordinate of its point
+  -- the edge covers the x-coordinate of its point
   pub anchor_covers : covers anchor anchor.a.x (pos 1) ≡ true
   anchor_covers = anchors_lead_on walk (All-contains IsContour walks walk have.bindable.contours at)
       (All-contains HasEachEdgeOnce walks walk have.bindable.single at)
@@ -79,7 +79,7 @@ module _ (holds : ℤ → ℤ → Bool) (subj clip : CountedEdge → ℤ) (es : 
       same : anchor ≡ ends_of e
       same = sym own_step.along ∙ ends
 
-      -- so an edge with a positive sign is under it
+      -- an edge with a positive sign is under it
       under : (f : CountedEdge) × Contains es f ×
           (pos 0 <ℤ cond (covers (ends_of f) anchor.a.x (pos 1) && is_under (ends_of f) (ends_of e) anchor.a.x (pos 1))
           (selected_sign holds subj clip es f) (pos 0))
@@ -128,7 +128,7 @@ module _ (holds : ℤ → ℤ → Bool) (subj clip : CountedEdge → ℤ) (es : 
           same
           ∙ parts.0
 
--- so below a hole that selected steps are cut into some filled-above edge is
+-- some filled-above edge is below a hole of a cut of selected steps
 pub below_cut_hole : (holds : ℤ → ℤ → Bool) (subj clip : CountedEdge → ℤ) (es : List CountedEdge) (filled : Hand)
     (walks : List (List Step)) → AreCutFrom holds subj clip es filled walks → (walk : List Step) →
     Contains walks walk → (anchor : Edge) → IsAnchor walk anchor → is_hole filled walk ≡ true →

@@ -43,7 +43,7 @@ way_back p q apart = by (point_lt p q) refl
     by false e = (Decides-point_lt q p).1
         (by_order q p strictly (λ less. absurd (both_ways (point_lt p q) e ((Decides-point_lt p q).1 less))))
 
--- a step that walks along the edge of another one is that one, or leads back along it
+-- a step along the edge of another step is equal to it, or leads back along it
 pub one_of_two : (t s : Step) → edge_of t ≡ edge_of s → (t ≡ s) ⊎ (t ≡ reversed_step s)
 one_of_two t s same = by (is_forward t) (is_forward s) same
   where
@@ -70,7 +70,7 @@ module _ (s : Step) (long : ¬ (s.from ≡ s.to)) where
   two_steps : ¬ (s ≡ reversed_step s)
   two_steps same = long (ap (λ t. t.from) same)
 
-  -- what a step adds to the count along the edge of s
+  -- the count of a step along the edge of s
   abbrev counted : Step → ℤ
   counted t = cond (edge_eq (edge_of t) (edge_of s)) (sign_of t) (pos 0)
 

@@ -42,7 +42,7 @@ each_zero f (y ∷ ys) h none x c =
 
 -- ---- two edges over an x-coordinate
 
--- what is taken by a is taken by b or by s, which take nothing in common, or by a alone
+-- entries taken by a are taken by b or by s, which share none, or by a alone
 parted : (a b s : Bool) (c : ℤ) → (b ≡ true → a ≡ true) → (s ≡ true → a ≡ true) → (s ≡ true → b ≡ false) →
     cond a c (pos 0) ≡ (cond b c (pos 0) +ℤ cond s c (pos 0)) +ℤ cond (a && not b && not s) c (pos 0)
 parted true true true c p q r = let no = r refl in cc
@@ -64,7 +64,7 @@ module _ (es : List CountedEdge) (e g : CountedEdge) (at_e : Contains es e) (at_
   abbrev pub is_between : CountedEdge → Bool
   is_between f = is_there_under e f && not (is_there_under g f) && not (edge_eq (ends_of f) (ends_of g))
 
-  -- what is under e
+  -- the edges under e
   pub parted_under : (count : CountedEdge → ℤ) (f : CountedEdge) → cond (is_there_under e f) (count f) (pos 0) ≡
       (cond (is_there_under g f) (count f) (pos 0) +ℤ cond (edge_eq (ends_of f) (ends_of g)) (count f) (pos 0)) +ℤ
       cond (is_between f) (count f) (pos 0)

@@ -24,7 +24,7 @@ use Rattle.std.proofs.lemmas.Bool.{not-true}
 
 -- ---- numbers of holes
 
--- the number of a hole's shape: the one in which it stands from the start, or the one that is found
+-- the number of a hole's shape: its shape from the start, or the shape found
 abbrev pub number_by : Role → Option ℕ → Option ℕ
 number_by (outline m) shape = None
 number_by (own_hole m) shape = Some m
@@ -77,11 +77,11 @@ module _ {Y : Type 0} (f : List Step → List Y) (bound : List BoundContour) whe
   abbrev outlines_in : List BoundContour → List BoundContour
   outlines_in bs = filter (λ b. is_outline b.contour.role) bs
 
-  -- what the holes have of which the shapes are from the n-th on
+  -- the holes with shapes from the n-th on
   abbrev from_on : ℕ → List Y
   from_on n = flat_map part (filter (is_hole_from n) bound)
 
-  -- what the shapes have that contours begin
+  -- the shapes that contours begin
   abbrev begun : List BoundContour → List Y
   begun bs = flat_map f (walks_of (flat_map (λ b. shape_begun_by bound b.contour.role b.contour.steps) bs))
 
@@ -115,7 +115,7 @@ module _ {Y : Type 0} (f : List Step → List Y) (bound : List BoundContour) whe
   AreBelow n = (b : BoundContour) → Contains bound b → is_outline b.contour.role ≡ false → (m : ℕ) →
       number_by b.contour.role b.shape ≡ Some m → m < n
 
-  -- so there is no hole from n on
+  -- no hole is from n on
   none_from : (n : ℕ) → AreBelow n → filter (is_hole_from n) bound ≡ []
   none_from n below = filter-same (is_hole_from n) (λ b. false) bound
       (λ b c. false_from_ne_true (is_hole_from n b) (λ is.
@@ -127,7 +127,7 @@ module _ {Y : Type 0} (f : List Step → List Y) (bound : List BoundContour) whe
       against None is h = both_ways false refl is
       against (Some m) is h = not_below n m is (h m refl)
 
-  -- the outlines of contours that are numbered from n on, with the holes from n on, are what these contours begin
+  -- contours begin exactly the outlines numbered from n on, with the holes from n on
   begun_alike : (n : ℕ) (bs : List BoundContour) → AreNumbers n (map (λ b. b.contour) bs) →
       AreBelow (n + outline_count (map (λ b. b.contour) bs)) →
       IsPermutation (flat_map part (outlines_in bs) ++ from_on n) (begun bs)
@@ -209,7 +209,7 @@ module _ {Y : Type 0} (f : List Step → List Y) (bound : List BoundContour) whe
       lost : List Y
       lost = flat_map part (filter is_lost bound)
 
-  -- so they have each contour, where each hole has a number
+  -- the shapes have each contour, if each hole has a number
   pub parts_alike : AreNumbers 0 (map (λ b. b.contour) bound) → AreBelow (outline_count (map (λ b. b.contour) bound)) →
       ((b : BoundContour) → Contains bound b → is_outline b.contour.role ≡ false →
       ¬ (number_by b.contour.role b.shape ≡ None)) →

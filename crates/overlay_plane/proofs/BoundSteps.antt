@@ -107,7 +107,7 @@ module _ (filled : Hand) (contours : List Contour) (numbered : AreNumbers 0 cont
       lost : List Y
       lost = flat_map (λ (b : BoundContour). f b.contour.steps) (filter (is_lost f bound) bound)
 
-  -- so they have the contours but those that are left out
+  -- the shapes have the contours but those that are left out
   pub walks_left : (lost : List (List Step)) × IsPermutation (walks_in contours)
       (walks_of (shapes_bound bound) ++ lost)
   walks_left = let rest = parts_left (λ w. w ∷ []) in (
@@ -182,7 +182,7 @@ pub all_shapes_have_each_step : AllShapesHaveEachStep
 all_shapes_have_each_step holds subj clip es filled in_groups keeps contours kept all shapes found =
     each_step holds subj clip es filled in_groups keeps contours kept shapes found all
 
--- so they wind as these
+-- the shapes have the windings of the contours
 pub all_shapes_wind : AllShapesWind
 all_shapes_wind holds subj clip es filled in_groups keeps contours kept all shapes found as_given result shown p =
     thinned_shapes_wind_alike as_given (points_of_shapes (shapes_bound (contours_bound contours shapes))) result shown p

@@ -1,5 +1,5 @@
--- The chains of the added edges make the counts of the edges that the rounds leave: no round changes what they add up
--- to along an edge.
+-- The chains of the added edges make the counts of the edges that the rounds leave. No round changes their sum along an
+-- edge.
 use Rattle.std.proofs.Common.{◌≡◌, Bool, true, false, cond, ℤ, pos, negsuc, ◌+ℤ◌, ◌*ℤ◌, List, [], ◌∷◌, Contains}
 use Rattle.std.proofs.Common.{flat_map, refl, sym, ap, ap₂, ◌∙◌}
 use Rattle.std.specs.List.{All}
@@ -40,7 +40,7 @@ pub record GoesOver (count : CountedEdge → ℤ) : Type 0 where
 pub subj_goes_over : GoesOver subj_of
 subj_goes_over = record { piece = subj_of_piece; joined = λ es e. refl }
 
--- and the clip's
+-- the count of the clip
 pub clip_goes_over : GoesOver clip_of
 clip_goes_over = record { piece = clip_of_piece; joined = λ es e. refl }
 
@@ -55,7 +55,7 @@ module _ (count : CountedEdge → ℤ) (goes_over : GoesOver count) where
       merged.joined c).0
       ∙ goes_over.joined es (ends_of e)
 
-  -- the pieces that a round leaves count along an edge what the chains count there, times their edges' counts
+  -- the counts of a round's pieces along an edge are those of the chains there, times their edges' counts
   pieces_count : (r : Round) (f : Edge) → total count (edges_between (pieces_of r) f) ≡ total
       (λ e. count e *ℤ chain_along r f e) r.edges
   pieces_count r f =
@@ -101,7 +101,7 @@ module _ (count : CountedEdge → ℤ) (goes_over : GoesOver count) where
       pub by_held : (f : Edge) → weighed count old links (held_along f) ≡ total count (edges_between es f)
       pub by_dropped : (f : Edge) → weighed count old links (dropped_along f) ≡ pos 0
 
-    -- so they do after a round
+    -- this holds after a round
     counts_in_a_round : (es : List CountedEdge) (r : Round) → IsAnyRound es r → (links : CountedEdge → List ChainLink) →
         MakeCounts links es →
         MakeCounts (λ e. flat_map (links_after r) (links e)) (pieces_of r)
@@ -129,7 +129,7 @@ module _ (count : CountedEdge → ℤ) (goes_over : GoesOver count) where
           ∙ nothing_missing es r round.merged f);
     }
 
-    -- and after all rounds
+    -- this holds after all rounds
     counts_in_rounds : (es : List CountedEdge) (rs : List Round) → AreEachRounds IsAnyRound es rs →
         (links : CountedEdge → List ChainLink) → MakeCounts links es →
         MakeCounts (λ e. links_through rs (links e)) (after_rounds es rs)
@@ -169,7 +169,7 @@ module _ (count : CountedEdge → ℤ) (goes_over : GoesOver count) where
     held_or_dropped f (held s) = sym (+ℤ_idr (along f s))
     held_or_dropped f (dropped s) = sym (+ℤ_idl (along f s))
 
-    -- what the chains count along an edge is what the rounds leave there
+    -- the count of the chains along an edge is that of the edge that the rounds leave there
     count_of_chains-is : (rs : List Round) → AreEachRounds IsAnyRound old rs → IsForwardBy ends_of old → (f : Edge) →
         count_of_chains count rs old f ≡ total count (edges_between (after_rounds old rs) f)
     count_of_chains-is rs rounds forward f =
@@ -192,7 +192,7 @@ module _ (count : CountedEdge → ℤ) (goes_over : GoesOver count) where
         make : MakeCounts links (after_rounds old rs)
         make = counts_in_rounds old rs rounds own_chain (counts_at_first forward)
 
-    -- so the chains make the counts of the arrangement
+    -- the chains make the counts of the arrangement
     pub chains_make_counts : (rs : List Round) (new : List CountedEdge) → AreEachRounds IsAnyRound old rs →
         IsMerged (after_rounds old rs) new → IsForwardBy ends_of old →
         All (λ f. count f ≡ count_of_chains count rs old (ends_of f)) new

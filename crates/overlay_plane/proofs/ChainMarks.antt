@@ -114,7 +114,7 @@ module _ (old : List CountedEdge) where
             absurd (both_ways (mark (along_edge (is_forward t) d) e)
             (make.unmarked e in_old s link (along_edge (is_forward t) d)) h)
 
-    -- so the chains make the marks of the arrangement
+    -- the chains make the marks of the arrangement
     pub chains_make_marks : (marked_as : CountedEdge → Step → Bool) (d : Bool) →
         ((e : CountedEdge) (s : Step) → marked_as e s ≡ marks d e s) →
         All (λ f. (mark d f ≡ true) ↔ IsMarkedBy marked_as rs old (ends_of f)) new

@@ -98,7 +98,7 @@ links_of_chain a (q ∷ qs) rises s has =
 
 -- ---- two links
 
--- two edges, of which neither has an end strictly between those of the other, are one edge or meet in ends alone
+-- two edges are equal or meet in ends alone, if neither has an end strictly between those of the other
 pub clear_edges_meet_in_ends : (g h : Edge) → IsBefore g.a g.b → IsBefore h.a h.b →
     ¬ (IsBefore g.a h.a × IsBefore h.a g.b) →
     ¬ (IsBefore g.a h.b × IsBefore h.b g.b) → ¬ (IsBefore h.a g.a × IsBefore g.a h.b) →

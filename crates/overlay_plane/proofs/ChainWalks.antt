@@ -14,12 +14,12 @@ use Rattle.overlay_plane.specs.Rounds.{Round, chain_of, whole_cuts}
 use Rattle.overlay_plane.proofs.EdgesOfSteps.{edge_by}
 use Rattle.overlay_plane.proofs.FoundEntries.{IsFound, found_by}
 
--- the steps go from one point to another, each from where the one before it ends
+-- the steps go from one point to another, each from the end of the step before
 abbrev pub Goes : Point → List Step → Point → Type 0
 Goes p [] q = p ≡ q
 Goes p (s ∷ ss) q = (s.from ≡ p) × Goes s.to ss q
 
--- so they lead from the one to the other
+-- the steps lead from the first point to the last
 pub leads_from_goes : (p : Point) (ss : List Step) (q : Point) → Goes p ss q → Leads p ss q
 leads_from_goes p [] q e = subst (λ w. Leads p [] w) e here
 leads_from_goes p (s ∷ ss) q h = subst (λ u. Leads u (s ∷ ss) q) h.0 (on_to (leads_from_goes s.to ss q h.1))
@@ -66,7 +66,7 @@ goes_along r s e true is = subst (λ (f : Edge). Goes f.a (chain_of r e) f.b) is
 goes_along r s e false is = subst (λ (f : Edge). Goes f.b (backward (chain_of r e)) f.a) is
     (goes_backward e.a (chain_of r e) e.b (goes_through e.a (whole_cuts r e) e.b))
 
--- what a link becomes in a round goes from where its step starts to where it ends
+-- the links of a link after a round go from the start of its step to the end
 goes_after : (r : Round) (l : ChainLink) → Goes (step_of l).from (map step_of (links_after r l)) (step_of l).to
 goes_after r (dropped s) = (refl, refl)
 goes_after r (held s) = by (find (λ e. edge_eq (ends_of e) (edge_of s)) r.edges)
@@ -89,7 +89,7 @@ goes_in_a_round r p (l ∷ ls) q h = subst (λ ss. Goes p ss q)
     (subst (λ u. Goes u (map step_of (links_after r l)) (step_of l).to) h.0 (goes_after r l))
     (goes_in_a_round r (step_of l).to ls q h.1))
 
--- and so after all rounds
+-- this holds after all rounds
 goes_in_rounds : (rs : List Round) (p : Point) (ls : List ChainLink) (q : Point) → Goes p (map step_of ls) q →
     Goes p (map step_of (links_through rs ls)) q
 goes_in_rounds [] p ls q h = h

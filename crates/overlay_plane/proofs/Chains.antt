@@ -22,7 +22,7 @@ module _ {X : Type 0} (lower : X → X → Bool) where
         (total-zero (λ f. cond (lower f y) (c f) (pos 0)) ys
         (λ z at. ap (λ t. cond t (c z) (pos 0)) (asymmetric y z (first z at))))
 
-    -- before a later entry is the first, and what of the rest is before it
+    -- the entries before a later entry are the first, and those of the rest before it
     first_before_later : (c : X → ℤ) (y : X) (ys : List X) (e : X) → lower y e ≡ true →
         total_before c (y ∷ ys) e ≡ c y +ℤ total_before c ys e
     first_before_later c y ys e first = ap (λ t. cond t (c y) (pos 0) +ℤ total_before c ys e) first

@@ -50,7 +50,7 @@ module _ (z w v u : OfEnds) (have : HaveOneLevel z u) (lost : LosesSign (excess 
         lost;
   }
 
-  -- and one of the second against the first
+  -- an end of the second segment against the first
   of_second : (zi wi vi : ℤ) → u.k *ℤ z.k +ℤ u.l *ℤ z.l ≡ (u.p +ℤ u.q) *ℤ zi →
       u.k *ℤ w.k +ℤ u.l *ℤ w.l ≡ (u.p +ℤ u.q) *ℤ wi → u.k *ℤ v.k +ℤ u.l *ℤ v.l ≡ (u.p +ℤ u.q) *ℤ vi →
       ChangesSides zi z.p z.q wi w.p w.q vi v.p v.q

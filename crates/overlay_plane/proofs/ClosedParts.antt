@@ -24,7 +24,7 @@ module _ (steps : List Step) (alternates : Alternates steps) (hand : Hand) (take
   from_part : (s : Step) → Contains part s → Contains steps s × (taken s ≡ true)
   from_part s c = Contains-from_filter taken steps s c
 
-  -- and leave and arrive at the same nodes
+  -- the steps leave and arrive at the same nodes
   leaves_there : (v : Point) (s : Step) → Leaves part v s → Leaves steps v s
   leaves_there v s h = record { among = (from_part s h.among).0; at = h.at }
 
@@ -41,15 +41,15 @@ module _ (steps : List Step) (alternates : Alternates steps) (hand : Hand) (take
         next.1,
       )
 
-  -- and with each next step the step before it
+  -- the part contains with each next step the step before
   step_before_in_part : (t : Step) → Contains part t → (s : Step) × Contains part s × IsNextStep steps hand s t
   step_before_in_part t c =
       let whole = from_part t c in
       let last = next_surjective steps alternates hand t whole.0 in
       (last.0, Contains-filter taken steps last.0 last.1 (closed last.0 t last.1 last.2 ∙ whole.1), last.2)
 
-  -- turning by the hand from a step that leaves, a ray meets one of the part that arrives before another of the part
-  -- that leaves: the one whose next step that is
+  -- a ray that turns by the hand from a leaving step meets an arriving step of the part before another leaving step of
+  -- the part. It is the step whose next step that is
   arrives_in_part : (v : Point) (s t : Step) → Leaves part v s → Leaves part v t → ¬ (s ≡ t) →
       (u : Step) × Arrives part v u × IsMetBefore hand v s.to u.from t.to
   arrives_in_part v s t h k different = (
@@ -96,7 +96,7 @@ module _ (steps : List Step) (alternates : Alternates steps) (hand : Hand) (take
         subst (λ w. IsMetBefore hand w s.from (next.0).to t.from) h.at after,
       )
 
--- what holds between any two by one hand holds between any two counterclockwise
+-- a fact between any two by one hand holds between any two counterclockwise
 arrives_in_part_right : (steps : List Step) (alternates : Alternates steps) (hand : Hand) (taken : Step → Bool)
     (closed : IsClosedUnderNext steps hand taken) (v : Point) (s t : Step) → Leaves (filter taken steps) v s →
     Leaves (filter taken steps) v t → ¬ (s ≡ t) →

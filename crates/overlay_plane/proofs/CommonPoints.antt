@@ -53,7 +53,7 @@ along_of_parallel e f p forward none e_p f_p = let at_a = by_lt_z f.a.x f.b.x wi
         zero_of_mul-zero p.d (cross_at e.a e.b f.a) p.positive
         (zero_of_mul-zero (f.b.y -ℤ f.a.y) (p.d *ℤ cross_at e.a e.b f.a) (omega linear) (omega linear))
 
--- what times a number other than 0 is 0, is 0
+-- a number is 0 if its product with a number other than 0 is
 zero_of_factor : (k z : ℤ) → ¬ (k ≡ pos 0) → k *ℤ z ≡ pos 0 → z ≡ pos 0
 zero_of_factor k z some none =
     by_sign k
@@ -61,7 +61,7 @@ zero_of_factor k z some none =
     (λ zero. absurd (some zero))
     (λ positive. zero_of_mul-zero k z positive none)
 
--- two lines of which the one goes across the other have one point in common
+-- two lines share one point if one goes across the other
 pub one_on_both : (e f : Edge) (p q : PlanePoint) → ¬ (crossed e f ≡ pos 0) →
     side e p ≡ pos 0 → side f p ≡ pos 0 → side e q ≡ pos 0 → side f q ≡ pos 0 → SamePlace q p
 one_on_both e f p q across e_p f_p e_q f_q = (omega (linear, in_x), omega (linear, in_y))

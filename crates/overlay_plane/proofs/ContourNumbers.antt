@@ -49,7 +49,7 @@ number_counted n (d ∷ ds) are c at m stands =
     (λ later. number_counted (after n d.role) ds are.1 c later m stands)
     (Contains-cases d ds c at))
 
--- and so is a number that is found
+-- a number that is found is that of an outline too
 pub found_counted : (filled : Hand) (cs : List Contour) → AreNumbers 0 cs → (i m : ℕ) →
     IsParent filled cs i (Some m) → m < outline_count cs
 found_counted filled cs are i m (direct {j} has_next known) =

@@ -17,7 +17,7 @@ through_long p (q ∷ qs) s c = elim (Contains-append_cases (steps_between p q) 
   | inr later ↦ through_long q qs s later
 ]
 
--- and so are the steps round a closed list of points
+-- the steps round a closed list of points are such steps
 round_long : (ps : List Point) (s : Step) → Contains (steps_of ps) s → ¬ (s.from ≡ s.to)
 round_long [] s c = absurd (elim c.1 [ ])
 round_long (p ∷ ps) s c = through_long p (ps ++ p ∷ []) s c
@@ -41,7 +41,7 @@ module _ (walk : List Step) (contour : IsContour walk) where
             ∙ ap (λ (t : Step). t.to) at.2,
       )
 
-  -- and one ends where each begins
+  -- a step ends where each begins
   pub step_before : (s : Step) → Contains walk s → (t : Step) × Contains walk t × (t.to ≡ s.from)
   step_before s c =
       let at = place_of walk no_step s c in

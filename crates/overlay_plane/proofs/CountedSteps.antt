@@ -18,7 +18,7 @@ use Rattle.overlay_plane.proofs.Totals.{total-same}
 module _ (es : List CountedEdge) (steps : List Step) (walks : WalksAlong es steps) (taken : List Step)
     (inside : (s : Step) → Contains taken s → Contains steps s) where
   module _ (number : Edge → ℤ) where
-    -- what a step adds on an edge: nothing but on its own
+    -- the count of a step on an edge: 0 except on its own edge
     abbrev added_on : CountedEdge → Step → ℤ
     added_on e s = number (ends_of e) *ℤ cond (edge_eq (edge_of s) (ends_of e)) (sign_of s) (pos 0)
 

@@ -137,7 +137,7 @@ same_starts f e x d positive wide_f wide meet over_e over_f level before_e befor
 sum_times : (s x t x' a d d' : ℤ) → a *ℤ (s *ℤ d +ℤ t *ℤ d') ≡ s *ℤ (a *ℤ d) +ℤ t *ℤ (a *ℤ d')
 sum_times = solve 7 (λ s x t x' a d d'. a ⊗ (s ⊗ d ⊕ t ⊗ d') ≗ s ⊗ (a ⊗ d) ⊕ t ⊗ (a ⊗ d')) tt
 
--- an x-coordinate between two of the span, of which the second is inside, is inside
+-- an x-coordinate between two of the span is inside if the second is inside
 pub inner_between : (e : Edge) (s x d t x' d' : ℤ) → pos 0 ≤ℤ s → pos 0 <ℤ t → Spans e x d → IsInner e x' d' →
     IsInner e (s *ℤ x +ℤ t *ℤ x') (s *ℤ d +ℤ t *ℤ d')
 inner_between e s x d t x' d' ps pt i j = record {
@@ -167,7 +167,7 @@ pub record IsShared (f e : Edge) (x d : ℤ) : Type 0 where
 pub cancels : (g h : ℤ) → g *ℤ h +ℤ neg_ℤ h *ℤ g ≡ pos 0
 cancels = solve 2 (λ g h. g ⊗ h ⊕ ⊝ h ⊗ g ≗ number (pos 0)) tt
 
--- the gap is not above 0 at a shared x-coordinate and below 0 at another one of both spans
+-- the gap is not above 0 at a shared x-coordinate and below 0 at another
 pub no_crossing : (f e : Edge) (x d x' d' : ℤ) → pos 0 <ℤ width f → pos 0 <ℤ width e → MeetInEnds e f →
     IsShared f e x d → pos 0 <ℤ d' →
     Spans e x' d' → Spans f x' d' → pos 0 <ℤ gap f e x d → gap f e x' d' <ℤ pos 0 → ⊥
@@ -182,7 +182,7 @@ no_crossing f e x d x' d' wide_f wide meet p positive' over_e over_f above below
     (spans_between f s x' d' t x d above pt over_f p.spans)
     (gap_linear f e s x' d' t x d ∙ cancels s (gap f e x' d'))
 
--- so what is lower at one shared x-coordinate is lower at each
+-- an edge lower at one shared x-coordinate is lower at each
 pub gap_keeps_sign : (f e : Edge) (x d x' d' : ℤ) → pos 0 <ℤ width f → pos 0 <ℤ width e → MeetInEnds e f →
     IsShared f e x d → IsShared f e x' d' →
     pos 0 <ℤ gap f e x d → pos 0 <ℤ gap f e x' d'
@@ -191,7 +191,7 @@ gap_keeps_sign f e x d x' d' wide_f wide meet p q above = by_sign (gap f e x' d'
     above below))
     (λ level. absurd (apart_inside f e x' d' q.positive wide_f wide meet q.inner q.spans level)) (λ up. up)
 
--- and so is which of the two tests below the other
+-- the test below has equal answers at both
 pub same_low : (f e : Edge) (x d x' d' : ℤ) → pos 0 <ℤ width f → pos 0 <ℤ width e → MeetInEnds e f → IsShared f e x d →
     IsShared f e x' d' →
     int_lt (pos 0) (gap f e x d) ≡ int_lt (pos 0) (gap f e x' d')

@@ -74,7 +74,7 @@ goes_left e f low less =
       whole = abs_up turn (omega linear) ∙ is;
     }
 
--- and the other way round
+-- the converse direction
 goes_right : (e f : Edge) → pos 0 ≤ℤ cross_at f.a f.b e.a → cross_at f.a f.b e.b <ℤ cross_at f.a f.b e.a → GoesRight e f
 goes_right e f high less =
     let turn = (f.b.x -ℤ f.a.x) *ℤ (e.b.y -ℤ e.a.y) -ℤ (f.b.y -ℤ f.a.y) *ℤ (e.b.x -ℤ e.a.x) in
@@ -102,7 +102,7 @@ part_way_across e f (inr (high, low, less)) =
     let whole = right.whole in
     (omega linear, omega linear, omega linear)
 
--- and where it ends on that line, it goes all the way to it
+-- an edge that ends on that line goes all the way to it
 pub whole_way_across : (e f : Edge) → IsAcross f e → cross_at f.a f.b e.b ≡ pos 0 → to_line e f ≡ across e f
 whole_way_across e f (inl (low, high, less)) on_line =
     let left = goes_left e f low less in

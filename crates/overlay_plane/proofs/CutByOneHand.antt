@@ -18,7 +18,7 @@ pub record IsFromStart (steps : List Step) (hand : Hand) (walk : List Step) : Ty
   pub orbit : IsOrbit steps hand walk
   pub start : IsStart walk (step_round walk 0)
 
--- so it is where it begins with the start of the steps
+-- this holds if the walk begins with the start of the steps
 first_from_start : (steps : List Step) (hand : Hand) → LeadsOn steps hand → (s : Step) (ss : List Step) →
     IsStart steps s → IsOrbit steps hand (s ∷ ss) →
     IsFromStart steps hand (s ∷ ss)
@@ -36,7 +36,7 @@ first_from_start steps hand leads s ss start orbit = record {
     inside : (t : Step) → Contains (s ∷ ss) t → Contains steps t
     inside t c = All-contains (Contains steps) (s ∷ ss) t (orbits_are_cycles steps hand leads (s ∷ ss) orbit).inside c
 
--- and for each walk of the cut
+-- this holds for each walk of the cut
 pub walks_from_starts : (hand : Hand) (steps : List Step) → LeadsOn steps hand → (walks : List (List Step)) →
     IsCutInto (λ s. hand) steps walks →
     (walk : List Step) → Contains walks walk → IsFromStart steps hand walk

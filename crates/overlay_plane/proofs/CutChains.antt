@@ -40,7 +40,7 @@ along_itself e = (
   solve 4 (λ ax ay bx by. crossE ax ay bx by bx by ≗ number (pos 0)) tt e.a.x e.a.y e.b.x e.b.y,
 )
 
--- so it leads itself through its ends alone
+-- an edge leads itself through its ends alone
 pub met_at_itself : (e : Edge) (v : Point) → Contains (met_at e e) v → (v ≡ e.a) ⊎ (v ≡ e.b)
 met_at_itself e v at_v = ⊎_elim (λ is. inl (sym is)) (λ is. inr (sym is))
     (end_held e e v (along_itself e) (subst (λ vs. Contains vs v) (met_along e e (along_itself e)) at_v)).0
@@ -66,8 +66,8 @@ entries_with_ends a b us vs each z at_z = ⊎_elim (λ is. placed (inl (sym is))
         (Contains-later a (vs ++ b ∷ []) b (Contains-push vs b))
     placed (inr (inr in_vs)) = Contains-later a (vs ++ b ∷ []) z (Contains-append_left vs (b ∷ []) z in_vs)
 
--- two lists in order along an edge, of which the second lies between its ends, and each has the entries of the other or
--- ends, lead it along one chain
+-- two lists in order along an edge lead it along one chain, if each has the entries of the other or ends, and the
+-- second lies between its ends
 pub chains_alike : (e : Edge) → IsBefore e.a e.b → (us vs : List Point) →
     Each (IsUpToAlong e) us → Each (IsUpToAlong e) vs →
     ((v : Point) → Contains vs v → IsUpToAlong e e.a v × IsUpToAlong e v e.b) →
@@ -133,7 +133,7 @@ module _ (es : List CountedEdge) (forward : IsForwardBy ends_of es) (e : Counted
           (All-contains (λ w. (w ≡ e.a) ⊎ ((w ≡ e.b) ⊎ Any (λ p. w ≡ nearest_point p) (points_between e f)))
           (led_by f) v (are_nearest f at_f differ).to at_v)
 
-  -- so each computed point is
+  -- each computed point is a rounded cut, or an end
   pub computed_is_rounded : (v : Point) → Contains (cut_points es e) v → IsEndOrIn e.a e.b rounded v
   computed_is_rounded v at_v =
       let from = Contains-from_flat_map led_by es v (Contains-in_order (comes_first (ends_of e)) computed v at_v) in
@@ -164,7 +164,7 @@ module _ (es : List CountedEdge) (forward : IsForwardBy ends_of es) (e : Counted
       differ : edge_eq (ends_of e) (ends_of f) ≡ false
       differ = differs (ends_of e) (ends_of f) p from.2
 
-  -- so each rounded cut is
+  -- each rounded cut is computed, or an end
   rounded_is_computed : (v : Point) → Contains rounded v → IsEndOrIn e.a e.b (cut_points es e) v
   rounded_is_computed v at_v =
       let cut = Contains-from_map nearest_point (cuts_of es e) v at_v in
@@ -198,7 +198,7 @@ module _ (es : List CountedEdge) (forward : IsForwardBy ends_of es) (e : Counted
         rounded_up_to_end (ends_of e) before cut.0 on,
       )
 
-  -- and so do the computed points
+  -- the computed points lie between the ends
   computed_within : (v : Point) → Contains (cut_points es e) v → IsWithin v
   computed_within v at_v = ⊎_elim (λ is. subst IsWithin (sym is) (along-reflexive (ends_of e) e.a, ends_in_order))
       (λ other. ⊎_elim (λ is. subst IsWithin (sym is) (ends_in_order, along-reflexive (ends_of e) e.b))
@@ -214,7 +214,7 @@ module _ (es : List CountedEdge) (forward : IsForwardBy ends_of es) (e : Counted
       kept p q at_p at_q smaller = rounded_up_to (ends_of e) before p q (cut_on es forward e at_e p at_p)
           (cut_on es forward e at_e q at_q) smaller
 
-  -- and so are the computed points
+  -- the computed points are in order
   computed_in_order : Each IsUpTo (cut_points es e)
   computed_in_order = Each-in_weak_order (comes_first (ends_of e)) IsUpTo (along-order (ends_of e)) computed
 
@@ -223,7 +223,7 @@ module _ (es : List CountedEdge) (forward : IsForwardBy ends_of es) (e : Counted
   same_chain = chains_alike (ends_of e) before rounded (cut_points es e) rounded_in_order computed_in_order
       computed_within rounded_is_computed computed_is_rounded
 
-  -- so has the chain through any other points in order along e that are, but for ends, the computed ones
+  -- the chain through other points in order is equal, if they are the computed points but for ends
   pub same_chain_through : (us : List Point) → Each IsUpTo us →
       ((v : Point) → Contains us v → Contains (cut_points es e) v)
       → ((v : Point) → Contains (cut_points es e) v → IsEndOrIn e.a e.b us v)

@@ -78,7 +78,7 @@ points_between e f = (pair_points (ends_of e) (ends_of f)).points
 abbrev pub all_meetings : List CountedEdge → CountedEdge → List PlanePoint
 all_meetings es e = flat_map (points_between e) es
 
--- and these in ascending order, each once: the cuts
+-- the points in ascending order, each once: the cuts
 abbrev pub cuts_of : List CountedEdge → CountedEdge → List PlanePoint
 cuts_of es e = each_once is_smaller (all_meetings es e)
 

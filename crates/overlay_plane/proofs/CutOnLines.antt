@@ -49,8 +49,8 @@ on_vertical_line e v forward level on =
     let zero = zero_of_mul-zero (e.b.y -ℤ e.a.y) (e.a.x -ℤ v.x) (omega linear) (omega linear) in
     omega linear
 
--- a chain from the smaller end of a forward edge to its larger end, on its line, winds round the points that the edge
--- is strictly below
+-- a chain on the line of a forward edge, from its smaller to its larger end, winds round the points that the edge is
+-- strictly below
 pub winding-chain_on_line : (e : Edge) → point_lt e.a e.b ≡ true → (vs : List Point) → All (IsOnLine e) vs →
     (p : PlanePoint) →
     winding (steps_through e.a (vs ++ e.b ∷ [])) p ≡ one_if (is_strictly_below e p)
@@ -106,7 +106,7 @@ pieces_wind count points each p e winds =
     times_one true c = solve 1 (λ c. c ⊗ number (pos 1) ≗ c) tt c
     times_one false c = *ℤ-zero c
 
--- so a list whose edges are cut makes the windings of the list there
+-- a list whose edges are cut makes the windings of the list there
 pub winding_by-cut : (count : CountedEdge → ℤ) (points : CountedEdge → List Point) (es : List CountedEdge) →
     ((e : CountedEdge) (s : Step) → count (piece_along e s) ≡ sign_of s *ℤ count e) →
     (p : PlanePoint) → ((e : CountedEdge) → Contains es e → WindsAsBefore points p e) →

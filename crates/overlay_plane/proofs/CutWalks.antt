@@ -1,5 +1,4 @@
--- A cut takes each step exactly once: an orbit has each of its steps once, and what it leaves can be cut, with the
--- other steps.
+-- A cut takes each step exactly once. An orbit has each of its steps once, and the rest can be cut.
 use Rattle.std.proofs.Common.{◌≡◌, ◌⊎◌, inl, inr, ⊎_elim, zero, suc, Bool, true, false, cond, not, ◌||◌, List}
 use Rattle.std.proofs.Common.{[], ◌∷◌, ◌++◌, take, Contains, refl, sym, ap, ◌∙◌, subst, arith}
 use Rattle.std.specs.Prelude.{slice_index_or}
@@ -25,7 +24,7 @@ use Rattle.overlay_plane.proofs.OrbitSteps.{orbits_are_cycles}
 use Rattle.overlay_plane.proofs.OrbitsApart.{is_step_of_decides, orbits_are_closed, orbits_leave_the_rest}
 use Rattle.overlay_plane.proofs.ShuffledSteps.{Differ, shuffled_from_same}
 
--- ---- what steps taken leave
+-- ---- steps left by steps taken
 
 -- a step is taken, or is not
 by_taken : (taken : List Step) (s : Step) → Contains taken s ⊎ (is_step_of taken s ≡ false)
@@ -61,14 +60,14 @@ Each-append (x ∷ xs) ys h k apart = (first, Each-append xs ys h.1 k (λ s c. (
     first : (s : Step) → Contains (xs ++ ys) s → step_eq x s ≡ false
     first s c = ⊎_elim (λ here. h.0 s here) (λ later. (apart_parts s later).0) (Contains-append_cases xs ys s c)
 
--- what an orbit of steps that alternate leaves alternates
+-- the rest after an orbit of alternating steps alternates
 pub left_alternates : (steps : List Step) → Alternates steps → (hand : Hand) (walk : List Step) →
     IsOrbit steps hand walk → Alternates (without steps walk)
 left_alternates steps alternates hand walk orbit =
     (orbits_leave_the_rest steps alternates hand walk orbit (is_step_of walk)
     (is_step_of_decides walk)).1.left_alternate
 
--- what an orbit of steps that lead on leaves leads on
+-- the rest after an orbit of steps that lead on leads on
 pub left_leads_on : (steps : List Step) (hand : Hand) → LeadsOn steps hand → (walk : List Step) →
     IsOrbit steps hand walk →
     LeadsOn (without steps walk) hand
@@ -76,7 +75,7 @@ left_leads_on steps hand leads walk orbit =
     (closed_parts_lead_on steps hand leads (is_step_of walk)
     (orbits_are_closed steps hand leads walk orbit (is_step_of walk) (is_step_of_decides walk))).rest_leads_on
 
--- so what an orbit by the rule's hand leaves can be cut
+-- the rest after an orbit by the rule's hand can be cut
 pub cuts_leave_cuttable : CutsLeaveCuttable
 cuts_leave_cuttable hand_of steps (alternating alternates) s c = record {
   leads_on = alternating_steps_lead_on steps alternates (hand_of s);
@@ -142,7 +141,7 @@ is_step_of-append (x ∷ xs) ys s = by (step_eq x s) (is_step_of-append xs ys s)
     by true e = refl
     by false e = e
 
--- what the one list leaves of what the other leaves is what both leave
+-- the steps left by two lists one after the other are those left by both
 pub without-without : (steps xs ys : List Step) → without (without steps xs) ys ≡ without steps (xs ++ ys)
 without-without [] xs ys = refl
 without-without (s ∷ ss) xs ys =
@@ -169,7 +168,7 @@ first_walk hand_of steps s ss alternates start orbit = record {
     first : step_round (s ∷ ss) 0 ≡ s
     first = item_round-here (s ∷ ss) no_step 0 (omega arith)
 
--- what the first walks leave alternates, and the next walk is the orbit of its start
+-- the rest after the first walks alternates, and the next walk is the orbit of its start
 pub cuts_are_orbits : CutsAreOrbits
 cuts_are_orbits hand_of steps alternates walks done k h = absurd (elim h [ ])
 cuts_are_orbits hand_of steps alternates walks (next {s} {ss} {rest} start orbit cut) zero h =

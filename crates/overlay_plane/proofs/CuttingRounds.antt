@@ -1,4 +1,4 @@
--- Merged edges cut through the points that are computed pair by pair are what a cutting round leaves.
+-- Merged edges cut through the points computed pair by pair are the result of a cutting round.
 use Rattle.std.proofs.Common.{◌≡◌, List, map, Contains, refl, ap}
 use Rattle.overlay_geom.specs.Edges.{CountedEdge, ends_of}
 use Rattle.overlay_geom.specs.Merged.{IsMerged}
@@ -55,7 +55,7 @@ cutting_through old es forward merged unsettled = (
   },
 )
 
--- so they are what a round leaves
+-- the pieces are the result of a round
 pub cutting_is_a_round : CuttingIsARound
 cutting_is_a_round old es forward merged unsettled =
     (round_of es, round_of_merged old es forward merged unsettled, round_of_pieces es forward)

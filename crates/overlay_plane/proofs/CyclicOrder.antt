@@ -20,7 +20,7 @@ turn-other_hand : (hand : Hand) (v p q : Point) → turn (other_hand hand) v p q
 turn-other_hand left v p q = refl
 turn-other_hand right v p q = refl
 
--- by the other hand, what lay in the first half turn lies in the second
+-- the other hand exchanges the first and the second half turn
 part_reversed : (hand : Hand) (v u p : Point) → Apart v u p →
     part_of_turn (other_hand hand) v u p + part_of_turn hand v u p ≡ 2
 part_reversed hand v u p apart = by_part (turn hand v u p) (dot_at v u p)
@@ -82,7 +82,7 @@ all_apart_exchanged v p m q h = record {
   three = apart_exchanged v p m h.one;
 }
 
--- what lies between is the same from wherever the turn starts
+-- the points between do not depend on where the turn starts
 pub met_shifted : (hand : Hand) (v p m q : Point) → AllApart v p m q → IsMetBefore hand v p m q →
     IsMetBefore hand v m q p
 met_shifted hand v p m q h e = (between_decides hand v m q p h.two h.three h.one).1
@@ -94,7 +94,7 @@ pub met_by_other : (hand : Hand) (v p m q : Point) → AllApart v p m q → IsMe
     IsMetBefore (other_hand hand) v p q m
 met_by_other hand v p m q h e = met_reversed hand v p m q h.one (apart_exchanged v q p h.three) ∙ e
 
--- what is not met before is met after
+-- a point that is not met before is met after
 pub met_after : (hand : Hand) (v u p q : Point) → ¬ (u ≡ v) → Apart v p q → is_met_before hand v u p q ≡ false →
     IsMetBefore hand v u q p
 met_after hand v u p q long apart e = ⊎_elim (λ before. absurd (both_ways (is_met_before hand v u p q) e before))

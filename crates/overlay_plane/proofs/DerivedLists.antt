@@ -9,7 +9,7 @@ module _ {X Y : Type 0} (gives : X → List Y → Type 0) where
   pub given_one : (x : X) (part : List Y) → gives x part → AreGiven gives (x ∷ []) part
   given_one x part given = subst (AreGiven gives (x ∷ [])) (append-nil part) (next given none)
 
-  -- what two lists give is given by both together
+  -- the entries of two lists are those of both together
   pub given_both : {xs ys : List X} {us vs : List Y} → AreGiven gives xs us → AreGiven gives ys vs →
       AreGiven gives (xs ++ ys) (us ++ vs)
   given_both none later = later

@@ -25,7 +25,7 @@ mod_once_round i n h = let e : n + i ≡ 1 * n + i = omega arith in ap (λ m. m 
 abbrev pub others_from : List Point → ℕ → List Point
 others_from ps k = drop (suc k) ps ++ take k ps
 
--- it begins with the point after the one at k
+-- the list begins with the point after place k
 others-first : (ps : List Point) (k : ℕ) → k < length ps → 2 ≤ length ps →
     get_or (others_from ps k) 0 origin ≡ point_round ps (k + 1)
 others-first ps k within two = ⊎_elim later wrapped (cases_lt (suc k) (length ps))
@@ -43,7 +43,7 @@ others-first ps k within two = ⊎_elim later wrapped (cases_lt (suc k) (length 
         ∙ ap (λ m. get_or ps m origin) (let e : k + 1 ≡ length ps + 0 = omega arith in
         sym (ap (λ m. m % length ps) e ∙ mod_once_round 0 (length ps) (omega arith)))
 
--- and ends with the point before it
+-- the list ends with the point before place k
 others-last : (ps : List Point) (k : ℕ) → k < length ps → 2 ≤ length ps →
     get_or (others_from ps k) (length ps - 2) origin ≡ point_round ps (k + length ps - 1)
 others-last ps zero within two =
@@ -72,7 +72,7 @@ module _ (f : Point → Point → ℤ) where
   abbrev pub CountsAlike : Point → Point → Point → Type 0
   CountsAlike u v w = f u v +ℤ f v w ≡ f u w
 
-  -- a list is what comes before a place, the point there, and the rest
+  -- a list is its front before a place, the point there, and the rest
   around-from_place : (ps : List Point) (k : ℕ) → k < length ps →
       around f ps ≡ around f (get_or ps k origin ∷ others_from ps k)
   around-from_place ps k within =
@@ -91,7 +91,7 @@ module _ (f : Point → Point → ℤ) where
       at : length zs ≡ length (z ∷ zs) - 1
       at = omega arith
 
-  -- so it may leave out the point at any place
+  -- the point at any place may be left out
   pub around-remove : (ps : List Point) (k : ℕ) → k < length ps →
       CountsAlike (point_round ps (k + length ps - 1)) (point_round ps k) (point_round ps (k + 1)) →
       around f (remove ps k) ≡ around f ps

@@ -209,7 +209,7 @@ module _ (holds : ℤ → ℤ → Bool) (subj clip : CountedEdge → ℤ) (es : 
         (Contains-append_cases (own_holes bound n) (found_holes bound n) w later))
         (Contains-cases o.steps (own_holes bound n ++ found_holes bound n) w c)
 
-    -- so it is a contour's
+    -- the edge belongs to a contour
     in_walks : (w : List Step) → Contains ws w → Contains (walks_in contours) w
     in_walks w c = ⊎_elim
         (λ (own : IsOwn w). subst (λ v. Contains (walks_in contours) v) own.is
@@ -219,7 +219,7 @@ module _ (holds : ℤ → ℤ → Bool) (subj clip : CountedEdge → ℤ) (es : 
         (Contains-place contours hole.place hole.contour hole.at)))
         (walk_cases w c)
 
-    -- and what stands in the shape is a walk of it
+    -- a contour of the shape is a walk of it
     own_in : (c : Contour) → Contains contours c → stands_in c.role ≡ Some n → Contains ws c.steps
     own_in c at stands = by c.role refl
       where
@@ -323,7 +323,7 @@ module _ (holds : ℤ → ℤ → Bool) (subj clip : CountedEdge → ℤ) (es : 
         lowest (inside lowest leftmost.lowest_taken) leftmost.lowest_starts
         (λ s c. leftmost.none_below s (own_in_taken o at_o (ap stands_in is_b) s c))
 
-    -- so its filled side is the upper, as the outline winds once there
+    -- its filled side is the upper, since the outline winds once there
     filled_there : is_filled_above filled lowest ≡ true
     filled_there = by (is_filled_above filled lowest) refl
       where
@@ -355,6 +355,6 @@ module _ (holds : ℤ → ℤ → Bool) (subj clip : CountedEdge → ℤ) (es : 
             lowest_own.2
             t lowest e lowest_own.3 ∙ there
 
-    -- and it winds once or zero times round each point
+    -- the shape winds once or zero times round each point
     pub shape_winds : HasEachOnce taken → WindsOnceOrNot filled taken
     shape_winds once = winds_once_or_not es steps along alternates filled taken part once (each_once once)

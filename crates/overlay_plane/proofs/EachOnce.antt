@@ -54,7 +54,7 @@ module _ {X : Type 0} (lower : X → X → Bool) where
       by false false h = c
 
   module _ (irreflexive : (x : X) → lower x x ≡ false) where
-    -- and has an entry that ties with the new
+    -- the list has an entry that ties with the new entry
     new_entry : (x : X) (ys : List X) → (z : X) × Contains (inserted_once x ys) z × Tie x z
     new_entry x [] = (x, Contains-head x [], (irreflexive x, irreflexive x))
     new_entry x (y ∷ ys) = by (lower x y) (lower y x) refl refl (new_entry x ys)

@@ -74,7 +74,7 @@ joined_marked d es f h =
     let part = Contains-from_filter (λ e. edge_eq (ends_of e) f) es at.0 at.1 in
     record { found = at.0; inside = part.0; ends = edge_eq-same (ends_of at.0) f part.1; marked = at.2 }
 
--- and each mark that one of them has
+-- a merged edge has each mark that one of them has
 pub marked_joined : (d : Bool) (es : List CountedEdge) (f : Edge) → HasMarked d es f →
     list_any (mark d) (edges_between es f) ≡ true
 marked_joined d es f has = list_any-from_Any (mark d) (edges_between es f)

@@ -47,7 +47,7 @@ turns_by_rise e f g = solve 6 (λ we re wf rf wg rg. rf ⊗ (we ⊗ rg ⊖ re �
 pub not_narrower : (e : Edge) → IsForward e → pos 0 ≤ℤ width e
 not_narrower e forward = let first = starts_first e forward in omega linear
 
--- an edge from which another one leads to the left is not vertical
+-- an edge is not vertical if another edge leads to its left
 pub wide_before_left : (e f : Edge) → IsForward e → IsForward f → pos 0 <ℤ edge_turn e f → pos 0 <ℤ width e
 wide_before_left e f forward_e forward_f left = by_lt_z (pos 0) (width e) (λ lt. lt) (λ ge. absurd (against ge))
   where
@@ -124,7 +124,7 @@ left_of_level e f g forward_e forward_f forward_g level fg =
     let high = mul-pos (width e) (edge_turn f g) (both_wide e f forward_e forward_f level wide) fg in
     pos_of_mul-pos (width f) (edge_turn e g) wide (omega linear)
 
--- one leads to the left of e as another one does, where there is no turn between these two
+-- an edge leads to the left of e as another edge does, if there is no turn between these two
 pub left_to_level : (e f g : Edge) → IsForward e → IsForward f → IsForward g → pos 0 <ℤ edge_turn e f →
     edge_turn f g ≡ pos 0 → pos 0 <ℤ edge_turn e g
 left_to_level e f g forward_e forward_f forward_g ef level = by_lt_z (pos 0) (width f) wide upright
@@ -157,7 +157,7 @@ level_after_level e f g forward_e forward_f forward_g ef fg = by_sign (edge_turn
     (λ high. absurd (let more = left_of_level f e g forward_f forward_e forward_g
     (let opposite = edge_turn_exchanged e f in omega linear) high in omega linear))
 
--- what leads to the left of an edge leads to the left of all that do not
+-- an edge to the left of an edge is to the left of all that are not
 pub left_of_not_left : (e f g : Edge) → IsForward e → IsForward f → IsForward g → turns_left f e ≡ false →
     turns_left f g ≡ true → turns_left e g ≡ true
 left_of_not_left e f g forward_e forward_f forward_g lowest left =

@@ -33,7 +33,7 @@ module _ (s : Step) (e : CountedEdge) (along : edge_of s ≡ ends_of e) where
       by true = point_eq-of_same s.from s.from refl
       by false = false_from_ne_true (point_eq s.to s.from) (λ same. long (sym (point_eq-same s.to s.from same)))
 
-  -- the winding on a side of the step is the one on that side along its edge
+  -- the winding on a side of the step is that on this side along its edge
   pub one_side : ¬ (s.from ≡ s.to) → (es : List CountedEdge) (taken : List Step) (hand : Hand) →
       winding_beside hand es taken s ≡ WindingsBeside.winding_on_side hand (count_on taken) es e s
   one_side long es taken left = ap (λ f. cond (is_forward s) (winding_over es taken f) (winding_under es taken f)) along

@@ -23,7 +23,7 @@ use Rattle.overlay_plane.proofs.SingleEntries.{one_entry}
 use Rattle.overlay_plane.proofs.WholeOnEdges.{forward_from_test, at_itself, on_of_held, by_end}
 
 module _ (filled : ℤ → Bool) (es : List CountedEdge) (fillable : IsFillable filled es) where
-  -- the list is ruled by each rule on what the two fill that holds of nothing only where it takes neither
+  -- a rule on the fillings of both shapes rules the list, if it fails where neither shape is filled
   ruled_by : (rule : Bool → Bool → Bool) → rule false false ≡ false →
       IsRuled (λ s c. rule (filled s) (filled c)) subj_of clip_of es
   ruled_by rule none = record {
@@ -139,7 +139,7 @@ module _ (filled : ℤ → Bool) (es : List CountedEdge) (fillable : IsFillable 
       (on_of_held (ends_of e) e.b (in_plane e.b) (forward_from_test (ends_of e) (forward_at e c)) (at_itself e.b)
       (holds_end (ends_of e) (forward_from_test (ends_of e) (forward_at e c))))
 
-  -- and where the edges tell is such a point
+  -- where the edges tell it, there is such a point
   to_point : EdgeOrEnd → Intersects filled es
   to_point (inl (e, c, t)) =
       let parts = and_parts (fills_a_side filled es subj_of e) (fills_a_side filled es clip_of e) t in
@@ -172,7 +172,7 @@ module _ (filled : ℤ → Bool) (es : List CountedEdge) (fillable : IsFillable 
   meets : Intersects filled es → EdgeOrEnd
   meets (p, s, k) = from_point p s k
 
-  -- ---- interiors, and what pokes out
+  -- ---- interiors, and sides outside the clip
 
   inside : InteriorsIntersect filled es → SomeEdge (has_common_side filled es) es
   inside (p, off, s, k) = reached (λ s c. filled s && filled c) subj_of clip_of es both_rule

@@ -13,7 +13,7 @@ use Rattle.overlay_plane.proofs.LineForms.{line_form_linear, side-start, side-en
 use Rattle.overlay_plane.proofs.Crossing.{inner_between, inner_spans, between_on_line, cancels}
 use Rattle.overlay_plane.proofs.Tests.{lt_from_test, test_from_lt, test_from_ge, same_tests}
 
--- between two points: s times the one and t times the other
+-- the point between two points: s times the first plus t times the second
 abbrev pub mixed : (s t : ℤ) → Point → Point → pos 0 ≤ℤ s → pos 0 <ℤ t → PlanePoint
 mixed s t p q not_below positive = record {
   x = s *ℤ p.x +ℤ t *ℤ q.x;
@@ -99,8 +99,8 @@ off_inside e f p wide meet on_f inner zero =
     ⊎_elim (λ (a : IsAt e.a p). let is = a.0 in absurd (omega linear)) (λ (b : IsAt e.b p). let is = b.0 in
     absurd (omega linear)) (meet p (on_e, on_f)).0
 
--- two points over the inside of e, of which no mixture is off an edge that e meets in ends alone: if the one is below
--- e, so is the other
+-- a point q over the inside of e is below e if a point p over it is, and if each mixture of both is on an edge that e
+-- meets in ends alone
 pub below_with : (e f : Edge) (p q : Point) → pos 0 <ℤ width e → MeetInEnds e f →
     ((s t : ℤ) (ps : pos 0 ≤ℤ s) (pt : pos 0 <ℤ t) → IsOn f (mixed s t p q ps pt)) → IsInner e p.x (pos 1) →
     IsInner e q.x (pos 1) →
@@ -121,7 +121,7 @@ between_from_ends u v = by_lt_z u v
     (λ lt. (inl (omega (arith, ints), omega (arith, ints)), inl (omega (arith, ints), omega (arith, ints))))
     (λ ge. (inr (omega (arith, ints), omega (arith, ints)), inr (omega (arith, ints), omega (arith, ints))))
 
--- both ends are on the edge
+-- the smaller end is on the edge
 pub start_on : (f : Edge) → IsOn f (in_plane f.a)
 start_on f = record {
   on_line = side-start f;
@@ -177,7 +177,7 @@ pub low_at_start : (f e : Edge) → pos 0 <ℤ width f → int_lt (pos 0) (gap f
     (side e (in_plane f.a)) (pos 0)
 low_at_start f e wide = opposite_test (gap f e f.a.x (pos 1)) (width f) (side e (in_plane f.a)) wide (gap-at_start f e)
 
--- and so is its larger end
+-- its larger end is so too
 pub low_at_end : (f e : Edge) → pos 0 <ℤ width f → int_lt (pos 0) (gap f e f.b.x (pos 1)) ≡ int_lt
     (side e (in_plane f.b)) (pos 0)
 low_at_end f e wide = opposite_test (gap f e f.b.x (pos 1)) (width f) (side e (in_plane f.b)) wide (gap-at_end f e)

@@ -32,7 +32,7 @@ any_of_entry P xs x at holds = (at.0, x, at.1, at.2, holds)
 pub Contains-from_any : {X : Type 0} (P : X → Type 0) (xs : List X) → Any P xs → (x : X) × Contains xs x × P x
 Contains-from_any P xs some = (some.1, (some.0, some.2, some.3), some.4)
 
--- where of each entry one fact holds or the other, the one holds of all entries or the other of some
+-- if one of two facts holds of each entry, the first holds of all entries or the second of some
 pub all_or_any : {X : Type 0} (P Q : X → Type 0) → ((x : X) → P x ⊎ Q x) → (xs : List X) → All P xs ⊎ Any Q xs
 all_or_any P Q each [] = inl (All-nil P)
 all_or_any {X} P Q each (x ∷ xs) = by (each x) (all_or_any P Q each xs)
@@ -43,7 +43,7 @@ all_or_any {X} P Q each (x ∷ xs) = by (each x) (all_or_any P Q each xs)
         inr (any_of_entry Q (x ∷ xs) found.0 (Contains-later x xs found.0 found.1) found.2)
     by (inr here) rest = inr (any_of_entry Q (x ∷ xs) x (Contains-head x xs) here)
 
--- ---- what a test keeps
+-- ---- entries that pass a test
 
 -- an entry that passes is kept
 pub Contains-filter : {X : Type 0} (p : X → Bool) (xs : List X) (x : X) → Contains xs x → p x ≡ true →
@@ -58,7 +58,7 @@ Contains-filter {X} p (y ∷ ys) x c e = by (p y) refl (Contains-cases y ys x c)
     by false is (inl same) rest = absurd (both_ways (p x) (subst (λ w. p w ≡ false) same is) e)
     by false is (inr later) rest = rest later
 
--- and what is kept is an entry that passes
+-- an entry kept is an entry that passes
 pub Contains-from_filter : {X : Type 0} (p : X → Bool) (xs : List X) (x : X) → Contains (filter p xs) x →
     Contains xs x × (p x ≡ true)
 Contains-from_filter p xs x c = (
@@ -68,11 +68,11 @@ Contains-from_filter p xs x c = (
 
 -- ---- mapped lists
 
--- what an entry is mapped to is an entry of the mapped list
+-- a mapped entry is an entry of the mapped list
 pub Contains-map : {X Y : Type 0} (f : X → Y) (xs : List X) (x : X) → Contains xs x → Contains (map f xs) (f x)
 Contains-map f xs x c = Contains-mapped f xs c.0 x c.1 (sym c.2)
 
--- an entry of the mapped list is what some entry is mapped to
+-- an entry of the mapped list is some mapped entry
 pub Contains-from_map : {X Y : Type 0} (f : X → Y) (xs : List X) (y : Y) → Contains (map f xs) y →
     (x : X) × Contains xs x × (f x ≡ y)
 Contains-from_map f [] y c = elim c.1 [ ]

@@ -41,7 +41,7 @@ none_not_some r still some =
     p.2 (All-contains (λ p. IsAt (r.whole_at p) p) (r.cuts e.0) p.0
     (All-contains (λ e. All (λ p. IsAt (r.whole_at p) p) (r.cuts e)) r.edges e.0 still e.1) p.1)
 
--- so none of it, taken alone, moves a point
+-- no such round, taken alone, moves a point
 none_moving : (r : Round) (k : ℕ) → MovesNone r → MovingRounds (r ∷ []) k → k ≡ 0
 none_moving r k still (exact kept none) = refl
 none_moving r k still (moving some rest) = absurd (none_not_some r still some)
@@ -70,7 +70,7 @@ no_second_round solver old r next rounds forward whole cut = second.unsettled
     second : IsAnyRound (pieces_of r) next
     second = any_round solver (pieces_of r) next cut.1.0
 
--- so there is one at most
+-- there is at most one round
 one_round : (solver : Solver) (rounds : List Round) (old : List CountedEdge) → IsForwardBy ends_of old →
     MeetInWholePoints old → AreRounds solver old rounds → length rounds ≤ 1
 one_round solver [] old forward whole cut = omega arith
@@ -78,7 +78,7 @@ one_round solver (r ∷ []) old forward whole cut = omega arith
 one_round solver (r ∷ next ∷ rounds) old forward whole cut =
     absurd (no_second_round solver old r next rounds forward whole cut)
 
--- and what is reached is exact
+-- the list reached is exact
 exactly_reached : (solver : Solver) (rounds : List Round) (k : ℕ) (old new : List CountedEdge) →
     IsForwardBy ends_of old → MeetInWholePoints old → IsReachedBy solver rounds old new → MovingRounds rounds k →
     IsExact rounds k old new

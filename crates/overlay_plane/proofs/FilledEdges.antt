@@ -39,7 +39,7 @@ module _ (holds : ℤ → ℤ → Bool) (subj clip : CountedEdge → ℤ) (es : 
       (IsPermutation-sym steps (all_steps walks) have.each_once)
       (Contains-flat_map (λ (w : List Step). w) walks walk s at c)
 
-  -- so its edge is an edge of the list
+  -- its edge is an edge of the list
   pub edge_listed : (walk : List Step) → Contains walks walk → (s : Step) → Contains walk s → IsEdgeOf es (edge_of s)
   edge_listed walk at s c = edge_of_step es steps (selected_along holds subj clip es filled have.ruled) s
       (step_selected walk at s c)

@@ -43,7 +43,7 @@ module _ (filled : Hand) (contours : List Contour) (bindable : CanBeBound filled
   contour_there i w at = All-contains IsContour (walks_in contours) w bindable.contours
       (Contains-place (walks_in contours) i w at)
 
-  -- so it is before an anchor of each hole that is found for the shape
+  -- it is before an anchor of each hole found for the shape
   pub after_own : (i : ℕ) → IsParent filled contours i (Some n) → (w : List Step) →
       slice_get (walks_in contours) i ≡ Some w → (a : Edge) × IsAnchor w a × IsAfterOwn a
   after_own i (direct {j} has known) w at =

@@ -9,7 +9,7 @@ abbrev pub IsFound : {X : Type 0} → (X → Bool) → List X → Option X → T
 IsFound {X} test xs None = (x : X) → Contains xs x → test x ≡ false
 IsFound test xs (Some x) = Contains xs x × (test x ≡ true)
 
--- what a search finds is such an answer
+-- the result of a search is such an answer
 pub found_by : {X : Type 0} (test : X → Bool) (xs : List X) → IsFound test xs (find test xs)
 found_by test [] = λ x c. elim c.1 [ ]
 found_by {X} test (y ∷ ys) = by (test y) refl (find test ys) (found_by test ys)

@@ -69,7 +69,7 @@ module _ (holds : ℤ → ℤ → Bool) (subj clip : CountedEdge → ℤ) (es : 
 
     module _ (n : ℕ) (own_once : (c : Contour) → Contains contours c → stands_in c.role ≡ Some n → IsOnceAlong c.steps)
       where
-        -- so it goes over along the chain
+        -- the winding carries over along the chain
         pub found_once : (i : ℕ) → IsParent filled contours i (Some n) → (c : Contour) →
             slice_get contours i ≡ Some c → c.role ≡ free_hole → IsOnceAlong c.steps
         found_once i (direct {j} has known) c at free =

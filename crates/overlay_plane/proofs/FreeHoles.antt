@@ -146,7 +146,7 @@ module _ (holds : ℤ → ℤ → Bool) (subj clip : CountedEdge → ℤ) (es : 
     never_none true i shape is found c at free = none-some 0 (sym is ∙ found)
     never_none false i shape is found c at free = never_lost i (subst (IsParent filled contours i) is found) c at free
 
-    -- so where there is one shape alone, it is the parent of each hole
+    -- a shape that stands alone is the parent of each hole
     parent_by : (one : Bool) → has_one_shape contours ≡ one → (i : ℕ) (shape : Option ℕ) →
         IsParent filled contours i shape → (c : Contour) → slice_get contours i ≡ Some c → c.role ≡ free_hole →
         MatchBool one (shape ≡ Some 0) (IsParent filled contours i shape)
@@ -166,7 +166,7 @@ all_parents_are_found holds subj clip es filled in_groups keeps contours kept al
       refl i (slice_index_or shapes i None) (parents i c at free) c at free;
 }
 
--- so no hole is lost
+-- no hole is lost
 pub all_holes_have_shapes : AllHolesHaveShapes
 all_holes_have_shapes holds subj clip es filled in_groups keeps contours kept all shapes found i c at free is =
     never_none holds subj clip es filled in_groups keeps contours kept all (has_one_shape contours) i

@@ -8,7 +8,7 @@ use Rattle.overlay_plane.proofs.GreatestTaken.{above_the_greatest_taken}
 use Rattle.overlay_plane.proofs.RegionBelow.{takes_below}
 use Rattle.overlay_plane.proofs.Totals.{total-zero}
 
--- and it is 0 where no edge is strictly below the point
+-- the winding is 0 where no edge is strictly below the point
 pub winding_above_the_greatest_below : WindingAboveTheGreatestBelow
 winding_above_the_greatest_below = record {
   above = λ count es r p g h. above_the_greatest_taken count es r p.x p.d p.positive

@@ -52,7 +52,7 @@ module _ (count : CountedEdge → ℤ) (es : List CountedEdge) (r : IsBalancedAr
       (λ t. let both = and_parts (covers (ends_of f) x d) (is_under (ends_of f) (ends_of g) x d) t in
       down.downward g f h.entry at h.is both.0 both.1)
 
-  -- so what is taken is what is under g, and g
+  -- the edges taken are g and the edges under it
   counted_taken : (f : CountedEdge) → Contains es f → cond (taken f) (count f) (pos 0) ≡
       cond (under_greatest f) (count f) (pos 0) +ℤ cond (edge_eq (ends_of f) (ends_of g)) (count f) (pos 0)
   counted_taken f at = by (edge_eq (ends_of f) (ends_of g)) refl

@@ -49,7 +49,7 @@ groups_cut filled (g ∷ gs) each (ws ∷ inside) cut =
     (cuts_take_each_once (λ s. other_hand filled) g (alternating own.0) own.1 ws cut.0)
     (groups_cut filled gs (λ h c. each h (Contains-later g gs h c)) inside cut.1))
 
--- lists are those of what passes a test, and of what does not
+-- a list splits into the entries that pass a test and those that fail
 split_by : (b : Bool) → IsSplit true (not b) b
 split_by true = inr (refl, refl)
 split_by false = inl (refl, refl, refl)
@@ -72,7 +72,7 @@ module _ (steps : List Step) (alternates : Alternates steps) (filled : Hand) (ke
   outline_group_in : (g : List Step) → Contains outline_groups g → Contains cut.groups g
   outline_group_in g c = (Contains-from_filter (λ h. not (is_hole filled h)) cut.groups g c).0
 
-  -- and alternates
+  -- the steps alternate
   group_alternates : (g : List Step) → Contains cut.groups g → Alternates g
   group_alternates g c = orbit_alternates steps alternates filled g
       (group_of steps alternates filled cut.groups cut.grouped g c).orbit
@@ -87,7 +87,7 @@ module _ (steps : List Step) (alternates : Alternates steps) (filled : Hand) (ke
       cut.cut_inside found.0 found.1 in
       (own.0, own.1, found.0, own.2, found.2)
 
-  -- so they are inside this group
+  -- the walks are inside this group
   inside_outline_group : (w : List Step) → Contains (walks_of cut.inside) w → IsInsideAGroup filled steps w
   inside_outline_group w c = let from = cut_from w c in record {
     group = from.0;
@@ -97,7 +97,7 @@ module _ (steps : List Step) (alternates : Alternates steps) (filled : Hand) (ke
         (other_hand filled)) from.2 from.3 w from.4).orbit;
   }
 
-  -- and contours
+  -- the walks are contours
   pub outline_group_contour : (w : List Step) → Contains (walks_of cut.inside) w → IsContour w
   outline_group_contour w c = let from = cut_from w c in All-contains IsContour from.2 w
       (cuts_are_contours (λ s. other_hand filled) from.0 (group_alternates from.0 (outline_group_in from.0 from.1))

@@ -31,7 +31,7 @@ walks_again : (f : List Step → Contour) → ((w : List Step) → (f w).steps �
 walks_again f same [] = refl
 walks_again f same (w ∷ ws) = ap₂ (λ v vs. v ∷ vs) (same w) (walks_again f same ws)
 
--- so have the walks of groups
+-- the walks of groups have it too
 group_walks : (n : ℕ) (gs : List (List (List Step))) → walks_in (group_contours_from n gs) ≡ walks_of gs
 group_walks n [] = refl
 group_walks n ([] ∷ gs) = group_walks n gs
@@ -54,9 +54,9 @@ module _ (keeps : List Step → Bool) where
       ∙ ap₂ (λ xs ys. xs ++ ys) (group_walks 0 (flat_map (kept_group keeps) inside))
       (walks_again hole_to_bind (λ w. refl) (filter keeps others))
 
-  -- ---- what is kept
+  -- ---- kept walks
 
-  -- what is kept of a group are walks of it
+  -- the kept walks of a group are walks of it
   kept_of_group : (ws : List (List Step)) (kept : List (List Step)) → Contains (kept_group keeps ws) kept →
       (w : List Step) → Contains kept w → Contains ws w
   kept_of_group [] kept c w d = elim c.1 [ ]
@@ -73,7 +73,7 @@ module _ (keeps : List Step → Bool) where
           (Contains-cases (o ∷ filter keeps hs) [] kept at)
       by false at = elim at.1 [ ]
 
-  -- so what is kept of all of them are walks of them
+  -- the kept walks of all groups are walks of them
   pub kept_of_groups : (inside : List (List (List Step))) (w : List Step) →
       Contains (walks_of (flat_map (kept_group keeps) inside)) w → Contains (walks_of inside) w
   kept_of_groups inside w c =

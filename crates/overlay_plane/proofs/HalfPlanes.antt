@@ -1,4 +1,4 @@
--- Edges in a half plane with a whole border stay in it, round by round: their chains, and what the rounds leave.
+-- Edges in a half plane with a whole border stay in it, round by round, with their chains and pieces.
 use Rattle.std.proofs.Common.{Bool, true, false, List, [], ◌∷◌, ◌++◌, Contains, sym, subst}
 use Rattle.std.specs.List.{All}
 use Rattle.std.specs.Prelude.{flat_map}
@@ -42,7 +42,7 @@ module _ (h : HalfPlane) where
         at p here = rounded_in_half h (ends_of f) p (r.whole_at p) ends.0 ends.1
             (round.on f c p here) (round.rounding.near_x p) (round.rounding.near_y p)
 
-    -- so its chain is
+    -- its chain is in the half plane
     chain_in_half : (f : CountedEdge) → Contains r.edges f → IsEdgeInHalf h f → All (IsStepInHalf h) (chain_of r f)
     chain_in_half f c ends =
         All-weaker (IsBetweenGood (IsInHalf h)) (IsStepInHalf h) (λ s good. (good.from, good.to)) (chain_of r f)
@@ -50,7 +50,7 @@ module _ (h : HalfPlane) where
         (All-append (IsInHalf h) (whole_cuts r f) (f.b ∷ []) (cuts_in_half f c ends)
         (All-cons (IsInHalf h) f.b [] ends.1 (All-nil (IsInHalf h)))))
 
-    -- and the links in it stay in it in the round
+    -- the links in it stay in it in the round
     links_in_half : (ls : List ChainLink) → AllLinks (IsStepInHalf h) ls →
         AllLinks (IsStepInHalf h) (flat_map (links_after r) ls)
     links_in_half = links_kept (IsStepInHalf h) (IsStepInHalf h) r (λ s in_half. in_half)
@@ -58,7 +58,7 @@ module _ (h : HalfPlane) where
         (λ s f c is in_half. chain_in_half f c (subst (λ (g : Edge). IsInHalf h g.a × IsInHalf h g.b) (sym is)
         (ends_in_half s in_half)))
 
-    -- what the round leaves of merged edges in it is in it
+    -- the pieces of merged edges in it are in it
     pieces_in_half : All (IsEdgeInHalf h) r.edges → All (IsEdgeInHalf h) (pieces_of r)
     pieces_in_half all = All-weaker (Contains (pieces_of r)) (IsEdgeInHalf h) at (pieces_of r)
         (All-contains_itself (pieces_of r))
@@ -91,7 +91,7 @@ module _ (h : HalfPlane) where
       links_in_rounds (pieces_of r) rs (flat_map (links_after r) ls) rounds.1
       (links_in_half old r rounds.0 ls in_half)
 
-  -- and edges do
+  -- edges stay in it
   edges_in_rounds : (old : List CountedEdge) (rs : List Round) → AreEachRounds IsAnyRound old rs →
       All (IsEdgeInHalf h) old →
       All (IsEdgeInHalf h) (after_rounds old rs)
@@ -108,7 +108,7 @@ chains_stay_in_half_planes solver rounds old are h e ends =
     (All-cons (λ l. IsStepInHalf h (step_of l)) (held (step_along e)) [] ends
     (All-nil (λ l. IsStepInHalf h (step_of l)))))
 
--- and so do arrangements
+-- arrangements stay in it
 pub arrangements_stay_in_half_planes : ArrangementsStayInHalfPlanes
 arrangements_stay_in_half_planes solver rounds old new reached h all =
     merged_in_half h (after_rounds old rounds) new reached.merged

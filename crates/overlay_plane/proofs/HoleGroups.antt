@@ -1,5 +1,5 @@
--- An orbit by the empty hand in the steps of all hole groups stays in one of them. Otherwise the winding of each would
--- be a number other than 0 along the other, and yet 0 at the start of the group that starts first.
+-- An orbit by the empty hand in the steps of all hole groups stays in one of them. Otherwise each would have a winding
+-- other than 0 along the other, and yet 0 at the start of the first group.
 use Rattle.std.proofs.Common.{◌≡◌, ◌⊎◌, inl, inr, ⊎_elim, Bool, true, false, pos, List, Contains, refl, sym, ap, ◌∙◌}
 use Rattle.std.proofs.lemmas.Bool.{both_ways, false_from_ne_true}
 use Rattle.std.proofs.lemmas.List.Elements.{All-contains}
@@ -74,7 +74,7 @@ module _ (es : List CountedEdge) (steps : List Step) (along : WalksAlong es step
     inside : (s : Step) → Contains group s → Contains steps s
     inside = orbit_inside steps alternates filled group own.orbit
 
-    -- and have balanced counts
+    -- the steps have balanced counts
     part : IsBalancedPart es steps group
     part = orbits_are_balanced es steps along filled group own.orbit
 
@@ -83,7 +83,7 @@ module _ (es : List CountedEdge) (steps : List Step) (along : WalksAlong es step
     outside = nothing_before_the_steps es steps group along part (edge_of (start_of group)).a own.start.lowest
 
     module _ (hole : is_hole filled group ≡ true) where
-      -- so it is 0 on the filled sides of a hole, since the start is filled above
+      -- the winding is 0 on the filled sides of a hole, since the start is filled above
       filled_zero : (s : Step) → Contains group s → winding_beside filled es group s ≡ pos 0
       filled_zero s c =
           one_winding_along_orbits es steps group along alternates part filled group own.orbit s
@@ -91,7 +91,7 @@ module _ (es : List CountedEdge) (steps : List Step) (along : WalksAlong es step
           ∙ filled_over filled es group (start_of group) (first_filled filled group hole)
           ∙ outside.over_top_step (start_of group) (inside (start_of group) own.start.among) refl own.start.top
 
-      -- and another number on the empty
+      -- the winding is another number on the empty side
       empty_not_zero : (s : Step) → Contains group s → ¬ (winding_beside (other_hand filled) es group s ≡ pos 0)
       empty_not_zero s c = not_both_zero filled es group s
           ((winding_across_alternating_steps es steps group alternates inside).rises
@@ -147,7 +147,7 @@ module _ (es : List CountedEdge) (steps : List Step) (along : WalksAlong es step
         other.orbit s (start_of second) c other.start.among
         ∙ zero_at_start hole no_later
 
-  -- in steps that alternate and are those of whole groups no step of the one hole is followed by one of the other
+  -- in alternating steps of whole groups no step of one hole is followed by a step of another
   module _ (all : List Step) (all_inside : (s : Step) → Contains all s → Contains steps s)
       (all_alternate : Alternates all) where
     -- the winding of a group on the empty side goes over to the next step

@@ -115,7 +115,7 @@ module _ (holds : ℤ → ℤ → Bool) (subj clip : CountedEdge → ℤ) (es : 
       by_lower_entries comes_before comes_before-itself comes_before-transitive (all_ends es) HaveParents by_next own.0
       i hole at is own.1
 
-  -- the contours, all of which are kept
+  -- all contours, all kept
   all_kept : AreKeptContours holds subj clip es filled false (λ w. true) roled
   all_kept = record {
     ruled = cut.ruled;

@@ -13,7 +13,7 @@ pub places_counted : (n : ℕ) (cs : List Contour) → length (hole_places n cs)
 places_counted n [] = refl
 places_counted n (c ∷ cs) = ap suc (places_counted (suc n) cs)
 
--- what is known of a contour is its place, if it is a hole
+-- the number known of a contour is its place, if it is a hole
 pub place_at : (n : ℕ) (cs : List Contour) (i : ℕ) (c : Contour) → slice_get cs i ≡ Some c →
     slice_index_or (hole_places n cs) i None ≡ place_if (is_outline c.role) (n + i)
 place_at n [] i c at = absurd (none-some c at)
@@ -22,7 +22,7 @@ place_at n (d ∷ ds) zero c at = let here : n ≡ n + 0 = omega arith in
 place_at n (d ∷ ds) (suc i) c at = let after : suc n + i ≡ n + suc i = omega arith in
     place_at (suc n) ds i c at ∙ ap (place_if (is_outline c.role)) after
 
--- so where a place is known, it is that of a hole
+-- a known place is that of a hole
 pub hole_from : (t : Bool) (n k : ℕ) → place_if t n ≡ Some k → (t ≡ false) × (n ≡ k)
 hole_from true n k e = absurd (none-some k e)
 hole_from false n k e = (refl, same_Some n k e)

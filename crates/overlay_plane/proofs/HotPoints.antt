@@ -21,13 +21,13 @@ module _ (es : List CountedEdge) (forward : IsForwardBy ends_of es) where
   abbrev added_by : CountedEdge → List Point
   added_by e = e.a ∷ e.b ∷ cut_points es e
 
-  -- ---- what is computed is hot
+  -- ---- computed points are hot
 
   -- an end of an edge is hot
   end_is_hot : (e : CountedEdge) (v : Point) → Contains es e → (v ≡ e.a) ⊎ (v ≡ e.b) → IsHot es v
   end_is_hot e v at_e end = inl (any_of_entry (λ f. (v ≡ f.a) ⊎ (v ≡ f.b)) es e at_e end)
 
-  -- so is a cut point
+  -- a cut point is hot
   cut_is_hot : (e : CountedEdge) (v : Point) → Contains es e → Contains (cut_points es e) v → IsHot es v
   cut_is_hot e v at_e at_v = ⊎_elim (λ is. end_is_hot e v at_e (inl is))
       (λ other. ⊎_elim (λ is. end_is_hot e v at_e (inr is)) met other)
@@ -50,7 +50,7 @@ module _ (es : List CountedEdge) (forward : IsForwardBy ends_of es) where
           (Contains-cases e.b (cut_points es e) v later))
           (Contains-cases e.a (e.b ∷ cut_points es e) v at_v)
 
-  -- ---- what is hot is computed
+  -- ---- hot points are computed
 
   -- the ends and the cut points of an edge are computed
   end_or_cut_is_computed : (e : CountedEdge) (v : Point) → Contains es e → IsEndOrIn e.a e.b (cut_points es e) v →

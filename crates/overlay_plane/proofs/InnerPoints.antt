@@ -30,7 +30,7 @@ use Rattle.overlay_plane.proofs.WholeOnEdges.{forward_from_test}
 
 -- ---- at a whole point
 
--- what is strictly below a plane point at a whole point is strictly below the whole point
+-- edges strictly below a plane point at a whole point are strictly below the whole point
 below_whole : (v : Point) (p : PlanePoint) → IsAt v p → (g : Edge) → is_strictly_below g p ≡ is_strictly_below g
     (in_plane v)
 below_whole v p at g = same_tests (is_strictly_below g p) (is_strictly_below g (in_plane v)) forth back
@@ -109,7 +109,7 @@ module _ (e f : Edge) (meet : MeetInEnds e f) (p q : PlanePoint) (at_p : IsInsid
   turned : (z d : ℤ) → z *ℤ d ≡ d *ℤ z
   turned z d = solve 2 (λ z d. z ⊗ d ≗ d ⊗ z) tt z d
 
-  -- an edge covers the one where it covers the other
+  -- an edge covers both or neither
   covers_both : covers f p.x p.d ≡ true → covers f q.x q.d ≡ true
   covers_both covered =
       let from = covers_from f p.x p.d covered in
@@ -128,7 +128,7 @@ module _ (e f : Edge) (meet : MeetInEnds e f) (p q : PlanePoint) (at_p : IsInsid
       and_from (int_le (f.a.x *ℤ q.d) q.x) (int_lt q.x (f.b.x *ℤ q.d)) (test_from_le (f.a.x *ℤ q.d) q.x (omega linear))
       (test_from_lt q.x (f.b.x *ℤ q.d) (omega linear))
 
-  -- and does not pass between them
+  -- the edge does not pass between them
   not_between : covers f p.x p.d ≡ true → pos 0 <ℤ side f p → side f q ≤ℤ pos 0 → ⊥
   not_between covered high low = ⊎_elim at_start at_end (meet m (on_e, on_f)).0
     where
@@ -207,7 +207,7 @@ module _ (e f : Edge) (meet : MeetInEnds e f) (p q : PlanePoint) (at_p : IsInsid
           let sum = solve 5 (λ s t a d c. s ⊗ (a ⊗ d) ⊕ t ⊗ (a ⊗ c) ≗ a ⊗ (s ⊗ d ⊕ t ⊗ c)) tt s t e.b.y p.d q.d in
           omega linear
 
-  -- so it is strictly below the one where it is strictly below the other
+  -- the edge is strictly below both or neither
   below_both : is_strictly_below f p ≡ true → is_strictly_below f q ≡ true
   below_both below =
       let parts = and_parts (covers f p.x p.d) (int_lt (pos 0) (side f p)) below in

@@ -28,11 +28,11 @@ use Rattle.overlay_plane.proofs.ShuffledSteps.{Differ}
 use Rattle.overlay_plane.proofs.Stretches.{stretch, place_in_stretch, last_in_stretch, stretch_rises, stretch_once}
 use Rattle.overlay_plane.proofs.Telescopes.{signed_rise}
 
--- numbers beside two steps that are the same on either side do not rise across the one alone
+-- numbers beside two steps, equal on either side, do not rise across one step alone
 rises_across_one : (a b c d : ℤ) → a ≡ c → b ≡ d → a ≡ b +ℤ pos 1 → ¬ (c ≡ d)
 rises_across_one a b c d ac bd rises stays = omega linear
 
--- so it is for the windings on the filled side and on the empty
+-- this holds for the windings on the filled side and on the empty side
 not_both_alike : (filled : Hand) (es : List CountedEdge) (taken : List Step) (s t : Step) →
     winding_beside filled es taken s ≡ winding_beside filled es taken t →
     winding_beside (other_hand filled) es taken s ≡ winding_beside (other_hand filled) es taken t →
@@ -52,7 +52,7 @@ module _ (es : List CountedEdge) (steps : List Step) (along : WalksAlong es step
   group_alternates : Alternates own.group
   group_alternates = orbit_alternates steps alternates filled own.group own.grouped
 
-  -- and is one of the steps
+  -- the step is one of the steps
   group_inside : (s : Step) → Contains own.group s → Contains steps s
   group_inside = orbit_inside steps alternates filled own.group own.grouped
 
@@ -72,7 +72,7 @@ module _ (es : List CountedEdge) (steps : List Step) (along : WalksAlong es step
     taken_in_group s c = let at = place_in_stretch walk i (suc n) s c in
         subst (λ t. Contains own.group t) at.3 (walk_in_group at.0)
 
-    -- what is given to each point rises by 0 along them
+    -- a number given to each point rises by 0 along them
     level : (g : Point → ℤ) → total (signed_rise g) taken ≡ pos 0
     unfolding taken
     level g =
@@ -82,7 +82,7 @@ module _ (es : List CountedEdge) (steps : List Step) (along : WalksAlong es step
         let same = ap g again in
         omega linear
 
-    -- so they have balanced counts
+    -- the steps have balanced counts
     part_of_group : IsBalancedPart es own.group taken
     part_of_group = balanced_from_rises es own.group (part_along es steps own.group along group_inside) taken
         taken_in_group level
@@ -117,7 +117,7 @@ module _ (es : List CountedEdge) (steps : List Step) (along : WalksAlong es step
     across : WindingAcrossSteps es own.group taken
     across = winding_across_alternating_steps es own.group taken group_alternates taken_in_group
 
-    -- so there are no two visits
+    -- there are no two visits
     no_second_visit : ⊥
     no_second_visit = not_both_alike filled es taken (step_round walk (i + n)) (step_round walk (suc (i + n)))
         (one_winding_along_orbits es steps taken along alternates part_of_steps filled
@@ -136,7 +136,7 @@ module _ (es : List CountedEdge) (steps : List Step) (along : WalksAlong es step
       let split : j ≡ suc (i + (j - suc i)) = omega arith in
       no_second_visit i (j - suc i) (omega arith) (same ∙ ap (λ k. (step_round walk k).from) split)
 
-  -- so no point stands twice
+  -- no point occurs twice
   points_once : HasEachPointOnce (points_of walk)
   points_once = AllPairs-from_each (λ p q. point_eq p q ≡ false) (points_of walk)
       (Each-map (λ s t. point_eq s.from t.from ≡ false) (λ p q. point_eq p q ≡ false) (λ s. s.from) walk

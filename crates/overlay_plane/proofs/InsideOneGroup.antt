@@ -74,7 +74,7 @@ module _ (steps : List Step) (alternates : Alternates steps) (filled : Hand) (gr
     passing_inside s c = let found = found_group s c in
         orbit_inside steps alternates filled found.0 (group_of found.0 found.1).orbit s found.3
 
-    -- with each step they have the next by the filled hand, and the one before
+    -- the steps contain with each step its next by the filled hand, and the step before
     closed : IsClosedUnderNext steps filled (is_step_of passing)
     closed s t c next = same_tests (is_step_of passing s) (is_step_of passing t)
         (λ e. let found = found_group s ((is_step_of_decides passing s).0 e) in
@@ -88,7 +88,7 @@ module _ (steps : List Step) (alternates : Alternates steps) (filled : Hand) (gr
             (alternating_steps_lead_on steps alternates filled) group (group_of group at).orbit).closed s
             t c next
 
-    -- so they alternate
+    -- the steps alternate
     pub passing_alternate : Alternates passing
     passing_alternate = alternate_alike (filter (is_step_of passing) steps) passing (
       (λ s c. (is_step_of_decides passing s).0 (Contains-from_filter (is_step_of passing) steps s c).1),

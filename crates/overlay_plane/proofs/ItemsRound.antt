@@ -19,11 +19,11 @@ module _ {X : Type 0} (xs : List X) (d : X) where
   pub item_round-round : (k : ℕ) → item_round xs d (length xs + k) ≡ item_round xs d k
   item_round-round k = ap (λ j. get_or xs j d) (add-mod_left (length xs) k)
 
-  -- the item at a place is the one at the place within the list
+  -- the item at a place is that at the place within the list
   pub item_round-within : (k : ℕ) → item_round xs d (k % length xs) ≡ item_round xs d k
   item_round-within k = ap (λ j. get_or xs j d) (mod-mod k (length xs))
 
-  -- the item after it is the one after that
+  -- the item after it is that after the place within the list
   pub item_round-next : (k : ℕ) → item_round xs d (k % length xs + 1) ≡ item_round xs d (k + 1)
   item_round-next k = ap (λ j. get_or xs j d) (mod-add-mod k (length xs) 1)
 
@@ -35,6 +35,6 @@ module _ {X : Type 0} (xs : List X) (d : X) where
   pub place_of : (x : X) → Contains xs x → (k : ℕ) × (k < length xs) × (item_round xs d k ≡ x)
   place_of x c = (c.0, c.1, item_round-here c.0 c.1 ∙ get_or_default xs c.0 d x c.1 ∙ c.2)
 
--- what stands at one place of a list is one item
+-- the item at a place of a list is unique
 pub one_place : {X : Type 0} (xs : List X) (x y : X) (c : Contains xs x) (d : Contains xs y) → c.0 ≡ d.0 → x ≡ y
 one_place xs x y c d e = sym c.2 ∙ ap (λ k. get_or xs k x) e ∙ get_or_default xs d.0 x y d.1 ∙ d.2

@@ -7,7 +7,7 @@ use Rattle.overlay_geom.specs.Plane.{total}
 use Rattle.overlay_geom.proofs.Products.{mul-add}
 pub use Rattle.overlay_geom.proofs.Totals.{total-append}
 
--- a mapped list adds up what its entries become
+-- the sum of a mapped list is the sum over the mapped entries
 pub total-map : {X Y : Type 0} (f : Y → ℤ) (h : X → Y) (xs : List X) → total f (map h xs) ≡ total (λ x. f (h x)) xs
 total-map f h [] = refl
 total-map f h (x ∷ xs) = ap (λ z. f (h x) +ℤ z) (total-map f h xs)
@@ -29,7 +29,7 @@ pub times_taken : (b : Bool) (k z : ℤ) → k *ℤ cond b z (pos 0) ≡ cond b 
 times_taken true k z = refl
 times_taken false k z = *ℤ-zero k
 
--- and the second factor of a product that is taken or not is one of what is taken or not
+-- a product that is taken or not has a second factor that is taken or not
 pub taken_out : (b : Bool) (s c : ℤ) → cond b (s *ℤ c) (pos 0) ≡ c *ℤ cond b s (pos 0)
 taken_out true s c = *ℤ_comm s c
 taken_out false s c = sym (*ℤ-zero c)

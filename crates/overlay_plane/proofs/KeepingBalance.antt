@@ -40,7 +40,7 @@ balanced_without_counts ends count xs none g = total-zero (λ x. count x *ℤ (g
     zero_times : (z : ℤ) → pos 0 *ℤ z ≡ pos 0
     zero_times = solve 1 (λ z. number (pos 0) ⊗ z ≗ number (pos 0)) tt
 
--- a list mapped is balanced as its entries are by what they become
+-- a mapped list is balanced if its mapped entries are
 balanced_mapped : {X Y : Type 0} (ends : Y → Edge) (count : Y → ℤ) (h : X → Y) (xs : List X) →
     IsBalanced (λ x. ends (h x)) (λ x. count (h x)) xs → IsBalanced ends count (map h xs)
 balanced_mapped ends count h xs balanced g = total-map (λ y. count y *ℤ (g (ends y).b -ℤ g (ends y).a)) h xs
@@ -86,7 +86,7 @@ balanced_with : (old new added : List CountedEdge) → new ≡ old ++ added → 
 balanced_with old new added is before more = subst HasBalancedCounts (sym is)
     (joining_keeps_balance.both old added before more)
 
--- the law of adding: what is added is balanced by itself
+-- the law of adding: the added list is balanced by itself
 pub adding_keeps_balance : AddingKeepsBalance
 adding_keeps_balance = record {
   subject = λ keep given old new adds before. balanced_with old new (map subject_edge (steps_of adds.taken))

@@ -48,7 +48,7 @@ module _ (holds : ℤ → ℤ → Bool) (subj clip : CountedEdge → ℤ) (es : 
       contours
       in_groups kept.cut
 
-  -- so their steps are selected steps
+  -- their steps are selected steps
   pub kept_selected : (s : Step) → Contains (all_steps walks) s → Contains steps s
   kept_selected s c = let from = part_of_all in
       Contains-permutation (all_steps from.all) steps s (IsPermutation-sym steps (all_steps from.all) from.each_once)

@@ -20,7 +20,7 @@ use Rattle.overlay_plane.proofs.WalksApart.{all_edges_once, distinct_above}
 -- ---- entries in relation to later ones, in lists that are joined
 
 module _ {X : Type 0} (R : X → X → Type 0) where
-  -- those of the first list, those of the second, and those of the one to those of the other
+  -- pairs of the first list, pairs of the second, and pairs between the two
   pub Each-first : (xs ys : List X) → Each R (xs ++ ys) → Each R xs
   Each-first [] ys h = tt
   Each-first (x ∷ xs) ys h = ((λ z c. h.0 z (Contains-append_left xs ys z c)), Each-first xs ys h.1)
@@ -37,7 +37,7 @@ module _ {X : Type 0} (R : X → X → Type 0) where
         | inr later ↦ Each-across zs ys h.1 x y later d
       ]
 
-  -- and back
+  -- the converse
   Each-joined : (xs ys : List X) → Each R xs → ((x y : X) → Contains xs x → Contains ys y → R x y) → Each R ys →
       Each R (xs ++ ys)
   Each-joined [] ys first across second = second
@@ -62,7 +62,7 @@ step_of_kept keeps walks s c =
     Contains-flat_map (λ (w : List Step). w) walks found.0 s (Contains-from_filter keeps walks found.0 found.1).0
     found.2
 
--- and in relation to later ones as those are
+-- the entries are in relation to later entries
 pub kept_in_relation : (R : Step → Step → Type 0) (keeps : List Step → Bool) (walks : List (List Step)) →
     Each R (all_steps walks) →
     Each R (all_steps (filter keeps walks))
@@ -95,7 +95,7 @@ module _ (holds : ℤ → ℤ → Bool) (subj clip : CountedEdge → ℤ) (es : 
       (Each-from_all_pairs (λ s t. edge_eq (edge_of s) (edge_of t) ≡ false) (all_steps walks)
       (all_edges_once holds subj clip es filled walks cut))))
 
-  -- and they meet in ends alone
+  -- the edges meet in ends alone
   pub kept_settled : IsSettledBy edge_of (all_steps (filter keeps walks))
   kept_settled s t at_s at_t apart =
       walks_settled holds subj clip es filled walks cut s t (step_of_kept keeps walks s at_s)

@@ -13,7 +13,7 @@ Each R [] = ⊤
 Each {X} R (x ∷ xs) = ((z : X) → Contains xs z → R x z) × Each R xs
 
 module _ {X : Type 0} (R : X → X → Type 0) where
-  -- the same by places
+  -- this relation by places
   pub Each-from_all_pairs : (xs : List X) → AllPairs R xs → Each R xs
   Each-from_all_pairs [] h = tt
   Each-from_all_pairs (x ∷ xs) h = (
@@ -21,7 +21,7 @@ module _ {X : Type 0} (R : X → X → Type 0) where
     Each-from_all_pairs xs (λ i j d p q. h (suc i) (suc j) d (omega arith) (omega arith)),
   )
 
-  -- and back
+  -- the converse
   pub AllPairs-from_each : (xs : List X) → Each R xs → AllPairs R xs
   AllPairs-from_each [] h i j d before inside = elim inside [ ]
   AllPairs-from_each (x ∷ xs) h zero zero d before inside = absurd (omega arith)
@@ -42,7 +42,7 @@ module _ {X : Type 0} (R : X → X → Type 0) where
       (Contains-cases z zs y d))
       (Contains-cases z zs x c)
 
--- what passes a test is in relation as well
+-- entries that pass a test are in relation too
 pub Each-filter : {X : Type 0} (R : X → X → Type 0) (p : X → Bool) (xs : List X) → Each R xs → Each R (filter p xs)
 Each-filter R p [] h = tt
 Each-filter {X} R p (x ∷ xs) h = by (p x) (Each-filter R p xs h.1)
@@ -61,7 +61,7 @@ Each-weaker R S (x ∷ xs) w h = (
   Each-weaker R S xs (λ y z cy cz r. w y z (Contains-later x xs y cy) (Contains-later x xs z cz) r) h.1,
 )
 
--- what entries in relation are mapped to is in relation
+-- mapped entries are in relation
 pub Each-map : {X Y : Type 0} (R : X → X → Type 0) (S : Y → Y → Type 0) (f : X → Y) (xs : List X) →
     ((x y : X) → Contains xs x → Contains xs y → R x y → S (f x) (f y)) → Each R xs → Each S (map f xs)
 Each-map R S f [] become h = tt

@@ -24,7 +24,7 @@ pub next_leaves : (steps : List Step) (hand : Hand) (s t : Step) → IsNextStep 
 next_leaves steps hand s t next = record { among = next.among; at = next.leaves }
 
 module _ (steps : List Step) (hand : Hand) (long : (s : Step) → Contains steps s → ¬ (s.from ≡ s.to)) where
-  -- where some step leaves its end, a step has a next step: the one met first
+  -- if some step leaves its end, a step has a next step: the step met first
   pub next_where_on : (s : Step) → Contains steps s → (t : Step) × Contains steps t × (t.from ≡ s.to) →
       (t : Step) × IsNextStep steps hand s t
   next_where_on s c on =
@@ -40,7 +40,7 @@ module _ (steps : List Step) (hand : Hand) (long : (s : Step) → Contains steps
         },
       )
 
-  -- and only one, where no two leave along one ray
+  -- the next step is unique, if no two leave along one ray
   pub one_next : ((s t : Step) → Contains steps s → Contains steps t → s.from ≡ t.from → AreOneWay s.from s.to t.to →
       s ≡ t) →
       (s t u : Step) → Contains steps s → IsNextStep steps hand s t → IsNextStep steps hand s u → t ≡ u
@@ -58,7 +58,7 @@ module _ (steps : List Step) (hand : Hand) (leads : LeadsOn steps hand) where
   pub has_next : (s : Step) → Contains steps s → (t : Step) × IsNextStep steps hand s t
   has_next s c = next_where_on steps hand leads.long s c (leads.goes_on s c)
 
-  -- and only one
+  -- the next step is unique
   pub has_one_next : (s t u : Step) → Contains steps s → IsNextStep steps hand s t → IsNextStep steps hand s u → t ≡ u
   has_one_next = one_next steps hand leads.long leads.one_leaves
 
@@ -79,7 +79,7 @@ module _ (steps : List Step) (hand : Hand) (leads : LeadsOn steps hand) where
           (record { among = from_part u d; at = e }));
     }
 
-    -- and the other way about
+    -- the converse
     next_of_part : (s t : Step) → Contains (filter taken steps) s → IsNextStep (filter taken steps) hand s t →
         IsNextStep steps hand s t
     next_of_part s t c next =
@@ -93,7 +93,7 @@ module _ (steps : List Step) (hand : Hand) (leads : LeadsOn steps hand) where
         ↔ IsNextStep steps hand s t
     next_alike s t c = (next_of_part s t c, next_in_part s t c)
 
-    -- so the part leads on
+    -- the part leads on
     pub part_leads_on : LeadsOn (filter taken steps) hand
     part_leads_on = record {
       long = λ s c. leads.long s (from_part s c);

@@ -37,7 +37,7 @@ is_left s t = turns_left (edge_of s) (edge_of t) && (leads_forward s && leads_fo
 never_left : (s : Step) → is_left s s ≡ false
 never_left s = ap (λ z. int_lt (pos 0) z && (leads_forward s && leads_forward s)) (edge_turn_same (edge_of s))
 
--- left of what is left of a step is left of it
+-- `is_left` is transitive
 left_transitive : (s t u : Step) → is_left s t ≡ true → is_left t u ≡ true → is_left s u ≡ true
 left_transitive s t u st tu =
     let first = and_parts (turns_left (edge_of s) (edge_of t)) (leads_forward s && leads_forward t) st in
@@ -52,7 +52,7 @@ left_transitive s t u st tu =
     (and_from (leads_forward s) (leads_forward u) early.0 late.1)
 
 module _ (steps : List Step) (forward : (s : Step) → Contains steps s → leads_forward s ≡ true) where
-  -- two of the steps of which not is_left holds turn otherwise
+  -- two steps for which `is_left` fails turn otherwise
   not_left : (s t : Step) → Contains steps s → Contains steps t → is_left s t ≡ false →
       turns_left (edge_of s) (edge_of t) ≡ false
   not_left s t c d e = false_from_ne_true (turns_left (edge_of s) (edge_of t))
@@ -70,13 +70,13 @@ module _ (steps : List Step) (forward : (s : Step) → Contains steps s → lead
     abbrev start : Point
     start = (edge_of least.0).a
 
-    -- of the steps along edges that start there, the one along the top edge
+    -- of the steps along edges that start there, the step along the top edge
     top : (m : Step) × IsNearest (λ t. point_eq (edge_of t).a start) (λ t u. is_left u t) steps m
     top = nearest (λ t. point_eq (edge_of t).a start) (λ t u. is_left u t) never_left
         (λ t u w tu uw. left_transitive w u t uw tu)
         steps least.0 (least.1).among (point_eq-of_same start start refl)
 
-    -- and the one along the lowest edge
+    -- of these, the step along the lowest edge
     lowest : (m : Step) × IsNearest (λ t. point_eq (edge_of t).a start) is_left steps m
     lowest = nearest (λ t. point_eq (edge_of t).a start) is_left never_left left_transitive steps least.0
         (least.1).among (point_eq-of_same start start refl)

@@ -1,4 +1,4 @@
--- Up to the leftmost lowest point of what counts, the winding is 0.
+-- The winding is 0 up to the leftmost lowest point of the edges that count.
 use Rattle.std.proofs.Common.{◌≡◌, ⊎_elim, Bool, true, false, cond, ◌&&◌, ℤ, pos, ◌+ℤ◌, ◌-ℤ◌, ◌<ℤ◌, int_lt, List}
 use Rattle.std.proofs.Common.{Contains, refl, sym, ap, ap₂, ◌∙◌, subst, arith}
 use Rattle.std.proofs.lemmas.Bool.{false≢true, false_from_ne_true, and_parts}
@@ -43,7 +43,7 @@ below_starts_before f v t =
         (omega linear) in
         omega linear
 
--- ---- what counts
+-- ---- edges that count
 
 -- a count that is 0 where it is read
 cond_zero : (s : Bool) (c : ℤ) → (s ≡ true → c ≡ pos 0) → cond s c (pos 0) ≡ pos 0
@@ -73,7 +73,7 @@ module _ (count : CountedEdge → ℤ) (es : List CountedEdge) (arranged : IsBal
       (sym (point_eq-same f.a e.a (and_parts (point_eq f.a e.a) (turns_left (ends_of f) (ends_of e)) both).0))
       (starts_earlier e at before)))))
 
-  -- and so it is above it
+  -- the winding is 0 above it
   above_earlier : (e : CountedEdge) → Contains es e → HasEndBefore q e → winding_above count es e ≡ pos 0
   above_earlier e at before = ap₂ (λ a b. a +ℤ b) (below_earlier e at before)
       (nothing e at (starts_earlier e at before))
@@ -82,7 +82,7 @@ module _ (count : CountedEdge → ℤ) (es : List CountedEdge) (arranged : IsBal
   at_q : winding_by count es (in_plane q) ≡ pos 0
   at_q = at_points q (point_lt-itself q)
 
-  -- below what starts lowest in q the winding is 0
+  -- the winding is 0 below the edge that starts lowest in q
   below_lowest : (e : CountedEdge) → Contains es e → e.a ≡ q → CountsNothingBelow count es q e →
       winding_below count es e ≡ pos 0
   below_lowest e at same none = winding_from_a_start count es arranged e at
@@ -100,7 +100,7 @@ module _ (count : CountedEdge → ℤ) (es : List CountedEdge) (arranged : IsBal
       (λ ends. nothing f at (subst (λ (p : Point). point_lt f.a p ≡ true) (point_eq-same f.b q ends)
       (forward_entry count es arranged f at))))
 
-  -- above what starts topmost in q the winding is 0
+  -- the winding is 0 above the edge that starts topmost in q
   above_top : (e : CountedEdge) → Contains es e → e.a ≡ q → CountsNothingAbove count es q e →
       winding_above count es e ≡ pos 0
   above_top e at same none = together (winding_below count es e) (winding_by count es (in_plane e.a))

@@ -55,7 +55,7 @@ along_through e f k forward f_along k_along =
     let back = along_exchanged e k forward k_along in
     (whole_on_line_of k e f.a forward back f_along.0, whole_on_line_of k e f.b forward back f_along.1)
 
--- an edge that holds both ends of another one has its points on it
+-- an edge that holds both ends of another edge has its points on it
 pub on_holder : (e g : Edge) (p : PlanePoint) → IsBefore e.a e.b → IsBefore g.a g.b → IsHeldBy e g.a → IsHeldBy e g.b →
     IsOn g p → IsOn e p
 on_holder e g p e_forward g_forward start end on =
@@ -77,7 +77,7 @@ pub starts_up_to_end : (f k : Edge) (p : PlanePoint) → IsBefore f.a f.b → Is
 starts_up_to_end f k p f_forward k_forward (on_f, on_k) =
     up_to_by_place f.a k.b p (order_of_on f p f_forward on_f).0 (order_of_on k p k_forward on_k).1
 
--- a smaller end of one edge that is on another one, along it, is common
+-- a smaller end of an edge that is on another edge, along it, is common
 later_start_common : (f k : Edge) (p : PlanePoint) → IsBefore f.a f.b → IsBefore k.a k.b → IsAlong f k →
     IsCommon f k p → IsUpTo f.a k.a →
     IsCommon f k (in_plane k.a)

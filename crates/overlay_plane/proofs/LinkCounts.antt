@@ -29,7 +29,7 @@ abbrev pub dropped_along : Edge → ChainLink → ℤ
 dropped_along f (held s) = pos 0
 dropped_along f (dropped s) = along f s
 
--- the signs along an edge of the chain of another one, summed
+-- the sum of the signs of another edge's chain along an edge
 abbrev pub chain_along : Round → Edge → CountedEdge → ℤ
 chain_along r f e = total (along f) (chain_of r e)
 
@@ -63,7 +63,7 @@ one_alone es up g e c is h =
     ∙ +ℤ_idr (h e)
 
 module _ (r : Round) (up : Ascends r.edges) (f : Edge) where
-  -- what the edges of the round give for a link: the signs of each one's chain, times those of the link along it
+  -- the count of the round's edges for a link: the signs of each chain, times those of the link along it
   abbrev pub by_edges : ChainLink → ℤ
   by_edges l = total (λ e. chain_along r f e *ℤ held_along (ends_of e) l) r.edges
 
@@ -76,7 +76,7 @@ module _ (r : Round) (up : Ascends r.edges) (f : Edge) where
       (λ e c. ap (λ b. chain_along r f e *ℤ cond b (sign_of s) (pos 0)) (edge_eq-either (edge_of s) (ends_of e))
       ∙ times_taken (edge_eq (ends_of e) (edge_of s)) (chain_along r f e) (sign_of s))
 
-  -- after the round the held links that a link has become count what the edges of the round give for it
+  -- after the round the held links of a link have the count that the round's edges give for it
   pub held_after : (l : ChainLink) → total (held_along f) (links_after r l) ≡ by_edges l
   held_after (dropped s) = sym (total-zero (λ e. chain_along r f e *ℤ pos 0) r.edges
       (λ e c. *ℤ-zero (chain_along r f e)))
@@ -115,8 +115,8 @@ module _ (r : Round) (up : Ascends r.edges) (f : Edge) where
       by true same = ap (λ g. missing r g *ℤ sign_of s) (edge_eq-same (edge_of s) f same)
       by false other = *ℤ-zero (missing r (edge_of s)) ∙ sym (*ℤ-zero (missing r f))
 
-  -- so after the round the dropped links that a link has become count what it counted dropped, and what it counted held
-  -- where the round has no edge
+  -- after the round the dropped links of a link have its count as dropped, and its count as held if the round has no
+  -- edge for it
   pub dropped_after : (l : ChainLink) → total (dropped_along f) (links_after r l) ≡ dropped_along f l +ℤ missing r
       f *ℤ held_along f l
   dropped_after (dropped s) = ap (λ z. along f s +ℤ z) (sym (*ℤ-zero (missing r f)))

@@ -76,7 +76,7 @@ module _ (P Q : Step → Type 0) (r : Round) (kept : (s : Step) → P s → Q s)
           (cond (is_forward s) (chain_of r e) (backward (chain_of r e)))
           (way (is_forward s) e (chains s e found.0 (edge_eq-same (ends_of e) (edge_of s) found.1) h))
 
-  -- and of all links after the round
+  -- the fact holds of all links after the round
   pub links_kept : (ls : List ChainLink) → AllLinks P ls → AllLinks Q (flat_map (links_after r) ls)
   links_kept [] h = All-nil (λ l. Q (step_of l))
   links_kept (l ∷ ls) h = All-append (λ l. Q (step_of l)) (links_after r l) (flat_map (links_after r) ls)

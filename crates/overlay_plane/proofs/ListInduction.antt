@@ -6,7 +6,7 @@ use Rattle.std.specs.List.{filter}
 use Rattle.std.proofs.lemmas.Bool.{false≢true}
 use Rattle.overlay_plane.proofs.LaterEntries.{Contains-cases}
 
--- where each entry that passes one test passes another, no more pass the one
+-- if each entry that passes one test passes another, no more pass the first
 no_more_pass : {X : Type 0} (p q : X → Bool) (xs : List X) → ((x : X) → p x ≡ true → q x ≡ true) →
     length (filter p xs) ≤ length (filter q xs)
 no_more_pass p q [] h = omega arith
@@ -19,7 +19,7 @@ no_more_pass {X} p q (x ∷ xs) h = by (p x) (q x) (h x) (no_more_pass p q xs h)
     by false true also rest = omega arith
     by false false also rest = rest
 
--- and where an entry passes the other test alone, fewer pass the one
+-- if some entry passes the second test alone, fewer pass the first
 fewer_pass : {X : Type 0} (p q : X → Bool) (xs : List X) → ((x : X) → p x ≡ true → q x ≡ true) →
     (x : X) → Contains xs x → p x ≡ false → q x ≡ true →
     length (filter p xs) < length (filter q xs)
@@ -46,7 +46,7 @@ fewer_pass {X} p q (y ∷ ys) h x c failed passed = ⊎_elim
 module _ {X : Type 0} (lower : X → X → Bool) (irreflexive : (x : X) → lower x x ≡ false)
     (transitive : (x y z : X) → lower x y ≡ true → lower y z ≡ true → lower x z ≡ true) (xs : List X) (P : X → Type 0)
     (step : (y : X) → ((x : X) → Contains xs x → lower x y ≡ true → P x) → P y) where
-  -- what holds where it holds of all lower entries holds where fewer than n entries are lower
+  -- a fact that holds if it holds of all lower entries, holds where fewer than n entries are lower
   below_many : (n : ℕ) (y : X) → length (filter (λ z. lower z y) xs) < n → P y
   below_many zero y few = absurd (omega arith)
   below_many (suc n) y few = step y (λ x c less. below_many n x
@@ -54,6 +54,6 @@ module _ {X : Type 0} (lower : X → X → Bool) (irreflexive : (x : X) → lowe
       x c (irreflexive x) less in
       omega arith))
 
-  -- and so it holds of all
+  -- the fact holds of all entries
   pub by_lower_entries : (y : X) → P y
   by_lower_entries y = below_many (suc (length (filter (λ z. lower z y) xs))) y (omega arith)

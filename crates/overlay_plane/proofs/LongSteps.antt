@@ -12,7 +12,7 @@ use Rattle.overlay_plane.proofs.EdgesOfSteps.{edge_by}
 use Rattle.overlay_plane.proofs.Entries.{Contains-map}
 use Rattle.overlay_plane.proofs.LeastSteps.{leads_forward, start_before, leftmost}
 
--- of two different points, the one that is not smaller is larger
+-- of two different points, one that is not smaller is larger
 pub larger_otherwise : (p q : Point) → ¬ (p ≡ q) → point_lt p q ≡ false → point_lt q p ≡ true
 larger_otherwise p q apart = point_lt-back p q
     (false_from_ne_true (point_eq p q) (λ same. apart (point_eq-same p q same)))
@@ -26,8 +26,7 @@ long_leads_forward s long = by (is_forward s) refl
     by false e = larger_otherwise s.from s.to long e
 
 module _ (steps : List Step) (long : (s : Step) → Contains steps s → ¬ (s.from ≡ s.to)) where
-  -- a step of which tests tell that its edge starts in a least point, and is the top of those that start there, is the
-  -- start
+  -- a step is the start if its edge starts in a least point, and is the top of those that start there
   pub start_from_tests : (s : Step) → Contains steps s →
       ((t : Step) → Contains steps t → point_lt (edge_of t).a (edge_of s).a ≡ false) →
       ((t : Step) → Contains steps t → (edge_of t).a ≡ (edge_of s).a → turns_left (edge_of s) (edge_of t) ≡ false) →
@@ -55,7 +54,7 @@ module _ (steps : List Step) (long : (s : Step) → Contains steps s → ¬ (s.f
       },
     )
 
-    -- and the lowest edge an anchor of the steps
+    -- the lowest edge is an anchor of the steps
     pub anchor_exists : (e : Edge) × IsAnchor steps e
     anchor_exists = (
       edge_of found.lowest,

@@ -51,7 +51,7 @@ module _ (x y g h moved_g moved_h : ℤ) (x_pos : pos 0 <ℤ x) (y_pos : pos 0 <
       inr (inl (q, omega linear)))
       (λ no. inl (inl (p, no)))
 
-  -- and so where both are negative
+  -- this holds if both are negative
   both_negative : g <ℤ pos 0 → h <ℤ pos 0 → LosesSign g moved_g ⊎ LosesSign h moved_h
   both_negative p q = by_lt_z moved_g (pos 0)
       (λ still.
@@ -60,7 +60,7 @@ module _ (x y g h moved_g moved_h : ℤ) (x_pos : pos 0 <ℤ x) (y_pos : pos 0 <
       inr (inr (q, omega linear)))
       (λ no. inl (inr (p, no)))
 
-  -- so they mix to 0 before, or one loses its sign
+  -- the two mix to 0 before, or one loses its sign
   pub mix_or_lose_sign : MixToZero g h ⊎ (LosesSign g moved_g ⊎ LosesSign h moved_h)
   mix_or_lose_sign = by_sign g
       (λ g_neg. by_sign h (λ h_neg. inr (both_negative g_neg h_neg)) (λ e. inl (second_zero e))

@@ -58,7 +58,7 @@ module _ (f g : Edge) (meet : MeetInEnds g f) (x : ℤ) (over_f : covers f x (po
       (covers_spans f x (pos 1) over_f) level))
       (λ ge. let l = covers_from g x (pos 1) over_g in omega (arith, ints))
 
-  -- so the slopes decide beside it
+  -- the slopes decide beside it
   level_under : gap f g x (pos 1) ≡ pos 0 → is_lower_at x f g ≡ is_under f g x (pos 1)
   level_under level = lower_level f g x level
       ∙ subst (λ (z : ℤ). turns_left f g ≡ is_under f g z (pos 1)) (level_at_start level)
@@ -69,7 +69,7 @@ module _ (f g : Edge) (meet : MeetInEnds g f) (x : ℤ) (over_f : covers f x (po
           (covers_spans f x (pos 1) over_f) level
           (covers_to g x (pos 1) over_g) (covers_to f x (pos 1) over_f)
 
-  -- and elsewhere the heights do
+  -- the heights decide elsewhere
   apart_under : ¬ (gap f g x (pos 1) ≡ pos 0) → is_lower_at x f g ≡ is_under f g x (pos 1)
   apart_under off = lower_apart f g x off
       ∙ sym (near_same f g x (pos 1) (x +ℤ x +ℤ pos 1) (pos 1 +ℤ pos 1) wide_f wide_g meet (record { lt = tt })

@@ -1,5 +1,5 @@
--- The marks that the links of chains are given, through cutting rounds: the held links of the edges' chains make the
--- marks of what the rounds leave, and a dropped link is of an edge without marks.
+-- The marks of the links of chains through cutting rounds. Held links of the edges' chains make the marks of the edges
+-- that the rounds leave. A dropped link belongs to an edge without marks.
 use Rattle.std.proofs.Common.{◌≡◌, ⊎_elim, inl, inr, Bool, true, false, cond, not, List, [], ◌∷◌, ◌++◌, Contains, refl}
 use Rattle.std.proofs.Common.{sym, ap, ◌∙◌, subst}
 use Rattle.std.specs.Prelude.{Option, Some, None, find, map, flat_map}
@@ -25,7 +25,7 @@ use Rattle.overlay_plane.proofs.LinksKept.{IsLong}
 use Rattle.overlay_plane.proofs.StepsAlong.{turns_round, long_through}
 use Rattle.overlay_plane.proofs.Totals.{Contains-head, Contains-later}
 
--- the one entry of a list of one
+-- the single entry of a list of one
 pub only_entry : {X : Type 0} (x y : X) → Contains (x ∷ []) y → x ≡ y
 only_entry x y c = ⊎_elim (λ is. is) (λ later. elim later.1 [ ]) (Contains-cases x [] y c)
 
@@ -122,7 +122,7 @@ module _ (es : List CountedEdge) (r : Round) (merged : IsMerged es r.edges) wher
           (one_merged es r.edges merged g h c found.0 (ends ∙ sym (edge_eq-same (ends_of h) (edge_of s) found.1)))
           (Contains-map held (cond (is_forward s) (chain_of r g) (backward (chain_of r g))) u at)
 
-  -- what a held step becomes is the steps of such a chain
+  -- the links of a held step are the steps of such a chain
   pub held_from : (s t : Step) → Contains (links_after r (held s)) (held t) →
       (g : CountedEdge) × Contains r.edges g × (ends_of g ≡ edge_of s) × Contains
       (cond (is_forward s) (chain_of r g) (backward (chain_of r g))) t
@@ -144,7 +144,7 @@ module _ (es : List CountedEdge) (r : Round) (merged : IsMerged es r.edges) wher
                 (ap step_of from.2) from.1,
           )
 
-  -- and it is dropped where the round has no edge for it
+  -- the step is dropped if the round has no edge for it
   pub dropped_from : (s t : Step) → Contains (links_after r (held s)) (dropped t) →
       (g : CountedEdge) → Contains r.edges g → ends_of g ≡ edge_of s → ⊥
   dropped_from s t = by (find (λ e. edge_eq (ends_of e) (edge_of s)) r.edges)
@@ -255,6 +255,6 @@ module _ (old es : List CountedEdge) (r : Round) (merged : IsMerged es r.edges) 
           let some = marked_held es r.edges merged (along_edge (is_forward s) d) (edge_of s) before in
           dropped_from es r merged s t became some.0 some.1 some.2)
 
-  -- so they make the marks after the round
+  -- the links make the marks after the round
   pub make_after : MakeMarks old after (pieces_of r)
   make_after = record { made = made_after; makes = makes_after; unmarked = unmarked_after }

@@ -13,7 +13,7 @@ use Rattle.overlay_plane.proofs.PassedPixels.{Factor, size, part, place, passed_
 
 -- the ends of the two pieces
 module _ (p q k l : PlanePoint) where
-  -- the one denominator
+  -- the common denominator
   abbrev whole : ℤ
   whole = (p.d *ℤ q.d) *ℤ (k.d *ℤ l.d)
 
@@ -58,7 +58,7 @@ module _ (p q k l : PlanePoint) where
   abbrev ys : OfEnds
   ys = record { p = of_p.by *ℤ p.y; q = of_q.by *ℤ q.y; k = of_k.by *ℤ k.y; l = of_l.by *ℤ l.y }
 
-  -- and those of the whole points nearest them
+  -- the nearest whole points
   abbrev whole_xs : OfEnds
   whole_xs = record { p = nearest p.x p.d; q = nearest q.x q.d; k = nearest k.x k.d; l = nearest l.x l.d }
 
@@ -109,7 +109,7 @@ module _ (p q k l : PlanePoint) where
         (place whole whole-positive p q of_p of_q u.p u.q (first_weights ys u have) xp xq ∙ is
         ∙ sym (place whole whole-positive k l of_k of_l u.k u.l (second_weights ys u have) xk xl)) sizes
 
-    -- so the pieces meet
+    -- the pieces meet
     pieces_meet : PiecesMeet p q k l
     pieces_meet = (
       first,

@@ -25,7 +25,7 @@ use Rattle.overlay_plane.proofs.Totals.{Contains-head, Contains-later}
 use Rattle.overlay_plane.proofs.WholeOnEdges.{Decides-is_between, at_itself, same_place_at, held_of_on, by_end}
 use Rattle.overlay_plane.proofs.WholePlaces.{rounded_whole}
 
--- an entry of two is the one or the other
+-- an entry of a list of two is the first or the second
 one_of_two : (u v w : Point) → Contains (u ∷ v ∷ []) w → (u ≡ w) ⊎ (v ≡ w)
 one_of_two u v w at = ⊎_elim (λ is. inl is) (λ later. ⊎_elim (λ is. inr is) (λ none. absurd (omega (arith, none.1)))
     (Contains-cases v [] w later))
@@ -107,7 +107,7 @@ module _ (e f : Edge) (e_forward : IsBefore e.a e.b) (f_forward : IsBefore f.a f
   back : IsAlong f e
   back = along_exchanged e f e_forward along
 
-  -- so it is with those found
+  -- this holds of the points found
   shared_end : (v : Point) → Contains (ends_on_other e f) v → IsSharedEnd e f v
   shared_end v at = ⊎_elim of_e of_f (Contains-append_cases (ends_between f e) (ends_between e f) v at)
     where
@@ -138,7 +138,7 @@ module _ (e f : Edge) (e_forward : IsBefore e.a e.b) (f_forward : IsBefore f.a f
       (held_end f e v end (held_of_on f v p f_forward at common.1))))
       (same_place_at v p (in_plane v) at (at_itself v))
 
-  -- and so is one at an end of f
+  -- a meeting point at an end of f is so too
   end_found : (v : Point) (p : PlanePoint) → IsOneOfEnds f v → IsAt v p → IsCommon e f p →
       Any (SamePlace p) (map in_plane (ends_on_other e f))
   end_found v p end at common =
@@ -167,7 +167,7 @@ module _ (e f : Edge) (e_forward : IsBefore e.a e.b) (f_forward : IsBefore f.a f
     every = each_found;
   }
 
-  -- and but for e's own ends, the whole points nearest them are f's ends on e
+  -- the whole points nearest to them are f's ends on e, except e's own ends
   pub nearest_along : AreNearest e (map in_plane (ends_on_other e f)) (ends_between e f)
   nearest_along = record {
     from = All-map IsFound in_plane (ends_on_other e f)

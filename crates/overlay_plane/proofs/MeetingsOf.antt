@@ -18,7 +18,7 @@ use Rattle.overlay_plane.proofs.Placements.{AreCrossing, by_placement, both_acro
 use Rattle.overlay_plane.proofs.Placements.{met_beside, met_across}
 use Rattle.overlay_plane.proofs.Totals.{Contains-head}
 
--- the meeting points of two edges, and that what is computed for them is nearest
+-- the meeting points of two edges, with the computed points nearest to them
 abbrev pub HasMeetings : Edge → Edge → Type 0
 HasMeetings e f = (ps : List PlanePoint) × AreMeetings e f ps × AreNearest e ps (met_at e f)
 
@@ -77,7 +77,7 @@ meetings_across e f f_forward c =
           (All-nil _);
     }
 
--- two forward edges have a list of meeting points, of which the whole points computed for the pair are the nearest
+-- two forward edges have a list of meeting points, and the whole points computed for the pair are nearest to them
 pub meetings_of : (e f : Edge) → IsBefore e.a e.b → IsBefore f.a f.b →
     (ps : List PlanePoint) × AreMeetings e f ps × AreNearest e ps (met_at e f)
 meetings_of e f e_forward f_forward =

@@ -80,7 +80,7 @@ met_at-in_box e f forward = by_placement e f along beside across_it
 abbrev pub AreApartInX : Edge → Edge → Type 0
 AreApartInX e f = (e.b.x <ℤ f.a.x) ⊎ (f.b.x <ℤ e.a.x)
 
--- of edges apart in x, no point of the one is on the other
+-- edges apart in x share no point
 pub apart_have_no_common : (e f : Edge) (p : PlanePoint) → IsBefore e.a e.b → IsBefore f.a f.b → AreApartInX e f →
     ¬ (IsCommon e f p)
 apart_have_no_common e f p e_forward f_forward apart (on_e, on_f) = by apart
@@ -102,7 +102,7 @@ empty_of_none : {X : Type 0} (xs : List X) → ((x : X) → Contains xs x → �
 empty_of_none [] none = refl
 empty_of_none (x ∷ xs) none = absurd (none x (Contains-head x xs))
 
--- where no point is common, the one leads the other through no whole point
+-- two edges without a common point lead each other through no whole point
 pub meet_nowhere : (e f : Edge) → IsBefore e.a e.b → IsBefore f.a f.b → ((p : PlanePoint) → ¬ (IsCommon e f p)) →
     met_at e f ≡ []
 meet_nowhere e f e_forward f_forward none = by_placement e f along (λ line beside. met_beside e f line beside) across_it
@@ -121,7 +121,7 @@ meet_nowhere e f e_forward f_forward none = by_placement e f along (λ line besi
         let way : IsPartWay e f = part_way_across e f (both_across e f c).1 in
         absurd (none (crossing_point e f way.2) (crossing_is_common e f way.2 c))
 
--- so it is where the edges are apart in x
+-- this holds if the edges are apart in x
 pub apart_meet_nowhere : (e f : Edge) → IsBefore e.a e.b → IsBefore f.a f.b → AreApartInX e f → met_at e f ≡ []
 apart_meet_nowhere e f e_forward f_forward apart =
     meet_nowhere e f e_forward f_forward (λ p. apart_have_no_common e f p e_forward f_forward apart)
@@ -153,7 +153,7 @@ below_have_no_common e f p below (on_e, on_f) = by on_e.in_y on_f.in_y
 abbrev pub AreApartInY : Edge → Edge → Type 0
 AreApartInY e f = IsBelow e f ⊎ IsBelow f e
 
--- of edges apart in y, no point of the one is on the other
+-- edges apart in y share no point
 pub apart_in_y_have_no_common : (e f : Edge) (p : PlanePoint) → AreApartInY e f → ¬ (IsCommon e f p)
 apart_in_y_have_no_common e f p (inl below) common = below_have_no_common e f p below common
 apart_in_y_have_no_common e f p (inr above) (on_e, on_f) = below_have_no_common f e p above (on_f, on_e)

@@ -30,7 +30,7 @@ reach_mixed k s t ya xa da yb xb db s_nonneg t_nonneg at_a at_b =
     tt (pos k) s t xa da xb db in
     (omega linear, omega linear)
 
--- what is m halves away from a number that is k halves away is m + k halves away
+-- a number m halves away from a number that is k halves away is m + k halves away
 pub reach_further : (k m : ℕ) (g w x c z d : ℤ) → pos 0 ≤ℤ g → d ≡ g *ℤ c → IsInReach k (g *ℤ (pos 2 *ℤ x)) z d →
     IsInReach m (pos 2 *ℤ w *ℤ c) x c →
     IsInReach (m + k) (pos 2 *ℤ w *ℤ d) z d

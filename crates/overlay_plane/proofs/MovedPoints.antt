@@ -18,7 +18,7 @@ none_or_some r = all_or_any (λ e. All (λ p. IsAt (r.whole_at p) p) (r.cuts e))
     (λ e. all_or_any (λ p. IsAt (r.whole_at p) p) (λ p. ¬ (IsAt (r.whole_at p) p)) (λ p. at_or_not (r.whole_at p) p)
     (r.cuts e)) r.edges
 
--- so of any rounds some number moves points
+-- of any rounds some number moves points
 pub moving_rounds : (rs : List Round) → (k : ℕ) × MovingRounds rs k
 moving_rounds [] = (zero, none)
 moving_rounds (r ∷ rs) = by (none_or_some r) (moving_rounds rs)

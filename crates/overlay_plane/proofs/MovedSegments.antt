@@ -40,7 +40,7 @@ module _ (z w v u : OfEnds) (have : HaveOneLevel z u) (meet : excess v u ≡ pos
         t ⊗ (x ⊗ number (pos 0) ⊕ y ⊗ g) ⊕ y ⊗ (s ⊗ number (pos 0) ⊕ t ⊗ (number (pos 0) ⊖ g)) ≗ number (pos 0))
         tt there.x there.y back.x back.y (excess v (way a b))
 
-    -- so before they meet between, or one of the two ends changes sides
+    -- the segments meet between before, or one of the two ends changes sides
     between_ends : Meet z w ⊎ SomeEndChangesSides z w v
     between_ends = ⊎_elim
         (λ mix. inl (
@@ -83,7 +83,7 @@ module _ (z w v u : OfEnds) (have : HaveOneLevel z u) (meet : excess v u ≡ pos
             ((number (pos 0) ⊖ number (pos 0)) ⊗ k ⊕ number (pos 0) ⊗ l) ≗ q ⊖ p) tt z.p z.q z.k z.l in
             omega linear) (λ e f. omega linear)
 
-  -- so segments that meet once they are moved meet before, or an end changes sides
+  -- segments that meet after they are moved meet before, or an end changes sides
   pub meet_or_change_sides : Meet z w ⊎ SomeEndChangesSides z w v
   meet_or_change_sides = by_lt_z (pos 0) u.p
       (λ p. by_lt_z (pos 0) u.q

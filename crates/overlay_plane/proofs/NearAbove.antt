@@ -106,7 +106,7 @@ module _ (n : ℤ) (more : pos 1 <ℤ n) (p : PlanePoint) (scaled : pos 0 <ℤ (
   times_d : (z : ℤ) → z *ℤ (n *ℤ p.d) ≡ n *ℤ (z *ℤ p.d)
   times_d z = solve 3 (λ z n d. z ⊗ (n ⊗ d) ≗ n ⊗ (z ⊗ d)) tt z n p.d
 
-  -- it covers the x-coordinate of the one where it covers that of the other
+  -- it covers both x-coordinates or neither
   covers_back : covers g (n *ℤ p.x) (n *ℤ p.d) ≡ true → covers g p.x p.d ≡ true
   covers_back over =
       let from = covers_from g (n *ℤ p.x) (n *ℤ p.d) over in
@@ -142,7 +142,7 @@ module _ (n : ℤ) (more : pos 1 <ℤ n) (p : PlanePoint) (scaled : pos 0 <ℤ (
       spans : Spans g p.x p.d
       spans = record { from = covers_from g p.x p.d over; to = let r = covers_to g p.x p.d over in omega linear }
 
-  -- off an edge that does not have p, what is strictly below the point above is strictly below p
+  -- edges strictly below the point above are strictly below p, for an edge off p
   below_back : ¬ (IsOn g p) → is_strictly_below g (just_above n p scaled) ≡ true → is_strictly_below g p ≡ true
   below_back off t =
       let parts = and_parts (covers g (n *ℤ p.x) (n *ℤ p.d)) (int_lt (pos 0) (side g (just_above n p scaled))) t in
@@ -154,7 +154,7 @@ module _ (n : ℤ) (more : pos 1 <ℤ n) (p : PlanePoint) (scaled : pos 0 <ℤ (
       (λ level. absurd (off (on_if_level level over)))
       (λ above. and_from (covers g p.x p.d) (int_lt (pos 0) (side g p)) over (test_from_lt (pos 0) (side g p) above))
 
-  -- and the point above is off it too
+  -- the point above is off it too
   still_off : ¬ (IsOn g p) → ¬ (IsOn g (just_above n p scaled))
   still_off off on = by_sign (side g p)
       (λ low. let i = is in let le = times_below n (side g p) positive low in let small = narrow in omega linear)
@@ -273,7 +273,7 @@ module _ (es : List CountedEdge) (forward : IsForwardBy ends_of es) (settled : I
           (settled e f at c apart) parts.0
           (inner_covers (ends_of e) middle (side-midpoint (ends_of e)) inner) there over_e) ∙ parts.1)
 
-  -- a point off the edges of which e is the greatest below
+  -- a point off the edges with e as the greatest below
   pub near_above : (p : PlanePoint) × IsOff (all_ends es) p × IsGreatestBelow es p e
   near_above = (
     above,

@@ -33,12 +33,12 @@ half_within v z d h =
     let high = h.1 in
     (omega linear, omega linear)
 
--- and the one that it is rounded to is close to it
+-- the rounded point is close to it
 pub close_from_half : (w : Point) (p : PlanePoint) → IsWithinHalf w.x p.x p.d → IsWithinHalf w.y p.y p.d →
     IsCloseTo 1 w p
 close_from_half w p x y = record { in_x = half_within w.x p.x p.d x; in_y = half_within w.y p.y p.d y }
 
--- what is within k halves is within further ones
+-- a number within k halves is within more halves
 wider_within : (m k : ℕ) (v z d : ℤ) → pos 0 <ℤ d → IsWithinHalves k v z d → IsWithinHalves (m + k) v z d
 wider_within m k v z d positive h =
     let more = mul-nonneg (pos m) d (omega linear) (omega linear) in
@@ -47,7 +47,7 @@ wider_within m k v z d positive h =
     let high = h.1 in
     (omega linear, omega linear)
 
--- what is near is also less near
+-- a near point is also less near
 pub nearer : (m k : ℕ) (e : Edge) (v : Point) → IsNear k e v → IsNear (m + k) e v
 nearer m k e v near = record {
   p = near.p;
@@ -63,7 +63,7 @@ mixed_size a b n d da db sum =
     ∙ ap (λ z. z *ℤ (da *ℤ db)) sum
     ∙ solve 4 (λ n d da db. (n ⊗ d) ⊗ (da ⊗ db) ≗ (n ⊗ (da ⊗ db)) ⊗ d) tt n d da db
 
--- what is mixed by them is the mean
+-- the point mixed by them is the mean
 mixed_mean : (a b n da db u v x : ℤ) → n *ℤ x ≡ a *ℤ u +ℤ b *ℤ v →
     (n *ℤ (da *ℤ db)) *ℤ (pos 2 *ℤ x) ≡ (a *ℤ db) *ℤ (pos 2 *ℤ u *ℤ da) +ℤ (b *ℤ da) *ℤ (pos 2 *ℤ v *ℤ db)
 mixed_mean a b n da db u v x mean =
@@ -74,8 +74,7 @@ mixed_mean a b n da db u v x mean =
     (number (pos 2) ⊗ v ⊗ db))
     tt a b da db u v
 
--- a coordinate of the whole point is as near to the mixture as the ends' are to what is mixed, and as far again as the
--- rounding
+-- a coordinate of the whole point is as near to the mixture as those of the ends, plus the rounding
 within_mixture : (k m : ℕ) (a b n da db u v xa xb x d w : ℤ) → pos 0 ≤ℤ (a *ℤ db) → pos 0 ≤ℤ (b *ℤ da) →
     pos 0 ≤ℤ (n *ℤ (da *ℤ db)) →
     a +ℤ b ≡ n *ℤ d → n *ℤ x ≡ a *ℤ u +ℤ b *ℤ v → IsWithinHalves k u xa da → IsWithinHalves k v xb db →

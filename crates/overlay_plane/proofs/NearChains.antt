@@ -43,7 +43,7 @@ long_forward s long = by (is_forward s) refl
 abbrev pub IsNearStep : ℕ → Edge → Step → Type 0
 IsNearStep k e s = IsBetweenGood (IsNear k e) s
 
--- so is the step back
+-- the step back is near too
 near_back : (k : ℕ) (e : Edge) (s : Step) → IsNearStep k e s → IsNearStep k e (reversed_step s)
 near_back k e s h = record { long = long_back s h.long; from = h.to; to = h.from }
 
@@ -88,7 +88,7 @@ module _ (m k : ℕ) (e : Edge) (old : List CountedEdge) (r : Round) (round : Is
       near_b : IsNear k e f.b
       near_b = subst (λ (g : Edge). IsNear k e g.b) (sym is) (near_ends k e s h).1
 
-  -- and the links stay near in the round
+  -- the links stay near in the round
   near_in_a_round : (ls : List ChainLink) → AllLinks (IsNearStep k e) ls →
       AllLinks (IsNearStep (m + k) e) (flat_map (links_after r) ls)
   near_in_a_round ls h = links_kept (IsNearStep k e) (IsNearStep (m + k) e) r
@@ -101,7 +101,7 @@ takes_exactly r still f c p here = close_from_at (r.whole_at p) p
     (All-contains (λ p. IsAt (r.whole_at p) p) (r.cuts f) p
     (All-contains (λ f. All (λ p. IsAt (r.whole_at p) p) (r.cuts f)) r.edges f still c) here)
 
--- and any round takes each at most one half away
+-- any round moves each by at most one half
 takes_by_rounding : (old : List CountedEdge) (r : Round) → IsAnyRound old r → TakesWithin 1 r
 takes_by_rounding old r round f c p here = close_from_half (r.whole_at p) p (round.rounding.near_x p)
     (round.rounding.near_y p)
@@ -111,7 +111,7 @@ by_count : (e : Edge) (ls : List ChainLink) (m n : ℕ) → m ≡ n → AllLinks
     AllLinks (IsNearStep n e) ls
 by_count e ls m n same h = subst (λ i. AllLinks (IsNearStep i e) ls) same h
 
--- so in rounds the links stay near, by a half more for each round that moves a point
+-- in rounds the links stay near, by a half more for each round that moves a point
 near_in_rounds : (e : Edge) (old : List CountedEdge) (rs : List Round) (k j : ℕ) (ls : List ChainLink) →
     AreEachRounds IsAnyRound old rs → MovingRounds rs k →
     AllLinks (IsNearStep j e) ls → AllLinks (IsNearStep (k + j) e) (links_through rs ls)

@@ -14,7 +14,7 @@ module _ {X : Type 0} (R : X → X → Type 0) where
     pub in_order : R y z
     pub beyond : (x : X) → Contains xs x → R x y ⊎ R z x
 
-  -- the step leads from what an entry is taken to to what its neighbour is, another point
+  -- the step leads from the point of an entry to that of its neighbour, a different point
   pub record IsStepOfNeighbours (f : X → Point) (xs : List X) (s : Step) : Type 0 where
     pub y : X
     pub z : X
@@ -57,7 +57,7 @@ module _ {X : Type 0} (R : X → X → Type 0) where
           | inr later ↦ n.beyond w later
         ]
 
-    -- each step of a chain leads from what an entry is taken to to what its neighbour is
+    -- each step of a chain leads from the point of an entry to that of its neighbour
     pub step_of_neighbours : (f : X → Point) (x : X) (xs : List X) → Each R (x ∷ xs) → (s : Step) →
         Contains (steps_through (f x) (map f xs)) s →
         IsStepOfNeighbours f (x ∷ xs) s

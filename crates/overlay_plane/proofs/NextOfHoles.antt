@@ -27,7 +27,7 @@ never_over x f = false_from_ne_true (is_over x f f)
     (λ over. both_ways (is_under f f x (pos 1)) (under_irreflexive f x (pos 1))
     (and_parts (covers f x (pos 1) && covers f x (pos 1)) (is_under f f x (pos 1)) over).1)
 
--- over what is over an edge is over it
+-- the order of edges over an x-coordinate is transitive
 over_transitive : (x : ℤ) (f g h : Edge) → is_over x f g ≡ true → is_over x g h ≡ true → is_over x f h ≡ true
 over_transitive x f g h fg gh =
     let first = and_parts (covers f x (pos 1) && covers g x (pos 1)) (is_under g f x (pos 1)) fg in
@@ -45,7 +45,7 @@ module _ (holds : ℤ → ℤ → Bool) (subj clip : CountedEdge → ℤ) (es : 
   have : HaveSelected holds subj clip es filled walks
   have = have_selected holds subj clip es filled walks cut
 
-  -- what is below the anchor covers its x-coordinate
+  -- an edge below the anchor covers its x-coordinate
   below_covers : (g : Edge) → Contains (all_filled_above filled walks) g → is_below_anchor anchor g ≡ true →
       covers g anchor.a.x (pos 1) ≡ true
   below_covers g c below = (and_parts (covers g anchor.a.x (pos 1)) (is_under g anchor anchor.a.x (pos 1))

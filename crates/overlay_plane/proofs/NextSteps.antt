@@ -1,4 +1,4 @@
--- In a set of steps that alternates each step has one next step by a hand, its neighbour at the node, and is the next
+-- In a set of steps that alternates each step has one next step by a hand, its neighbour at the node. It is the next
 -- step of one step.
 use Rattle.std.proofs.Common.{◌≡◌, ⊎_elim, false, List, Contains, refl, sym, ◌∙◌, subst}
 use Rattle.std.proofs.lemmas.Bool.{both_ways, false_from_ne_true}
@@ -122,7 +122,7 @@ module _ (steps : List Step) (alternates : Alternates steps) (hand : Hand) where
             three = passing_apart steps alternates t.from between.0 t between.1 at_t;
           }) whole)) (by_steps s between.0)
 
-  -- each step is the next step of the one that the other hand meets first, turning from it
+  -- each step is the next step of the step that the other hand meets first, turning from it
   pub next_surjective : (t : Step) → Contains steps t → (s : Step) × Contains steps s × IsNextStep steps hand s t
   next_surjective t c = (
     s,

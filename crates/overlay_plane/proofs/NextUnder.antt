@@ -26,7 +26,7 @@ module _ (count : CountedEdge → ℤ) (es : List CountedEdge) (r : IsBalancedAr
   abbrev is_under_it : CountedEdge → Bool
   is_under_it f = covers (ends_of f) x d && is_under (ends_of f) (ends_of e) x d
 
-  -- the winding below the edge is the one above the greatest edge under it
+  -- the winding below the edge is that above the greatest edge under it
   pub above_the_greatest_under : (g : CountedEdge) → IsGreatestUnderIn es (ends_of e) x d g →
       winding_below count es e ≡ winding_above count es g
   above_the_greatest_under g h =
@@ -39,7 +39,7 @@ module _ (count : CountedEdge → ℤ) (es : List CountedEdge) (r : IsBalancedAr
             h.greatest f at both.0 both.1;
       })
 
-  -- and it is 0 where no edge is under it
+  -- the winding is 0 where no edge is under it
   pub nothing_under : ((f : CountedEdge) → Contains es f → covers (ends_of f) x d ≡ true →
       is_under (ends_of f) (ends_of e) x d ≡ false) →
       winding_below count es e ≡ pos 0

@@ -27,7 +27,7 @@ module _ (count : CountedEdge → ℤ) (es : List CountedEdge) (arranged : IsBal
     pub on_left : winding_on_side left count es e s ≡ winding_before count es v e
     pub on_right : winding_on_side right count es e s ≡ winding_after count es v e
 
-  -- and one that leaves
+  -- a step that leaves
   pub record Leaves (v : Point) (e : CountedEdge) (s : Step) : Type 0 where
     pub spoke : IsSpoke es v e
     pub far : far_end v e ≡ s.to
@@ -42,7 +42,7 @@ module _ (count : CountedEdge → ℤ) (es : List CountedEdge) (arranged : IsBal
   opposite : {b c : Bool} (x y : ℤ) → b ≡ true → c ≡ false → cond b x y ≡ cond c y x
   opposite x y p q = ap (λ z. cond z x y) p ∙ sym (ap (λ z. cond z y x) q)
 
-  -- and likewise with the answers exchanged
+  -- the same with the answers exchanged
   opposite_too : {b c : Bool} (x y : ℤ) → b ≡ false → c ≡ true → cond b x y ≡ cond c y x
   opposite_too x y p q = ap (λ z. cond z x y) p ∙ sym (ap (λ z. cond z y x) q)
 
@@ -74,7 +74,7 @@ module _ (count : CountedEdge → ℤ) (es : List CountedEdge) (arranged : IsBal
               on_right = opposite_too (winding_below count es e) (winding_above count es e) other first;
             }
 
-    -- and so is one that leaves
+    -- a step that leaves is so too
     pub leaves : s.from ≡ v → Leaves v e s
     leaves starts = ⊎_elim forth back along.walks
       where
@@ -106,7 +106,7 @@ module _ (count : CountedEdge → ℤ) (es : List CountedEdge) (arranged : IsBal
 
   module _ (v : Point) (e m f : CountedEdge) (spoke_e : IsSpoke es v e) (spoke_m : IsSpoke es v m)
       (spoke_f : IsSpoke es v f) where
-    -- what a hand meets from f before e the other hand meets from e before f
+    -- a point that a hand meets from f before e, the other hand meets from e before f
     pub turned_back : (hand : Hand) → IsMetBefore hand v (far_end v f) (far_end v m) (far_end v e) →
         IsMetBefore (other_hand hand) v (far_end v e) (far_end v m) (far_end v f)
     turned_back hand h = by (edge_eq (ends_of m) (ends_of f)) refl (edge_eq (ends_of m) (ends_of e)) refl
@@ -146,7 +146,7 @@ module _ (count : CountedEdge → ℤ) (es : List CountedEdge) (arranged : IsBal
             (record { one = apart_exchanged v (far_end v m) (far_end v f) m_f; two = m_e; three = e_f }) h)
 
   module _ (v : Point) (e f : CountedEdge) (s t : Step) (arriving : Arrives v e s) (leaving : Leaves v f t) where
-    -- where what a hand meets between them has count 0, the winding on its side is the same
+    -- the winding on its side is equal, if the edges that a hand meets between them have count 0
     by_hand : (hand : Hand) → ((m : CountedEdge) → IsSpoke es v m → IsMetBefore hand v (far_end v e) (far_end v m)
         (far_end v f) → count m ≡ pos 0) →
         winding_on_side hand count es e s ≡ winding_on_side hand count es f t

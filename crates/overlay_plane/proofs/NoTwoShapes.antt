@@ -48,7 +48,7 @@ module _ {X : Type 0} (f : X → ℤ) where
           let low = at_most_zero f xs (λ z d. not_more (f z) (later z d)) in
           ⊎_elim (λ whole. omega linear) (λ whole. omega linear) sum
 
--- the law, for numbers of the one sign and of the other
+-- the law, for numbers of either sign
 no_two : (filled : Hand) {X : Type 0} (f : X → ℤ) (xs : List X) →
     ((x : X) → Contains xs x → (f x ≡ once_round filled) ⊎ (f x ≡ pos 0)) →
     (total f xs ≡ once_round filled) ⊎ (total f xs ≡ pos 0) → Each (λ x y. (f x ≡ pos 0) ⊎ (f y ≡ pos 0)) xs

@@ -123,11 +123,11 @@ module _ (e f : Edge) (forward : point_lt f.a f.b ≡ true) (meets : edge_eq e f
   own_left : covers e left (pos 2) ≡ true
   own_left = covers_just_left e x (pos 1) (let w = wide in omega (arith, ints)) (omega (arith, ints))
 
-  -- and spans that of its end
+  -- the edge spans the x-coordinate of its end
   own_spans : Spans e x (pos 1)
   own_spans = record { from = let w = wide in omega (arith, ints); to = omega (arith, ints) }
 
-  -- where f passes the end of e, or ends above or below it, it is under e just left of it as it is below that end
+  -- if f passes the end of e, or ends above or below it, it is under e just left of it as it is below that end
   under_by_side : f.a.x <ℤ x → x ≤ℤ f.b.x → MeetInEnds e f → ¬ (side f (in_plane e.b) ≡ pos 0) →
       is_under f e left (pos 2) ≡ int_lt (pos 0) (side f (in_plane e.b))
   under_by_side l r meet off = near_same f e x (pos 1) (left +ℤ left +ℤ pos 1) (pos 4) (omega linear) wide meet

@@ -22,7 +22,7 @@ use Rattle.overlay_plane.proofs.NearAbscissas.{near_same, gap-own_start, gap-rig
 use Rattle.overlay_plane.proofs.NearAbscissas.{times_test}
 use Rattle.overlay_plane.proofs.WhereEdgesStart.{covers_spans, covers_start}
 
--- what an entry counts for where it passes the one of two tests with c, and the other or p
+-- the count of an entry by two tests: c where it passes the first, and p or the second
 pub counted_besides : (c u s p t : Bool) → (p ≡ true → (s ≡ false) × ((c && u) ≡ t)) → (p ≡ false → c ≡ true → u ≡ s) →
     one_if (c && u) ≡ one_if (c && s) +ℤ one_if (p && t)
 counted_besides c u s true t h k = ap (λ z. one_if z) (h refl).1

@@ -28,7 +28,7 @@ side-of_midpoint f e = solve 8
     (λ px py qx qy ax ay bx by. formE px py qx qy (ax ⊕ bx) (ay ⊕ by) (number (pos 2)) ≗ formE px py qx qy ax ay
     (number (pos 1)) ⊕ formE px py qx qy bx by (number (pos 1))) tt f.a.x f.a.y f.b.x f.b.y e.a.x e.a.y e.b.x e.b.y
 
--- from the one end of e to the other the side rises by the turn from f to e
+-- from one end of e to the other the side rises by the turn from f to e
 pub side-rises : (f e : Edge) → side f (in_plane e.b) ≡ side f (in_plane e.a) +ℤ edge_turn f e
 side-rises f e = solve 8
     (λ px py qx qy ax ay bx by. formE px py qx qy bx by (number (pos 1)) ≗ formE px py qx qy ax ay (number (pos 1)) ⊕
@@ -93,7 +93,7 @@ module _ (e f : Edge) (forward_e : point_lt e.a e.b ≡ true) (narrow : width e 
   upright : e.a.x ≡ e.b.x
   upright = let first = starts_first e forward_e in let n = narrow in omega linear
 
-  -- and it rises
+  -- the side rises
   rises : pos 0 <ℤ (e.b.y -ℤ e.a.y)
   rises = rises_upright e forward_e narrow
 
@@ -122,7 +122,7 @@ module _ (e f : Edge) (forward_e : point_lt e.a e.b ≡ true) (narrow : width e 
       (test_from_le (f.a.x *ℤ pos 2) (e.a.x +ℤ e.b.x) (omega (arith, ints)))
       (test_from_lt (e.a.x +ℤ e.b.x) (f.b.x *ℤ pos 2) (omega (arith, ints))))
 
-  -- a wide edge is another one than e
+  -- a wide edge differs from e
   wide_meets : pos 0 <ℤ width f → MeetInEnds e f
   wide_meets wide = by (edge_eq e f) refl
     where
@@ -141,13 +141,13 @@ module _ (e f : Edge) (forward_e : point_lt e.a e.b ≡ true) (narrow : width e 
       wide : pos 0 <ℤ width f
       wide = covers_wide f e.a.x (pos 1) (record { lt = tt }) over
 
-  -- where f is over e, its side rises from the one end of e to the other
+  -- if f is over e, its side rises from one end of e to the other
   higher : covers f e.a.x (pos 1) ≡ true → side f (in_plane e.a) <ℤ side f (in_plane e.b)
   higher over = let i = side-rises f e in let t = turn_is in
       let more = mul-pos (width f) (e.b.y -ℤ e.a.y) (covers_wide f e.a.x (pos 1) (record { lt = tt }) over) rises in
       omega linear
 
-  -- what is strictly below the midpoint is over the x-coordinate of the ends
+  -- edges strictly below the midpoint are over the x-coordinate of the ends
   below_midpoint : is_strictly_below f (midpoint e) ≡ (covers f e.a.x (pos 1) && int_lt (pos 0) (side f (midpoint e)))
   below_midpoint = ap (λ c. c && int_lt (pos 0) (side f (midpoint e))) covers_midpoint
 

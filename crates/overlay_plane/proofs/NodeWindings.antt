@@ -130,11 +130,11 @@ module _ (count : CountedEdge → ℤ) (es : List CountedEdge) (arranged : IsBal
           (arranged.planar.settled e f at is)))
           ∙ total-add below ending es
 
--- below an edge the winding is that at its start and what starts there to the right
+-- the winding below an edge is that at its start plus the counts that start there to the right
 pub winding_from_a_start : WindingFromAStart
 winding_from_a_start count es arranged e at = from_start count es arranged e at
 
--- below an edge the winding is that at its end and what ends there to the right
+-- the winding below an edge is that at its end plus the counts that end there to the right
 pub winding_from_an_end : WindingFromAnEnd
 winding_from_an_end count es arranged e at = from_end count es arranged e at
 

@@ -16,7 +16,7 @@ use Rattle.overlay_plane.proofs.Entries.{Contains-map}
 use Rattle.overlay_plane.proofs.JoinedLists.{total-times}
 use Rattle.overlay_plane.proofs.Totals.{total-same, total-zero, total-add, total-sub}
 
--- what a number given to each point rises by along an edge, times its count
+-- the rise of a number given to each point along an edge, times its count
 abbrev rise : (CountedEdge → ℤ) → (Point → ℤ) → CountedEdge → ℤ
 rise count g e = count e *ℤ (g e.b -ℤ g e.a)
 
@@ -60,7 +60,7 @@ end_of e = e.b
 
 module _ (count : CountedEdge → ℤ) (es : List CountedEdge) (node : (v : Point) →
     total_ending count es v ≡ total_starting count es v) where
-  -- a number at one point alone rises by what ends there, less what starts there: so by nothing
+  -- a number at one point alone rises by the counts that end there, minus those that start there: by 0
   at_one_point : (v : Point) (g : Point → ℤ) → total (rise count (at_point v g)) es ≡ pos 0
   at_one_point v g =
       total-same (rise count (at_point v g))
@@ -80,7 +80,7 @@ module _ (count : CountedEdge → ℤ) (es : List CountedEdge) (node : (v : Poin
       one_edge false false c k = solve 2
           (λ c k. c ⊗ (number (pos 0) ⊖ number (pos 0)) ≗ k ⊗ (number (pos 0) ⊖ number (pos 0))) tt c k
 
-  -- what a number rises by is what its part at one point rises by, and its part elsewhere
+  -- the rise of a number is that of its part at one point, plus that of its part elsewhere
   rises_in_two : (v : Point) (g : Point → ℤ) → total (rise count g) es ≡ total (rise count (elsewhere v g)) es
   rises_in_two v g =
       total-same (rise count g) (λ e. rise count (at_point v g) e +ℤ rise count (elsewhere v g) e) es

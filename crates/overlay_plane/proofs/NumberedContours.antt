@@ -36,7 +36,7 @@ outlines_from k (d ∷ ds) are c at m is = ⊎_elim
     let up = after_up k d.role in omega arith)
     (Contains-cases d ds c at)
 
--- so a number is not that of a later one too
+-- a number is not that of a later outline too
 none_later : (k : ℕ) (x : Contour) (xs : List Contour) → AreNumbers k (x ∷ xs) → (e : Contour) → Contains xs e →
     (m : ℕ) → x.role ≡ outline m → ¬ (e.role ≡ outline m)
 none_later k x xs are e later m is_x is_e =
@@ -60,7 +60,7 @@ one_outline k (x ∷ xs) are c d at_c at_d m is_c is_d = ⊎_elim
 
 -- ---- without groups
 
--- what stands in a shape from the start is its outline, and no hole
+-- the contour of a shape from the start is its outline, and not a hole
 pub record IsFromWalks (filled : Hand) (ws : List (List Step)) (c : Contour) : Type 0 where
   pub among : Contains ws c.steps
   pub is_outline : (m : ℕ) → stands_in c.role ≡ Some m → c.role ≡ outline m

@@ -35,7 +35,7 @@ signed k under count = k *ℤ (one_if (int_eq (under +ℤ count) k) -ℤ one_if 
 by_numbers : (k under count u c : ℤ) → under ≡ u → count ≡ c → c ≡ signed k u c → count ≡ signed k under count
 by_numbers k under count u c is_u is_c h = is_c ∙ h ∙ sym (ap₂ (λ a b. signed k a b) is_u is_c)
 
--- so where the winding is once on the filled side
+-- the case where the winding is once on the filled side
 sign_once : (filled : Hand) (forward : Bool) (under count : ℤ) →
     cond forward (under +ℤ count) under ≡ cond forward under (under +ℤ count) +ℤ pos 1 →
     (filled ≡ left → cond forward (under +ℤ count) under ≡ pos 1) →
@@ -57,7 +57,7 @@ sign_once right false under count rises on_left on_right = above (on_right refl)
     above : under +ℤ count ≡ negsuc 0 → under ≡ (under +ℤ count) +ℤ pos 1 → count ≡ signed (negsuc 0) under count
     above l r = by_numbers (negsuc 0) under count (pos 0) (negsuc 0) (omega linear) (omega linear) refl
 
--- and where nothing counts
+-- the case where nothing counts
 sign_none : (k under count : ℤ) → count ≡ pos 0 → count ≡ signed k under count
 sign_none k under count none = none ∙ sym (ap (λ c. signed k under c) none
     ∙ ap (λ u. k *ℤ (one_if (int_eq u k) -ℤ one_if (int_eq under k))) (as_it_was under)
@@ -108,7 +108,7 @@ module _ (es : List CountedEdge) (steps : List Step) (along : WalksAlong es step
       (count_along taken f)) some.2 (sign_of_step some.0 some.1))
       (walked_or_nothing taken e)
 
-  -- and the steps wind so
+  -- the steps wind once or zero times
   pub winds_once_or_not : WindsOnceOrNot filled taken
   winds_once_or_not p =
       ⊎_elim (λ is. inl (same ∙ is)) (λ is. inr (same ∙ is))

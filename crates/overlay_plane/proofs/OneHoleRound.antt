@@ -30,7 +30,7 @@ use Rattle.overlay_plane.proofs.WalkedEdges.{one_anchor, one_next_edge}
 pub same_at : {X : Type 0} (xs : List X) (i : ℕ) (x y : X) → slice_get xs i ≡ Some x → slice_get xs i ≡ Some y → x ≡ y
 same_at xs i x y at_x at_y = sym (get_or_from_slice_get xs i x x at_x) ∙ get_or_from_slice_get xs i y x at_y
 
--- where what the items give, joined, has each entry once, an entry is given at one place
+-- an entry is given at one place, if the joined entries of the items have each entry once
 one_place : {X Y : Type 0} (R : Y → Y → Type 0) (f : X → List Y) (xs : List X) → Each R (flat_map f xs) → (v : Y) →
     ¬ (R v v) →
     (j k : ℕ) (x y : X) → slice_get xs j ≡ Some x → slice_get xs k ≡ Some y → Contains (f x) v → Contains (f y) v →
@@ -75,7 +75,7 @@ module _ (hand : Hand) (walks : List (List Step)) (contours : All IsContour walk
           (subst (λ a. IsNextBelow (all_filled_above hand walks) a first.is_next.edge) anchors first.is_next.next_below)
           second.is_next.next_below
 
-  -- and there is none where no edge is below
+  -- nothing is found where no edge is below
   none_and_next : (i j : ℕ) (w : List Step) → slice_get walks i ≡ Some w → HasNoneBelow hand walks w →
       ¬ (HasNextAt hand walks i j)
   none_and_next i j w at below next =
@@ -88,13 +88,13 @@ module _ (hand : Hand) (walks : List (List Step)) (contours : All IsContour walk
       (subst (λ a. is_below_anchor a next.is_next.edge ≡ true) anchors next.is_next.next_below.below)
 
   module _ (known : List (Option ℕ)) where
-    -- what is known of two next walks is one
+    -- two next walks are equal
     known_alike : (i j k : ℕ) (m n : Option ℕ) → HasNextAt hand walks i j → HasNextAt hand walks i k →
         slice_index_or known j None ≡ m → slice_index_or known k None ≡ n → m ≡ n
     known_alike i j k m n next next' is is' =
         sym is ∙ ap (λ p. slice_index_or known p None) (one_next i j k next next') ∙ is'
 
-    -- so one thing is found
+    -- the number found is unique
     pub one_found : (i : ℕ) (f g : Option ℕ) → IsFoundBelow hand walks known i f → IsFoundBelow hand walks known i g →
         f ≡ g
     one_found i _ _ (nothing w at none) (nothing v at' none') = refl
@@ -120,6 +120,6 @@ module _ (filled : Hand) (cs : List Contour) (can : CanBeBound filled (walks_in 
   pub one_hole_round : (i k m : ℕ) → IsHoleRound filled cs i (Some k) → IsHoleRound filled cs i (Some m) → k ≡ m
   one_hole_round i k m first second = same_Some k m (one_round i (Some k) (Some m) first second)
 
-  -- and not one and none
+  -- a number and none are not both found
   pub hole_and_none : (i k : ℕ) → IsHoleRound filled cs i (Some k) → ¬ (IsHoleRound filled cs i None)
   hole_and_none i k hole none = none-some k (one_round i None (Some k) none hole)

@@ -1,5 +1,5 @@
--- An orbit of a set of steps that leads on visits each of its steps once, and contains with each step its next step and
--- the step before. If the set alternates it has three steps or more, since no step leads back along another.
+-- An orbit of a set of steps that leads on visits each of its steps once. It contains with each step its next step and
+-- the step before. In an alternating set it has three steps or more, since no step leads back along another.
 use Rattle.std.proofs.Common.{◌≡◌, ◌⊎◌, inl, inr, ⊎_elim, ℕ, zero, suc, ◌+◌, ◌-◌, ◌%◌, ◌<◌, ◌≤◌, List, length, Contains}
 use Rattle.std.proofs.Common.{sym, ap, ◌∙◌, subst, arith}
 use Rattle.std.proofs.lemmas.Bool.{cases_lt, cases_order}
@@ -39,7 +39,7 @@ module _ (steps : List Step) (hand : Hand) (walk : List Step) (orbit : IsOrbit s
       subst (λ t. Contains steps t) (ap (step_round walk) round ∙ item_round-round walk no_step k)
       (goes_on_round (length walk + k - 1)).among
 
-  -- what holds with each step of its next step holds of all steps of the walk, where it holds of one
+  -- a fact that carries over to the next step holds of all steps of the walk, if it holds of one
   pub all_round : (P : Step → Type 0) → ((s t : Step) → Contains steps s → IsNextStep steps hand s t → P s → P t) →
       (s t : Step) → Contains walk s → Contains walk t → P s → P t
   all_round P step s t c d p =
@@ -78,7 +78,7 @@ module _ (steps : List Step) (hand : Hand) (walk : List Step) (orbit : IsOrbit s
         subst (λ w. Contains walk w) (has_one_next steps hand leads (step_round walk at.0) (step_round walk (suc at.0))
         t (step_inside at.0) (goes_on_round at.0) here) (Contains-item_round walk no_step (suc at.0) orbit.some)
 
-    -- and the step before each of them
+    -- the walk contains the step before each of them
     pub step_before_in_walk : (s t : Step) → Contains steps s → IsNextStep steps hand s t → Contains walk t →
         Contains walk s
     step_before_in_walk s t inside next c =

@@ -67,7 +67,7 @@ module _ (steps : List Step) (hand : Hand) (leads : LeadsOn steps hand) (s : Ste
   unfolding orbit_walk
   walk_length = length-map-range_with_len at 0 period
 
-  -- at each place the step that so many next steps lead to
+  -- the step at each place is reached by that number of next steps
   walk_at : (k : ℕ) → k < period → step_round orbit_walk k ≡ at k
   unfolding orbit_walk
   walk_at k h = item_round-here orbit_walk no_step k (let l = walk_length in omega arith)
@@ -102,7 +102,7 @@ module _ (steps : List Step) (hand : Hand) (leads : LeadsOn steps hand) (s : Ste
       different (suc k) positive h e = both_ways (step_eq (at (suc k)) s) ((returns.1).none_before k (omega arith))
           (equal_steps (at (suc k)) s e)
 
-  -- and begin with s
+  -- the steps begin with s
   pub walk_starts : step_round orbit_walk 0 ≡ s
   walk_starts = walk_at 0 (omega arith)
 

@@ -30,7 +30,7 @@ module _ (steps : List Step) (hand : Hand) (leads : LeadsOn steps hand) where
       (goes_on_round steps hand walk orbit k) (subst (λ s. IsNextStep steps hand s (step_round other (suc k)))
       (sym (same_at walk other orbit orbit' e k)) (goes_on_round steps hand other orbit' k))
 
-  -- so neither ends before the other
+  -- neither ends before the other
   not_shorter : (walk other : List Step) → IsOrbit steps hand walk → IsOrbit steps hand other →
       step_round walk 0 ≡ step_round other 0 → ¬ (length walk < length other)
   not_shorter walk other orbit orbit' e less = orbit'.once (length walk) orbit.some less
@@ -48,7 +48,7 @@ module _ (steps : List Step) (hand : Hand) (leads : LeadsOn steps hand) where
           (λ more. absurd (not_shorter other walk orbit' orbit (sym e) more)) either)
           (cases_order (length walk) (length other))
 
-  -- an orbit that shares a step with another one holds all its steps
+  -- an orbit that shares a step with another orbit contains all its steps
   holds_all : (walk other : List Step) → IsOrbit steps hand walk → IsOrbit steps hand other →
       (s : Step) → Contains walk s → Contains other s → (t : Step) → Contains walk t → Contains other t
   holds_all walk other orbit orbit' s in_walk in_other t c = all_round steps hand walk orbit (λ w. Contains other w)
@@ -87,13 +87,13 @@ orbits_are_apart steps hand leads walk other orbit orbit' s in_walk in_other t =
 pub orbits_are_closed : OrbitsAreClosed
 orbits_are_closed steps hand leads walk orbit test decides = orbit_is_closed steps hand leads walk orbit test decides
 
--- what an orbit leaves alternates
+-- the steps left by an orbit alternate
 pub orbits_leave_the_rest : OrbitsLeaveTheRest
 orbits_leave_the_rest steps alternates hand walk orbit taken decides =
     let closed = orbit_is_closed steps hand (leads_on steps alternates hand) walk orbit taken decides in
     (closed, closed_parts_alternate steps alternates hand taken closed)
 
--- an orbit of what closed parts leave is an orbit of the whole set
+-- an orbit of the steps that closed parts leave is an orbit of the whole set
 pub orbits_of_the_rest : OrbitsOfTheRest
 orbits_of_the_rest steps hand leads taken closed walk orbit = record {
   some = orbit.some;

@@ -25,7 +25,7 @@ order_over_an_abscissa es settled x d positive = record {
       (meet_in_ends_exchanged (ends_of f) (ends_of e) (settled e f ce.entry cf.entry apart)) ce.over cf.over;
 }
 
--- and in one order at all x-coordinates that both cover
+-- the edges are in one order at all x-coordinates that both cover
 pub order_along_common_spans : OrderAlongCommonSpans
 order_along_common_spans es settled e f x d x' d' positive positive' ce cf ce' cf' =
     by (edge_eq (ends_of f) (ends_of e)) refl
@@ -52,7 +52,7 @@ end_not_inner e f same inner = subst (λ (g : Edge). IsInner e g.b.x (pos 1) →
 inner_wide : (e : Edge) (v : ℤ) → IsInner e v (pos 1) → pos 0 <ℤ width e
 inner_wide e v i = let l = i.after in let r = i.before in omega (arith, ints)
 
--- an edge over the inside of another one has both ends on one side of it
+-- an edge over the inside of another edge has both ends on one side of it
 pub ends_on_one_side : EndsOnOneSide
 ends_on_one_side es settled e f at_e at_f start end = by (edge_eq (ends_of e) (ends_of f)) refl
   where

@@ -24,7 +24,7 @@ use Rattle.overlay_plane.proofs.NumberedContours.{one_outline, IsFromWalks, from
 use Rattle.overlay_plane.proofs.StartWindings.{once_beside_start}
 use Rattle.overlay_plane.proofs.WalksOfCuts.{IsWalkOfCut, walk_of_a_cut}
 
--- the outline of the n-th shape, and what stands in the shape from the start
+-- the outline of the n-th shape, and the contours of the shape from the start
 pub record HaveOwn (filled : Hand) (es : List CountedEdge) (steps : List Step) (contours : List Contour) (n : ℕ)
     (outline_steps : List Step) : Type 0 where
   pub once : (c : Contour) → Contains contours c → stands_in c.role ≡ Some n → (s : Step) → Contains c.steps s →
@@ -53,7 +53,7 @@ module _ (holds : ℤ → ℤ → Bool) (subj clip : CountedEdge → ℤ) (es : 
   from : (c : Contour) → Contains contours c → IsFromWalks filled (filter keeps cut.walks) c
   from c at = from_walks filled 0 (filter keeps cut.walks) c (subst (λ cs. Contains cs c) cut.are at)
 
-  -- what stands in the shape is the outline
+  -- the contours of the shape from the start are the outline
   is_outline : (c : Contour) → Contains contours c → stands_in c.role ≡ Some n → c ≡ o
   is_outline c at stands = one_outline 0 contours (cut_numbered false filled keeps steps contours cut) c o at at_o n
       ((from c at).is_outline n stands) is_o
@@ -69,7 +69,7 @@ module _ (holds : ℤ → ℤ → Bool) (subj clip : CountedEdge → ℤ) (es : 
   below : is_filled_above filled start ≡ false
   below = first_not_filled filled o.steps ((from o at_o).no_hole n (ap stands_in is_o)) own.first.orbit.some
 
-  -- so it is an orbit by the filled hand
+  -- the outline is an orbit by the filled hand
   orbit : IsOrbit own.remaining filled o.steps
   orbit = subst (λ h. IsOrbit own.remaining h o.steps) (ap (λ b. cond b (other_hand filled) filled) below)
       own.first.orbit
@@ -84,7 +84,7 @@ module _ (holds : ℤ → ℤ → Bool) (subj clip : CountedEdge → ℤ) (es : 
     top = λ t c. own.first.start.top t (own.within t c);
   }
 
-  -- and winds once along its filled side
+  -- the outline winds once along its filled side
   once_along : (s : Step) → Contains o.steps s → winding_beside filled es o.steps s ≡ once_round filled
   once_along s c =
       one_winding_along_orbits es own.remaining o.steps own.along own.first.alternate part filled o.steps orbit s start

@@ -80,7 +80,7 @@ module _ (es : List CountedEdge) (steps : List Step) (along : WalksAlong es step
       (orbits_have_each_once steps filled (alternating_steps_lead_on steps alternates filled) group own.orbit)
       (first_not_filled filled group outer own.orbit.some)
 
-  -- so none of its starts is filled above
+  -- none of its starts is filled above
   starts_below : (s : Step) → IsStart group s → is_filled_above filled s ≡ false
   starts_below s is = false_from_ne_true (is_filled_above filled s)
       (λ over. once_not_none filled (sym (group_once s is.among) ∙ filled_over filled es group s over
@@ -113,7 +113,7 @@ module _ (es : List CountedEdge) (steps : List Step) (along : WalksAlong es step
 
 -- ---- the contours of a cut
 
--- what is kept of a group begins with its first walk, and has some of its other ones
+-- the kept walks of a group begin with its first walk, followed by some of its others
 kept_of_group : (keeps : List Step → Bool) (vs walks : List (List Step)) → Contains (kept_group keeps vs) walks →
     (u : List Step) × (us : List (List Step)) × (vs ≡ u ∷ us) × (walks ≡ u ∷ filter keeps us)
 kept_of_group keeps [] walks c = absurd (elim c.1 [ ])
@@ -132,7 +132,7 @@ module _ (es : List CountedEdge) (steps : List Step) (along : WalksAlong es step
   abbrev kept : List (List (List Step))
   kept = flat_map (kept_group keeps) cut.inside
 
-  -- what stands in a shape from the start is a contour of a kept group
+  -- a contour of a shape from the start is a contour of a kept group
   of_group : (c : Contour) → Contains contours c → stands_in c.role ≡ Some n → Contains (group_contours_from 0 kept) c
   of_group c at stands = ⊎_elim (λ here. here)
       (λ other. let found = Contains-from_map hole_to_bind (filter keeps cut.others) c other in
@@ -178,7 +178,7 @@ module _ (es : List CountedEdge) (steps : List Step) (along : WalksAlong es step
       (λ later. Contains-later parts.0 parts.1 w (Contains-from_filter keeps parts.1 w later).0)
       (Contains-cases parts.0 (filter keeps parts.1) w (subst (λ ws. Contains ws w) parts.3 c)))
 
-  -- so its steps are of the group
+  -- its steps are steps of the group
   in_group : (c : Contour) → Contains contours c → stands_in c.role ≡ Some n → (s : Step) → Contains c.steps s →
       Contains group s
   in_group c at stands s d = orbit_inside group alternate (other_hand filled) c.steps

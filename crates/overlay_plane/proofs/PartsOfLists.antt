@@ -15,12 +15,12 @@ pub part-all : {X : Type 0} (xs : List X) → IsPart xs xs
 part-all [] = nothing
 part-all (x ∷ xs) = taken (part-all xs)
 
--- and none are some
+-- an empty list is such a list
 pub part-none : {X : Type 0} (xs : List X) → IsPart [] xs
 part-none [] = nothing
 part-none (x ∷ xs) = left_out (part-none xs)
 
--- what passes a test
+-- the entries that pass a test
 pub part-filter : {X : Type 0} (p : X → Bool) (xs : List X) → IsPart (filter p xs) xs
 part-filter p [] = nothing
 part-filter {X} p (x ∷ xs) = by (p x) (part-filter p xs)
@@ -29,13 +29,13 @@ part-filter {X} p (x ∷ xs) = by (p x) (part-filter p xs)
     by true rest = taken rest
     by false rest = left_out rest
 
--- joined lists are made of the entries of what they are made of
+-- joined lists consist of the entries of their parts
 pub part-append : {X : Type 0} (ps qs us vs : List X) → IsPart ps qs → IsPart us vs → IsPart (ps ++ us) (qs ++ vs)
 part-append ps qs us vs nothing second = second
 part-append ps qs us vs (taken {x} {xs} {ys} first) second = taken (part-append xs ys us vs first second)
 part-append ps qs us vs (left_out {y} {xs} {ys} first) second = left_out (part-append xs ys us vs first second)
 
--- and so are lists made of one part for each entry
+-- lists made of a part for each entry do so too
 pub part-flat_map : {X Y : Type 0} (f : X → List Y) (ps qs : List X) → IsPart ps qs →
     IsPart (flat_map f ps) (flat_map f qs)
 part-flat_map f ps qs nothing = nothing

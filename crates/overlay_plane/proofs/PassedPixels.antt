@@ -10,7 +10,7 @@ use Rattle.overlay_plane.proofs.ChangedSides.{ChangesSides}
 use Rattle.overlay_plane.proofs.PixelNumbers.{RoundsTo, AreWeights, rounds_to_nearest, nearest_of_rounds}
 use Rattle.overlay_plane.proofs.PixelNumbers.{mixtures_round, weighed_rounds, changed_order_rounds}
 
--- what a point's coordinates are multiplied by, to stand over this denominator
+-- the factor of a point's coordinates over this denominator
 pub record Factor (whole : ℤ) (p : PlanePoint) : Type 0 where
   pub by : ℤ
   pub positive : pos 0 <ℤ by
@@ -73,7 +73,7 @@ module _ (whole : ℤ) (some : pos 0 <ℤ whole) where
         (subst (λ z. RoundsTo (nearest e.y e.d) z ((t.m +ℤ t.n) *ℤ whole)) t.level
         (weighed_rounds (t.m +ℤ t.n) (nearest e.y e.d) (h.by *ℤ e.y) whole t.weights.some (at_y e h)))
 
-    -- and where it does as y is, x being rounded
+    -- the piece passes if the end changes sides with y as it is and x rounded
     pub passed_as_y_moves : ChangesSides (nearest e.x e.d) (nearest p.x p.d) (nearest q.x q.d) (h.by *ℤ e.y)
         (f.by *ℤ p.y) (g.by *ℤ q.y) (nearest e.y e.d) (nearest p.y p.d) (nearest q.y q.d) →
         PassesPixel p q (nearest_point e)

@@ -36,10 +36,10 @@ use Rattle.overlay_plane.proofs.SameSector.{FourApart, neighbours_alike}
 use Rattle.overlay_plane.proofs.SpokeRays.{spokes_apart}
 use Rattle.overlay_plane.proofs.Totals.{total-same}
 
--- ---- what a step counts at a node
+-- ---- the count of a step at a node
 
--- of an edge from u to w, the first or the second of which may be the node: 1 where it starts there and its far end
--- passes, -1 where it ends there and its far end passes
+-- the count of an edge from u to w at a node: 1 where it starts there and its far end passes, -1 where it ends there
+-- and its far end passes
 abbrev at_node : (starts ends there here : Bool) → ℤ
 at_node starts ends there here = cond (cond starts there here) (cond starts (pos 1) (cond ends (negsuc 0) (pos 0)))
     (pos 0)
@@ -109,11 +109,11 @@ module _ (es : List CountedEdge) (steps : List Step) (along : WalksAlong es step
     abbrev passes : Point → Bool
     passes r = is_met_before right v (far_end v e) r (far_end v g)
 
-    -- what an edge counts between the two
+    -- the count of an edge between the two
     abbrev number_of : Edge → ℤ
     number_of k = at_node (point_eq k.a v) (point_eq k.b v) (passes k.b) (passes k.a)
 
-    -- what a step begins with, and what it ends with
+    -- the numbers of the start and the end of a step
     abbrev begins : Step → ℤ
     begins s = cond (point_eq s.from v) (one_if (passes s.to)) (pos 0)
 
@@ -148,7 +148,7 @@ module _ (es : List CountedEdge) (steps : List Step) (along : WalksAlong es step
         by true = refl
         by false = refl
 
-    -- where each step of the walk ends with what the next begins with, nothing counts between
+    -- nothing counts between, if each step of the walk ends with the start number of the next
     nothing_between : ((k : ℕ) → begins (step_round walk (suc k)) ≡ ends (step_round walk k)) →
         total_between (spoke_count (count_on walk) v) es v e g ≡ pos 0
     nothing_between round =
@@ -228,11 +228,11 @@ module _ (es : List CountedEdge) (steps : List Step) (along : WalksAlong es step
           (All-contains (λ (u : Step). u.from ≡ a.to → is_met_before hand a.to a.from u.to b.to ≡ false) steps t
           next.first at_t (sym meet ∙ sym here)))
 
-      -- so a and b both are between them, or neither is
+      -- both a and b are between them, or neither is
       both_or_none : passes v e g a.from ≡ passes v e g b.to
       both_or_none = neighbours_alike hand v a.from b.to (far_end v e) (far_end v g) four past_s past_t
 
-    -- each step of the walk ends with what the next begins with
+    -- each step of the walk ends with the start number of the next
     linked : (k : ℕ) → begins v e g (step_round walk (suc k)) ≡ ends v e g (step_round walk k)
     linked k = ap (λ z. cond (point_eq z v) (one_if (passes v e g b.to)) (pos 0)) next.leaves
         ∙ by (point_eq a.to v) refl
@@ -262,7 +262,7 @@ module _ (es : List CountedEdge) (steps : List Step) (along : WalksAlong es step
         ∙ sym leaving.on_right
         ∙ sym (one_side t g (edge_is t at_t) (alternates.long t at_t) es walk right)
 
-    -- and so it does on the left, as it takes neither step
+    -- the winding on the left is equal too, since it takes neither step
     pub alike : (side : Hand) → winding_beside side es walk s ≡ winding_beside side es walk t
     alike right = on_right
     alike left =

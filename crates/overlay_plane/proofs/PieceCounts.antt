@@ -37,7 +37,7 @@ weight_reversed (pos ℕ.zero) = refl
 weight_reversed (pos (ℕ.suc n)) = refl
 weight_reversed (negsuc n) = refl
 
--- a piece weighs what the edge weighs
+-- a piece has the weight of the edge
 pub edge_weight-piece : (e : CountedEdge) (s : Step) → edge_weight (piece_along e s) ≡ edge_weight e
 edge_weight-piece e s = by (is_forward s) e.counts
   where

@@ -51,7 +51,7 @@ rounds_to_nearest z d e whole some factor is =
           omega linear;
     }
 
--- the number to which a fraction rounds is the one nearest it
+-- the number to which a fraction rounds is the nearest number
 pub nearest_of_rounds : (v z d : ℤ) → pos 0 <ℤ d → RoundsTo v z d → nearest z d ≡ v
 nearest_of_rounds v z d some at =
     let low = at.low in
@@ -114,7 +114,7 @@ module _ (d m n x1 x2 v1 v2 : ℤ) (weights : AreWeights m n) (at1 : RoundsTo v1
       d ⊗ ((m ⊕ n) ⊗ v) ⊕ d ⊗ ((m ⊕ n) ⊗ v) ⊕ (m ⊕ n) ⊗ d) tt d m n v in
       omega linear
 
-  -- so where the mixture of the whole numbers is whole, the mixture of the numbers rounds to it
+  -- the mixture of the numbers rounds to the mixture of the whole numbers, if that is whole
   pub mixtures_round : (v : ℤ) → pos 0 <ℤ d → (m +ℤ n) *ℤ v ≡ m *ℤ v1 +ℤ n *ℤ v2 →
       RoundsTo v (m *ℤ x1 +ℤ n *ℤ x2) ((m +ℤ n) *ℤ d)
   mixtures_round v some is = record { low = at_least v some (omega linear); high = at_most v some (omega linear) }
@@ -140,7 +140,7 @@ weighed_rounds k v x d some at =
 twice-lt : (a b : ℤ) → a <ℤ b → (pos 2 *ℤ a) <ℤ (pos 2 *ℤ b)
 twice-lt a b lt = mul-lt (pos 2) a b (record { lt = tt }) lt
 
--- where the order changes the mixture rounds to what the number does
+-- if the order changes, the mixture rounds to the number's whole number
 pub changed_order_rounds : (d m n x x1 x2 v v1 v2 : ℤ) → pos 0 <ℤ d → AreWeights m n → RoundsTo v x d →
     RoundsTo v1 x1 d → RoundsTo v2 x2 d → OrderChanges m n x x1 x2 v v1 v2 →
     RoundsTo v (m *ℤ x1 +ℤ n *ℤ x2) ((m +ℤ n) *ℤ d)

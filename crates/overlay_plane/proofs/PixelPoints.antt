@@ -30,7 +30,7 @@ held_point e v forward held = (
   rounded_whole nearest_point v (in_plane v) nearest_point-rounding (at_itself v),
 )
 
--- a whole number is nearest to what is less than 1/2 above it, or at most 1/2 below
+-- a whole number is nearest to a number less than 1/2 above it, or at most 1/2 below
 nearest_beside : (v d r : ℤ) → pos 0 <ℤ d → (pos 0 -ℤ d) ≤ℤ (pos 2 *ℤ r) → (pos 2 *ℤ r) <ℤ d →
     nearest (v *ℤ d +ℤ r) d ≡ v
 nearest_beside v d r positive low high =
@@ -62,7 +62,8 @@ module _ (e : Edge) (wide : e.a.x <ℤ e.b.x) (rises : e.a.y <ℤ e.b.y) where
         x y d) tt e.a.x e.a.y e.b.x e.b.y p.x p.y p.d in
         omega linear
 
-    -- a point of the line right of the start and below the end, or left of the end and above the start, is on the edge
+    -- a point of the line right of the start and below the end is on the edge. So is a point left of the end and above
+    -- the start
     on_rising : (((e.a.x *ℤ p.d) ≤ℤ p.x) × (p.y ≤ℤ (e.b.y *ℤ p.d))) ⊎
         ((p.x ≤ℤ (e.b.x *ℤ p.d)) × ((e.a.y *ℤ p.d) ≤ℤ p.y)) → IsOn e p
     on_rising (inl (right, below)) =
@@ -117,7 +118,7 @@ module _ (e : Edge) (wide : e.a.x <ℤ e.b.x) (rises : e.a.y <ℤ e.b.y) where
       (by_lt_z (twice_cross e v) (pos 0) (λ lt. inr (omega linear, omega linear))
       (λ ge. inl (omega linear, omega linear)))
 
-  -- so there is a point for v where its cross product is within the bounds
+  -- v has such a point if its cross product is within the bounds
   pub rising_point : (v : Point) → IsInBox e v → (pos 0 -ℤ half_girth e) <ℤ twice_cross e v →
       twice_cross e v <ℤ half_girth e → PointFor e v
   rising_point v box low high =
@@ -151,7 +152,8 @@ module _ (e : Edge) (wide : e.a.x <ℤ e.b.x) (falls : e.b.y <ℤ e.a.y) where
         x y d) tt e.a.x e.a.y e.b.x e.b.y p.x p.y p.d in
         omega linear
 
-    -- a point of the line right of the start and above the end, or left of the end and below the start, is on the edge
+    -- a point of the line right of the start and above the end is on the edge. So is a point left of the end and below
+    -- the start
     on_falling : (((e.a.x *ℤ p.d) ≤ℤ p.x) × ((e.b.y *ℤ p.d) ≤ℤ p.y)) ⊎
         ((p.x ≤ℤ (e.b.x *ℤ p.d)) × (p.y ≤ℤ (e.a.y *ℤ p.d))) → IsOn e p
     on_falling (inl (right, above)) =
@@ -206,7 +208,7 @@ module _ (e : Edge) (wide : e.a.x <ℤ e.b.x) (falls : e.b.y <ℤ e.a.y) where
       (by_lt_z (twice_cross e v) (pos 0) (λ lt. inl (omega linear, omega linear))
       (λ ge. inr (omega linear, omega linear)))
 
-  -- so there is a point for v where its cross product is within the bounds or the upper
+  -- v has such a point if its cross product is within the bounds or at the upper bound
   pub falling_point : (v : Point) → IsInBox e v → (pos 0 -ℤ half_girth e) <ℤ twice_cross e v →
       twice_cross e v ≤ℤ half_girth e → PointFor e v
   falling_point v box low high =
@@ -240,7 +242,7 @@ module _ (e : Edge) (before : IsBefore e.a e.b) (v : Point) (box : IsInBox e v) 
         to = record { x = in_x.1; y = λ le. omega linear };
       })
 
-  -- so does an upright one
+  -- an upright edge has such a point too
   upright_point : e.b.x ≤ℤ e.a.x → PointFor e v
   upright_point upright =
       let first = before.x in

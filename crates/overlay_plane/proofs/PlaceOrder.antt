@@ -1,5 +1,5 @@
--- Points of the plane in order, by x and then by y, each up to itself: rounded along an edge they keep it, and what is
--- mixed of two points in order lies between them.
+-- Points of the plane in order, by x and then by y, each up to itself. Rounding along an edge keeps the order, and a
+-- mixture of two points in order lies between them.
 use lib.IntN.{*ℤ_comm}
 use Rattle.std.proofs.Common.{◌≡◌, inl, inr, ℤ, pos, ◌+ℤ◌, ◌-ℤ◌, ◌*ℤ◌, ◌<ℤ◌, ◌≤ℤ◌, sym, subst}
 use Rattle.std.proofs.lemmas.Int.{by_lt_z}
@@ -38,7 +38,7 @@ place_of_smaller p q (inr (level, lt)) = record { x = omega linear; y = λ le. o
 pub place_of_same : (p q : PlanePoint) → SamePlace p q → IsUpToPlace p q
 place_of_same p q (same_x, same_y) = record { x = omega linear; y = λ back. omega linear }
 
--- what is up to a point is up to all that it is up to
+-- `up to` is transitive
 pub place_up_to_through : (p q r : PlanePoint) → IsUpToPlace p q → IsUpToPlace q r → IsUpToPlace p r
 place_up_to_through p q r h k = record {
   x = fraction_le p.x p.d q.x q.d r.x r.d p.positive q.positive r.positive h.x k.x;
@@ -107,7 +107,7 @@ module _ (e : Edge) (before : IsBefore e.a e.b) where
       (λ above. subst (λ v. IsUpToAlong e (nearest_point p) v)
       (nearest_point-rounding.one p q (level, same (up.y ge) above)) (along-reflexive e (nearest_point p))))
     where
-      -- what is at most another number, and at least it, is it
+      -- a number that is at most and at least another equals it
       same : {y z : ℤ} → y ≤ℤ z → z ≤ℤ y → y ≡ z
       same h k = omega linear
 
@@ -115,7 +115,7 @@ module _ (e : Edge) (before : IsBefore e.a e.b) where
       smaller : IsSmaller p q → IsUpToAlong e (nearest_point p) (nearest_point q)
       smaller = rounded_up_to e before p q on_p on_q
 
-  -- so what comes between two points that round alike rounds as they do
+  -- a point between two points that round alike rounds as they do
   pub rounded_alike : (p q r : PlanePoint) → IsOn e p → IsOn e q → IsOn e r → IsUpToPlace p q → IsUpToPlace q r →
       nearest_point p ≡ nearest_point r →
       nearest_point p ≡ nearest_point q
@@ -125,7 +125,7 @@ module _ (e : Edge) (before : IsBefore e.a e.b) where
 
 -- ---- mixed points
 
--- how far what is mixed of two numbers lies above the first
+-- distance of a mixture of two numbers above the first
 above_first : (m n x d y c : ℤ) →
     (m *ℤ x +ℤ n *ℤ y) *ℤ d -ℤ x *ℤ (m *ℤ d +ℤ n *ℤ c) ≡ n *ℤ (y *ℤ d -ℤ x *ℤ c)
 above_first = solve 6 (λ m n x d y c. (m ⊗ x ⊕ n ⊗ y) ⊗ d ⊖ x ⊗ (m ⊗ d ⊕ n ⊗ c) ≗ n ⊗ (y ⊗ d ⊖ x ⊗ c)) tt
@@ -141,7 +141,7 @@ weighed k z nonneg h = by_lt_z (pos 0) k (λ some. mul-nonneg k z nonneg (h some
     (λ none. let zero = mul-zero z k (omega linear) in let turned = *ℤ_comm z k in omega linear)
 
 module _ (p q : PlanePoint) (up : IsUpToPlace p q) (b : Between p q) where
-  -- the first of two points in order is up to what is mixed of them
+  -- the first of two points in order is up to their mixture
   pub first_up_to_mixed : IsUpToPlace p (mixed b)
   first_up_to_mixed = record {
     x = at_least p.x q.x (λ some. up.x);

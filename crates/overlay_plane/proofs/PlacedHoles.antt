@@ -13,12 +13,12 @@ abbrev pub outline_walks : List BoundContour → List (List Step)
 outline_walks bs = map (λ (b : BoundContour). b.contour.steps)
     (filter (λ (b : BoundContour). is_outline b.contour.role) bs)
 
--- shapes that outlines begin, the first of which is the n-th, each with its holes
+-- shapes that outlines begin, from the n-th on, each with its holes
 abbrev pub begun : (ℕ → List (List Step)) → ℕ → List (List Step) → List (List (List Step))
 begun holes n [] = []
 begun holes n (o ∷ os) = (o ∷ holes n) ∷ begun holes (suc n) os
 
--- lists of which each is an outline with its holes are these shapes
+-- lists of an outline with its holes each are these shapes
 pub each_begun : (holes : ℕ → List (List Step)) (n : ℕ) (os : List (List Step)) (shapes : List (List (List Step))) →
     length shapes ≡ length os →
     ((k : ℕ) → k < length os → get_or shapes k [] ≡ get_or os k [] ∷ holes (n + k)) → shapes ≡ begun holes n os

@@ -40,7 +40,7 @@ by_placement e f along beside across =
     (λ none. by_test (are_beside f e) (Decides-are_beside f e) (λ other. beside apart (inr other))
     (λ no_other. across (record { apart = apart; not_beside = none; not_back = no_other }))))
 
--- ---- what the computation gives
+-- ---- results of the computation
 
 -- f's ends that lie between those of e
 abbrev pub ends_between : Edge → Edge → List Point
@@ -122,7 +122,7 @@ not_along_back e f across (at_a, at_b) = by across
     by (inl (low, high, less)) = let same = crossed_back e f in omega linear
     by (inr (high, low, less)) = let same = crossed_back e f in omega linear
 
--- so of two edges across each other each goes across the other's line
+-- two edges across each other each go across the other's line
 pub both_across : (e f : Edge) → AreCrossing e f → IsAcross e f × IsAcross f e
 both_across e f c = let across = across_of_rest e f c.apart c.not_beside in
     (across, across_of_rest f e (not_along_back e f across) c.not_back)

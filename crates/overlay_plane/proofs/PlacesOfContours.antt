@@ -14,7 +14,7 @@ use Rattle.std.proofs.lemmas.Option.{same_Some}
 pub Contains-place : {X : Type 0} (xs : List X) (i : ℕ) (x : X) → slice_get xs i ≡ Some x → Contains xs x
 Contains-place xs i x at = (i, slice_get_within xs i x at, get_or_from_slice_get xs i x x at)
 
--- the entry at a place of a mapped list is what the entry there is mapped to
+-- the entry at a place of a mapped list is the mapped entry there
 pub place_mapped : {X Y : Type 0} (f : X → Y) (xs : List X) (i : ℕ) (y : Y) → slice_get (map f xs) i ≡ Some y →
     (x : X) × (slice_get xs i ≡ Some x) × (f x ≡ y)
 place_mapped f [] i y at = absurd (none-some y at)
@@ -26,7 +26,7 @@ pub contour_at : (contours : List Contour) (i : ℕ) (w : List Step) → slice_g
     (c : Contour) × (slice_get contours i ≡ Some c) × (c.steps ≡ w)
 contour_at contours i w at = place_mapped (λ (c : Contour). c.steps) contours i w at
 
--- and the walk of a contour stands at its place
+-- the walk of a contour is at its place
 pub place_of_walk : (contours : List Contour) (i : ℕ) (c : Contour) → slice_get contours i ≡ Some c →
     slice_get (walks_in contours) i ≡ Some c.steps
 place_of_walk [] i c at = absurd (none-some c at)
@@ -48,7 +48,7 @@ known_of (d ∷ ds) zero n known = (d, Contains-place (d ∷ ds) 0 d refl, known
 known_of (d ∷ ds) (suc i) n known = let found = known_of ds i n known in
     (found.0, (suc found.1.0, (let inside = found.1.1 in omega arith), found.1.2), found.2)
 
--- a contour of which none is known is a hole whose shape is to be found
+-- a contour without a known shape is a hole whose shape is to be found
 pub free_from_none : (role : Role) → stands_in role ≡ None → role ≡ free_hole
 free_from_none (outline n) none = absurd (none-some n (sym none))
 free_from_none (own_hole n) none = absurd (none-some n (sym none))

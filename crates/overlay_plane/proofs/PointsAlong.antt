@@ -28,7 +28,7 @@ order_along-total false = then_total (on_total (λ p. p.x) int_cmp_total)
 abbrev first_along : Bool → Point → Point → Bool
 first_along t v w = int_lt v.x w.x || (int_eq v.x w.x && cond t (int_lt v.y w.y) (int_lt w.y v.y))
 
--- the test is what the comparison answers
+-- the test is the answer of the comparison
 pub first_along-is_less : (t : Bool) (v w : Point) → first_along t v w ≡ is_lt (order_along t v w)
 first_along-is_less true v w =
     less_in_turn (int_cmp v.x w.x) (int_cmp v.y w.y) (int_lt v.x w.x) (int_eq v.x w.x) (int_lt v.y w.y)
@@ -67,7 +67,7 @@ comes_first-order e = record {
     ranks : IsStrictWeakOrder (λ v w. is_lt (order_along (int_le e.a.y e.b.y) v w))
     ranks = ranks_by (order_along-total (int_le e.a.y e.b.y)) (λ v. v)
 
--- two of which neither comes first are equal
+-- two points are equal if neither comes first
 pub comes_first-ties : (e : Edge) (v w : Point) → comes_first e v w ≡ false → comes_first e w v ≡ false → v ≡ w
 comes_first-ties e v w forth back =
     let t = int_le e.a.y e.b.y in

@@ -24,7 +24,7 @@ use Rattle.overlay_plane.proofs.SelectedLists.{arranged_by_subject, arranged_by_
 use Rattle.overlay_plane.proofs.Totals.{Contains-head, Contains-later}
 use Rattle.overlay_plane.proofs.Under.{covers_wide}
 
--- where a sum is not above 0 and some term is, another one is below 0
+-- if a sum is not above 0 and some term is, another term is below 0
 another_negative : {X : Type 0} (f : X → ℤ) (xs : List X) (x : X) → Contains xs x → pos 0 <ℤ f x → total f xs ≤ℤ pos 0 →
     (y : X) × Contains xs y × (f y <ℤ pos 0)
 another_negative f [] x c high low = elim c.1 [ ]
@@ -66,7 +66,7 @@ module _ (holds : ℤ → ℤ → Bool) (subj clip : CountedEdge → ℤ) (es : 
         (one_if_rises (above found.0) (below found.0) parts.1).0,
       )
 
-  -- so where it holds below an edge
+  -- this holds if the rule holds below an edge
   from_below : (e : CountedEdge) → below e ≡ true → WideAbove
   from_below e h = above_below_point (midpoint (ends_of e)) h
 
@@ -89,7 +89,7 @@ module _ (holds : ℤ → ℤ → Bool) (subj clip : CountedEdge → ℤ) (es : 
           falls : (z : ℤ) → pos 0 <ℤ z → (pos 1 *ℤ z) <ℤ pos 0 → ⊥
           falls z up h = omega (arith, ints)
 
-  -- and where it holds above one: the heights of the edges across which it changes add up to 0
+  -- it holds if the rule holds above an edge: the heights of the edges across which it changes sum to 0
   from_above : (e : CountedEdge) → Contains es e → above e ≡ true → WideAbove
   from_above e c h = by_lt_z (pos 0) (width (ends_of e)) (λ wide. (e, c, wide, h)) (λ narrow. by (below e) refl
       (rises_upright (ends_of e) (All-contains (λ g. point_lt g.a g.b ≡ true) es e ruled.planar.forward c) narrow))

@@ -1,4 +1,4 @@
--- The region from the signs of edges: over what lies strictly below a point, and over what lies under an edge.
+-- The region from the signs of edges: of the edges strictly below a point, and of the edges under an edge.
 use Rattle.std.proofs.Common.{◌≡◌, true, cond, ◌&&◌, ℤ, pos, ◌+ℤ◌, ◌-ℤ◌, ◌<ℤ◌, ◌≤ℤ◌, int_lt, List, ap, ap₂, ◌∙◌}
 use Rattle.std.proofs.lemmas.Bool.{and_parts, and_from}
 use lib.IntN.{+ℤ_idr}
@@ -20,7 +20,7 @@ use Rattle.overlay_plane.proofs.RisesOver.{meets_under, rises_over}
 
 -- ---- below a point
 
--- what covers the point's x-coordinate under an edge strictly below the point is strictly below it too
+-- an edge that covers the point's x-coordinate, under an edge strictly below the point, is strictly below it too
 pub below_under : (f e : Edge) (p : PlanePoint) → MeetInEnds e f → covers f p.x p.d ≡ true → covers e p.x p.d ≡ true →
     is_under f e p.x p.d ≡ true →
     pos 0 <ℤ side e p → pos 0 <ℤ side f p
@@ -55,7 +55,7 @@ takes_below {X} ends xs settled p = record {
         (covers (ends e) p.x p.d ≡ true) × (int_lt (pos 0) (side (ends e) p) ≡ true)
     parts e t = and_parts (covers (ends e) p.x p.d) (int_lt (pos 0) (side (ends e) p)) t
 
--- and so are those under an edge
+-- the edges under an edge are taken so too
 pub takes_under : {X : Type 0} (ends : X → Edge) (xs : List X) (g : Edge) (x d : ℤ) → pos 0 <ℤ d → covers g x d ≡ true →
     TakesDownward ends xs x d (λ e. covers (ends e) x d && is_under (ends e) g x d)
 takes_under {X} ends xs g x d positive over_g = record {

@@ -86,7 +86,7 @@ module _ {X : Type 0} (ends : X → Edge) (xs : List X) (forward : IsForwardBy e
       (takes.downward e f at c t) (takes.over f c)) ∙ cond_both_tests (taken f) (under_here f e) (count f))
       ∙ sym (total_risen (λ f. cond (under_here f e) (count f) (pos 0)))
 
-  -- what a function of two windings rises by across the entries taken, summed
+  -- the sum of the rises of a function of two windings across the entries taken
   pub rises_over : (b c : X → ℤ) (h : ℤ → ℤ → ℤ) → AllPairs (λ e f. edge_eq (ends e) (ends f) ≡ false) xs →
       IsBalanced ends b xs →
       IsBalanced ends c xs →

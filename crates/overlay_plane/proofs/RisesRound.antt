@@ -43,7 +43,7 @@ some_negative f (x ∷ xs) h = by_lt_z (f x) (pos 0) (λ low. (x, Contains-head 
 abbrev pub is_spoke : Point → CountedEdge → Bool
 is_spoke v e = point_eq e.a v || point_eq e.b v
 
--- what passes the test is a spoke
+-- an edge that passes the test is a spoke
 pub spoke_from_test : (es : List CountedEdge) (v : Point) (e : CountedEdge) → Contains es e → is_spoke v e ≡ true →
     IsSpoke es v e
 spoke_from_test es v e at t = record {
@@ -71,7 +71,7 @@ module _ (subj clip : CountedEdge → ℤ) (es : List CountedEdge) (by_subj : Is
   long : ¬ (far_end v e ≡ v)
   long = far_apart subj es by_subj v e spoke_e
 
-  -- what is taken is a spoke met before f
+  -- an edge taken is a spoke met before f
   taken_spoke : (m : CountedEdge) → Contains (filter taken es) m → IsSpoke es v m × (met_first m f ≡ true)
   taken_spoke m c =
       let both = Contains-from_filter taken es m c in
@@ -152,7 +152,7 @@ module _ (subj clip : CountedEdge → ℤ) (es : List CountedEdge) (by_subj : Is
           (λ none. nothing (is_spoke v g) (met_first g f) (spoke_count count v g) none)
           (spoke_or_nothing count es v g at)
 
-  -- what h rises by across the spokes between, summed
+  -- the sum of the rises of h across the spokes between
   pub rises_round : total (λ m. h (winding_after subj es v m) (winding_after clip es v m) -ℤ h
       (winding_before subj es v m) (winding_before clip es v m)) round ≡ h (winding_before subj es v f)
       (winding_before clip es v f) -ℤ h (winding_after subj es v e) (winding_after clip es v e)

@@ -33,7 +33,7 @@ reaches_zero width walk c = three (length walk) c.three
         ≡ true
     three n most = search rules
 
--- so with it all contours are kept
+-- with it all contours are kept
 pub all_kept : (width : Width) (walks : List (List Step)) → All IsContour walks → filter (reaches width 0) walks ≡ walks
 all_kept width [] contours = refl
 all_kept width (w ∷ ws) contours =

@@ -97,7 +97,7 @@ module _ (count : CountedEdge → ℤ) (es : List CountedEdge) (arranged : IsBal
           (alike_itself (point_eq e.a v))
           (ap is_level (sign_level (edge_turn (ends_of e) (ends_of e)) (edge_turn_same (ends_of e)))))
 
-  -- a spoke is between the two as it is first before the one and not before the other
+  -- a spoke is between the two exactly if it is first before one and not before the other
   ranked : (g : CountedEdge) → IsSpoke es v g →
       one_if (is_met_before right v (far_end v e) (far_end v g) (far_end v f)) ≡ rank g
   ranked g spoke = met_counted v (far_end v e) (far_end v g) (far_end v f) (ends_of e) (ends_of g) (ends_of f)
@@ -120,11 +120,11 @@ module _ (count : CountedEdge → ℤ) (es : List CountedEdge) (arranged : IsBal
           ∙ ap (λ z. is_plus (sign_at z)) (sym (edge_turn_exchanged (ends_of g) (ends_of e)))
           ∙ sym (test_is_plus (edge_turn (ends_of g) (ends_of e)))
 
-  -- what g counts round the node
+  -- the sum of g round the node
   abbrev sc : CountedEdge → ℤ
   sc g = spoke_count count v g
 
-  -- what g counts between the two, in terms of what is first from straight down
+  -- the sum of g between the two, by the spokes met first from straight down
   abbrev terms : CountedEdge → ℤ
   terms g = ((cond (is_first_from_down v g f) (sc g) (pos 0) -ℤ cond (is_first_from_down v g e) (sc g) (pos 0)) -ℤ cond
       (edge_eq (ends_of g) (ends_of e)) (sc g) (pos 0)) +ℤ cond (not (is_first_from_down v e f)) (sc g) (pos 0)
@@ -153,7 +153,7 @@ module _ (count : CountedEdge → ℤ) (es : List CountedEdge) (arranged : IsBal
       spread : (c x y z w : ℤ) → c *ℤ (((x -ℤ y) -ℤ z) +ℤ w) ≡ ((c *ℤ x -ℤ c *ℤ y) -ℤ c *ℤ z) +ℤ c *ℤ w
       spread = solve 5 (λ c x y z w. c ⊗ (((x ⊖ y) ⊖ z) ⊕ w) ≗ ((c ⊗ x ⊖ c ⊗ y) ⊖ c ⊗ z) ⊕ c ⊗ w) tt
 
-  -- what is between the two, summed
+  -- the sum over the spokes between the two
   between_is : total_between (spoke_count count v) es v e f ≡ (total_first count es v f -ℤ total_first count es v e)
       -ℤ spoke_count count v e
   between_is = total-same (λ g. cond (is_met_before right v (far_end v e) (far_end v g) (far_end v f)) (sc g) (pos 0))
@@ -181,7 +181,7 @@ module _ (count : CountedEdge → ℤ) (es : List CountedEdge) (arranged : IsBal
       whole true = spokes_add_up count es arranged v
       whole false = total-zero (λ g. pos 0) es (λ g at. refl)
 
-  -- the winding after e and what is between make the winding before f
+  -- the winding after e plus the counts between is the winding before f
   round : winding_after count es v e +ℤ total_between (spoke_count count v) es v e f ≡ winding_before count es v f
   round = add (winding_after count es v e) (winding_before count es v e) (winding_before count es v f)
       (winding_by count es (in_plane v)) (total_first count es v e) (total_first count es v f) (spoke_count count v e)
@@ -220,12 +220,12 @@ one_winding_between_spokes count es arranged v e f spoke_e spoke_f nothing =
         (spoke_count count v g) (pos 0)) es
         (λ g at. each g at (is_met_before right v (far_end v e) (far_end v g) (far_end v f)) refl)
 
--- so it does from a spoke to the next
+-- this holds from a spoke to the next
 pub one_winding_beside_neighbours : OneWindingBesideNeighbours
 one_winding_beside_neighbours count es arranged v e f spoke_e spoke_f none = one_winding_between_spokes count es
     arranged v e f spoke_e spoke_f (λ g spoke between. absurd (none g spoke between))
 
--- and once round from a spoke without others
+-- this holds once round from a spoke without others
 pub lone_spokes_count_nothing : LoneSpokesCountNothing
 lone_spokes_count_nothing count es arranged v e spoke lone =
     record { one_winding = one; none = counts_nothing (point_eq e.a v) refl }

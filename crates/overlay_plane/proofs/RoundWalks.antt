@@ -8,11 +8,11 @@ use Rattle.overlay_plane.specs.Turn.{step_round, no_step}
 use Rattle.overlay_plane.proofs.ItemsRound.{item_round-here, item_round-whole}
 
 module _ (begins ends : Step → ℤ) where
-  -- each step but the first begins with what the one before it ends with
+  -- each step but the first begins with the end number of the step before
   abbrev AreLinked : List Step → Type 0
   AreLinked ss = (k : ℕ) → suc k < length ss → begins (get_or ss (suc k) no_step) ≡ ends (get_or ss k no_step)
 
-  -- the sum is what the first begins with, less what the last ends with
+  -- the sum is the first start number minus the last end number
   linked_total : (s : Step) (ss : List Step) → AreLinked (s ∷ ss) →
       total (λ t. begins t -ℤ ends t) (s ∷ ss) ≡ begins s -ℤ ends (get_or (s ∷ ss) (length ss) no_step)
   linked_total s [] linked = +ℤ_idr (begins s -ℤ ends s)
@@ -21,7 +21,7 @@ module _ (begins ends : Step → ℤ) where
       let meet : begins t ≡ ends s = linked 0 (omega arith) in
       omega linear
 
-  -- and round a walk it is 0
+  -- the sum round a walk is 0
   pub total_round : (walk : List Step) → ((k : ℕ) → begins (step_round walk (suc k)) ≡ ends (step_round walk k)) →
       total (λ t. begins t -ℤ ends t) walk ≡ pos 0
   total_round [] linked = refl

@@ -25,7 +25,7 @@ module _ (c z d v : ℤ) (some : pos 0 <ℤ d) (near : IsWithinHalf v z d) where
   twice_vd : pos 2 *ℤ v *ℤ d ≡ v *ℤ d +ℤ v *ℤ d
   twice_vd = solve 2 (λ v d. number (pos 2) ⊗ v ⊗ d ≗ v ⊗ d ⊕ v ⊗ d) tt v d
 
-  -- what is rounded is at most a whole number where it was
+  -- a rounded number is at most a whole number if the number was
   at_most_whole : z ≤ℤ (c *ℤ d) → v ≤ℤ c
   at_most_whole low = by_lt_z c v (λ less. absurd (against less)) (λ le. le)
     where
@@ -38,7 +38,7 @@ module _ (c z d v : ℤ) (some : pos 0 <ℤ d) (near : IsWithinHalf v z d) where
           let vd_twice = twice_vd in
           omega linear
 
-  -- and at least where it was
+  -- a rounded number is at least a whole number if the number was
   at_least_whole : (c *ℤ d) ≤ℤ z → c ≤ℤ v
   at_least_whole high = by_lt_z v c (λ less. absurd (against less)) (λ le. le)
     where
@@ -51,7 +51,7 @@ module _ (c z d v : ℤ) (some : pos 0 <ℤ d) (near : IsWithinHalf v z d) where
           let vd_twice = twice_vd in
           omega linear
 
--- what lies between two numbers is at most what both are, and at least
+-- a number between two numbers is within their common bounds
 between_at_most : (c a b z d : ℤ) → pos 0 <ℤ d → a ≤ℤ c → b ≤ℤ c → IsBetween z (a *ℤ d) (b *ℤ d) → z ≤ℤ (c *ℤ d)
 between_at_most c a b z d some a_low b_low (inl h) =
     let last = le_times d b c some b_low in

@@ -62,7 +62,7 @@ mixture_rounds w x y v is = nearest-unique (w.m *ℤ w.c *ℤ x +ℤ w.n *ℤ w.
         (nearest y w.c) in
         omega linear
 
-    -- so it is less than 1/2 below the mixture
+    -- the number is less than 1/2 below the mixture
     below : (pos 2 *ℤ (w.m *ℤ w.c *ℤ x +ℤ w.n *ℤ w.d *ℤ y) -ℤ (w.m *ℤ w.c *ℤ w.d +ℤ w.n *ℤ w.d *ℤ w.c)) <ℤ
         (pos 2 *ℤ v *ℤ (w.m *ℤ w.c *ℤ w.d +ℤ w.n *ℤ w.d *ℤ w.c))
     below =
@@ -79,7 +79,7 @@ mixture_rounds w x y v is = nearest-unique (w.m *ℤ w.c *ℤ x +ℤ w.n *ℤ w.
         (m ⊗ c ⊗ d ⊕ n ⊗ d ⊗ c) ⊕ (m ⊗ c ⊕ n ⊗ d)) tt w.m w.n w.d w.c x y in
         omega linear
 
-    -- and at most 1/2 above
+    -- the number is at most 1/2 above the mixture
     above : (pos 2 *ℤ v *ℤ (w.m *ℤ w.c *ℤ w.d +ℤ w.n *ℤ w.d *ℤ w.c)) ≤ℤ
         (pos 2 *ℤ (w.m *ℤ w.c *ℤ x +ℤ w.n *ℤ w.d *ℤ y) +ℤ (w.m *ℤ w.c *ℤ w.d +ℤ w.n *ℤ w.d *ℤ w.c))
     above =

@@ -62,7 +62,7 @@ module _ {X : Type 0} (lower : X → X → Bool) (order : IsStrictWeakOrder lowe
                 ↦ sorted.0 z later
           ])
 
-  -- so of two lists in order with the same sums, no first entry is lower than the other
+  -- of two lists in order with equal sums, no first entry is lower than the other
   not_lower_first : (x : X) (xs : List X) (y : X) (ys : List X) → Each IsNotAfter (y ∷ ys) →
       total (lower_than y) (x ∷ xs) ≡ total (lower_than y) (y ∷ ys) → lower x y ≡ false
   not_lower_first x xs y ys sorted same = by (lower x y) refl

@@ -43,7 +43,7 @@ module _ (v a b p q : Point) (h : FourApart v a b p q) where
   pqb : AllApart v p q b
   pqb = record { one = h.pq; two = apart_exchanged v b q h.bq; three = h.bp }
 
-  -- what is met third from one is met first from the third
+  -- a point met third from one is met first from the third
   twice : (x y z : Point) → AllApart v x y z → IsMetBefore right v x y z → IsMetBefore right v z x y
   twice x y z all met = met_shifted right v y z x (record { one = all.two; two = all.three; three = all.one })
       (met_shifted right v x y z all met)

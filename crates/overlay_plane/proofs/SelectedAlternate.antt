@@ -207,12 +207,12 @@ module _ (holds : ℤ → ℤ → Bool) (subj clip : CountedEdge → ℤ) (es : 
     abbrev IsIn : CountedEdge → Type 0
     IsIn m = IsSpoke es v m × IsMetBetween v (far_end v e) (far_end v m) (far_end v f)
 
-    -- what the truth rises by across them, summed
+    -- the sum of the rises of the rule's truth across them
     sum : total (λ m. one_if (holds_after v m) -ℤ one_if (holds_before v m)) spokes_between ≡ one_if
         (holds_before v f) -ℤ one_if (holds_after v e)
     sum = rises_round subj clip es by_subj by_clip truth v e f spoke_e spoke_f
 
-    -- where the rule holds after the one and not before the other, it ceases to hold across a spoke between
+    -- if the rule holds after one and not before the other, it ceases to hold across a spoke between
     ceases_between : holds_after v e ≡ true → holds_before v f ≡ false →
         (m : CountedEdge) × IsIn m × (holds_before v m ≡ true) × (holds_after v m ≡ false)
     ceases_between after before =
@@ -222,7 +222,7 @@ module _ (holds : ℤ → ℤ → Bool) (subj clip : CountedEdge → ℤ) (es : 
         let change = one_if_falls (holds_after v found.0) (holds_before v found.0) found.2 in
         (found.0, in_round subj clip es by_subj by_clip truth v e f spoke_e spoke_f found.0 found.1, change.1, change.0)
 
-    -- and the other way round it begins to hold across one
+    -- in the converse case it begins to hold across a spoke between
     begins_between : holds_after v e ≡ false → holds_before v f ≡ true →
         (m : CountedEdge) × IsIn m × (holds_before v m ≡ false) × (holds_after v m ≡ true)
     begins_between after before =
@@ -261,7 +261,7 @@ module _ (holds : ℤ → ℤ → Bool) (subj clip : CountedEdge → ℤ) (es : 
         (subst (λ (r : Point). AreOneWay v r (far_end v f)) (sym far_e)
         (subst (λ (r : Point). AreOneWay v p r) (sym far_f) one))
 
-    -- what lies between two spokes, by their far ends
+    -- the spokes between two spokes, by their far ends
     between : (v : Point) (e m f : CountedEdge) (p r q : Point) → far_end v e ≡ p → far_end v m ≡ r → far_end v f ≡ q →
         IsMetBetween v (far_end v e) (far_end v m) (far_end v f) → IsMetBetween v p r q
     between v e m f p r q far_e far_m far_f h = subst (λ (x : Point). IsMetBetween v x r q) far_e
@@ -294,7 +294,7 @@ module _ (holds : ℤ → ℤ → Bool) (subj clip : CountedEdge → ℤ) (es : 
           between v e found.0 f p step.0.to q far_e (leaving v found.0 step.0 step.1 step.2).far far_f found.1.1,
         )
 
-    -- so the steps alternate
+    -- the steps alternate
     alternate : Alternates steps
     alternate = record {
       long = λ s at. let own = taken.selected s at in has_length s.from own.0 s own.1;

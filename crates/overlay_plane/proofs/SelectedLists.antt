@@ -14,11 +14,11 @@ use Rattle.overlay_plane.proofs.Totals.{Contains-head, Contains-later}
 use Rattle.overlay_plane.proofs.LaterEntries.{Contains-cases}
 
 module _ {X A : Type 0} (p : X → Bool) (h : X → A) where
-  -- what h gives of the entries that pass the test
+  -- the values of h for the entries that pass the test
   abbrev taken : List X → List A
   taken xs = flat_map (λ x. cond (p x) (h x ∷ []) []) xs
 
-  -- what a list has where a test passes comes from an entry that passes it
+  -- an item of the list where a test passes comes from an entry that passes it
   pub taken_from : (xs : List X) (a : A) → Contains (taken xs) a → (x : X) × Contains xs x × (p x ≡ true) × (a ≡ h x)
   taken_from [] a c = elim c.1 [ ]
   taken_from (x ∷ xs) a c = by (p x) refl c (taken_from xs a)
@@ -30,7 +30,7 @@ module _ {X A : Type 0} (p : X → Bool) (h : X → A) where
           (found.0, Contains-later x xs found.0 found.1, found.2, found.3)) (Contains-cases (h x) (taken xs) a at)
       by false is at rest = let found = rest at in (found.0, Contains-later x xs found.0 found.1, found.2, found.3)
 
-  -- and each such entry gives one
+  -- each such entry gives an item
   pub taken_all : (xs : List X) (x : X) → Contains xs x → p x ≡ true → Contains (taken xs) (h x)
   taken_all [] x c t = elim c.1 [ ]
   taken_all (y ∷ ys) x c t = ⊎_elim (λ one. subst (λ (z : X). Contains (taken (y ∷ ys)) (h z)) one

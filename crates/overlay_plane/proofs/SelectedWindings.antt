@@ -25,7 +25,7 @@ use Rattle.overlay_plane.proofs.Totals.{Contains-head, Contains-later, total-sam
 -- ---- the step along an edge
 
 module _ (e : Edge) (forward : point_lt e.a e.b ≡ true) where
-  -- the step with the upper side of a forward edge on its left leads forward, the one with the lower side there leads
+  -- the step with the upper side of a forward edge on its left leads forward, the step with the lower side there leads
   -- back
   pub forward_above : (above : Bool) → is_forward (step_with_left above e) ≡ above
   forward_above true = forward
@@ -63,15 +63,15 @@ module _ (holds : ℤ → ℤ → Bool) (subj clip : CountedEdge → ℤ) (es : 
   -- ---- sums over the edges that pass a test
 
   module _ (test : Edge → Bool) where
-    -- what a step counts where its edge passes
+    -- the count of a step where its edge passes
     abbrev part : Step → ℤ
     part s = cond (test (edge_of s)) (sign_of s) (pos 0)
 
-    -- what the edge's sign counts there
+    -- the count of the edge's sign there
     abbrev signed : CountedEdge → ℤ
     signed e = cond (test (ends_of e)) (selected_sign holds subj clip es e) (pos 0)
 
-    -- what the edge's step counts is its sign, once round
+    -- the count of the edge's step is its sign, once round
     chosen_counts : (e : CountedEdge) → Contains es e → total part (chosen e) ≡ once_round filled *ℤ signed e
     chosen_counts e c = chosen_part (is_selected holds subj clip es e)
         ∙ ap (λ k. total (λ z. z) (cond (is_selected holds subj clip es e) (k ∷ []) [])) counts
@@ -109,7 +109,7 @@ module _ (holds : ℤ → ℤ → Bool) (subj clip : CountedEdge → ℤ) (es : 
         chosen_part true = refl
         chosen_part false = refl
 
-    -- so the selected steps count as the signs, once round
+    -- the selected steps count as the signs, once round
     pub selected_total : total part (selected_steps holds subj clip filled es) ≡ once_round filled *ℤ total signed es
     selected_total = total-flat_map part chosen es
         ∙ total-same (λ e. total part (chosen e)) (λ e. once_round filled *ℤ signed e) es chosen_counts
@@ -125,7 +125,7 @@ module _ (holds : ℤ → ℤ → Bool) (subj clip : CountedEdge → ℤ) (es : 
       by right true = refl
       by right false = refl
 
-  -- so they wind once where the rule holds
+  -- the selected steps wind once where the rule holds
   pub selected_wind : (p : PlanePoint) → winding (selected_steps holds subj clip filled es) p ≡
       cond (holds (winding_by subj es p) (winding_by clip es p)) (once_round filled) (pos 0)
   selected_wind p = selected_total (λ e. is_strictly_below e p)

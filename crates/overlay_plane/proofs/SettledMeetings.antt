@@ -72,7 +72,7 @@ end_of_sooner e f e_forward f_forward along alike sooner begins = by (alike f.b 
         (ap (λ (v : Point). v.y) (sym same)))
     by (inr at) = at_whole e.b f.b at
 
--- two overlapping edges of which each end on the other is an end of both are equal
+-- two overlapping edges are equal if each end on the other is an end of both
 one_edge : (e f : Edge) → IsBefore e.a e.b → IsBefore f.a f.b → IsAlong e f → EndsAlike e f → IsBefore f.a e.b →
     IsBefore e.a f.b → e ≡ f
 one_edge e f e_forward f_forward along alike f_begins e_begins = λ i. record { a = same_start i; b = same_end i }
@@ -94,7 +94,7 @@ one_edge e f e_forward f_forward along alike f_begins e_begins = λ i. record { 
         (λ later. sym (end_of_sooner f e f_forward e_forward back (alike_exchanged e f alike)
         (before_up_to e.b f.b later) f_begins))
 
--- two different edges of which each meeting point is an end of both meet in ends alone
+-- two different edges meet in ends alone if each meeting point is an end of both
 pub meet_in_ends_of_meetings : (e f : Edge) → IsBefore e.a e.b → IsBefore f.a f.b → edge_eq e f ≡ false →
     ((p : PlanePoint) → IsMeetingPoint e f p → IsEnd e p × IsEnd f p) → MeetInEnds e f
 meet_in_ends_of_meetings e f e_forward f_forward other ends p common = ⊎_elim (ends p) overlapping

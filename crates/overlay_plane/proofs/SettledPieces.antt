@@ -48,7 +48,7 @@ link_end vs g v p link has at on = by_order v g.a
     held = held_of_on g v p link.forward at on
 
 module _ (r : Round) (h : CutsWhole r) where
-  -- a cut of one edge that lies on another one is a cut of that one
+  -- a cut of an edge that lies on another edge is a cut of that edge
   pub shared_cut : (e f : CountedEdge) (v : Point) → Contains r.edges e → Contains r.edges f →
       edge_eq (ends_of e) (ends_of f) ≡ false →
       Contains (whole_cuts r f) v → IsHeldBy (ends_of e) v → Contains (whole_cuts r e) v
@@ -90,7 +90,7 @@ module _ (r : Round) (h : CutsWhole r) where
                 ]
               ]
 
-  -- a stop of one edge that lies on another one is a stop of that one
+  -- a stop of an edge that lies on another edge is a stop of that edge
   pub shared_stop : (e f : CountedEdge) (v : Point) → Contains r.edges e → Contains r.edges f →
       edge_eq (ends_of e) (ends_of f) ≡ false →
       Contains (stops r f) v → IsHeldBy (ends_of e) v → Contains (stops r e) v
@@ -112,7 +112,7 @@ module _ (r : Round) (h : CutsWhole r) where
             end_is_meeting (ends_of e) (ends_of f) (in_plane v) (on_e, on_f) (inr end),
           ) (at_itself v)
 
-  -- so no stop of an edge along another one lies inside a link of that one
+  -- no stop of an edge along another edge lies inside a link of that edge
   pub no_stop_inside : (e f : CountedEdge) (g : Edge) (v : Point) → Contains r.edges e → Contains r.edges f →
       edge_eq (ends_of e) (ends_of f) ≡ false →
       IsAlong (ends_of e) (ends_of f) → IsLink (stops r e) g → Contains (stops r f) v →
@@ -135,7 +135,7 @@ module _ (r : Round) (h : CutsWhole r) where
       (λ in_g. link_g.clear k.a link_k.from in_g.0 in_g.1) (λ in_g. link_g.clear k.b link_k.to in_g.0 in_g.1)
       (λ in_k. link_k.clear g.a link_g.from in_k.0 in_k.1) (λ in_k. link_k.clear g.b link_g.to in_k.0 in_k.1)
 
-  -- and so do different links of the chains of two edges
+  -- different links of the chains of two edges meet in ends alone
   links_of_two : (e f : CountedEdge) (g k : Edge) → Contains r.edges e → Contains r.edges f →
       edge_eq (ends_of e) (ends_of f) ≡ false →
       IsLink (stops r e) g → IsLink (stops r f) k → ¬ (g ≡ k) → MeetInEnds g k
@@ -178,7 +178,7 @@ module _ (r : Round) (h : CutsWhole r) where
           (no_stop_inside f e k g.b has_f has_e back_other back link_k link_g.to)
           differ p (on_g, on_k)
 
-  -- so do any two different links
+  -- any two different links meet in ends alone
   links_meet_in_ends : (e f : CountedEdge) (g k : Edge) → Contains r.edges e → Contains r.edges f →
       IsLink (stops r e) g → IsLink (stops r f) k →
       ¬ (g ≡ k) → MeetInEnds g k

@@ -20,7 +20,7 @@ use Rattle.std.proofs.lemmas.Option.{same_Some}
 abbrev pub outlines_before : List Contour → ℕ → ℕ
 outlines_before cs i = length (filter (λ d. is_outline d.role) (take i cs))
 
--- an outline's place is the one of its number
+-- an outline's place is that of its number
 pub place_of_number : (m : ℕ) (cs : List Contour) (i : ℕ) (c : Contour) → slice_get cs i ≡ Some c →
     is_outline c.role ≡ true → slice_get (outlines_from m cs) (outlines_before cs i) ≡ Some (m + i)
 place_of_number m [] i c at is = absurd (none-some c at)
@@ -67,7 +67,7 @@ module _ (d : Contour) (ds : List Contour) where
 abbrev IsOutlineOf : ℕ → List Contour → ℕ → ℕ → Type 0
 IsOutlineOf m cs n p = (i : ℕ) × (p ≡ m + i) × IsOutlineAt cs n i
 
--- and at the place of a number stands the outline
+-- the outline is at the place of its number
 pub outline_of_number : (m : ℕ) (cs : List Contour) (n p : ℕ) → slice_get (outlines_from m cs) n ≡ Some p →
     IsOutlineOf m cs n p
 outline_of_number m [] n p at = absurd (none-some p at)

@@ -39,7 +39,7 @@ use Rattle.overlay_plane.proofs.ShuffledSteps.{Differ}
 
 -- ---- lists
 
--- one of the parts of which a list is made is a part of it
+-- a part of a list made of parts is a part of it
 part-piece : {X Y : Type 0} (f : X → List Y) (xs : List X) (x : X) → Contains xs x → IsPart (f x) (flat_map f xs)
 part-piece f [] x c = absurd (elim c.1 [ ])
 part-piece f (y ∷ ys) x c = ⊎_elim

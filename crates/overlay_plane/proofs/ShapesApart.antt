@@ -71,7 +71,7 @@ module _ (holds : ℤ → ℤ → Bool) (subj clip : CountedEdge → ℤ) (es : 
     settled = λ s t at_s at_t apart. own.settled s t (step_of s at_s) (step_of t at_t) apart;
   }
 
--- so they can be bound
+-- they can be bound
 pub kept_shapes_can_be_bound : KeptShapesCanBeBound
 kept_shapes_can_be_bound holds subj clip es filled in_groups keeps contours kept shapes found =
     shapes_can_be_bound holds subj clip es filled in_groups keeps contours kept shapes found

@@ -9,7 +9,7 @@ use Rattle.overlay_geom.proofs.Rounded.{nearest-whole}
 use Rattle.overlay_plane.specs.CutPoints.{part_way, to_line, across, crossing}
 use Rattle.overlay_plane.proofs.CrossingPoints.{CrossAlike, cross_alike, part_way_across, whole_way_across}
 
--- the point in which e crosses f's line is the one in which f crosses e's
+-- the point in which e crosses f's line is that in which f crosses e's line
 pub crossing_alike : (e f : Edge) → IsAcross e f → IsAcross f e → crossing e f ≡ crossing f e
 crossing_alike e f forth back =
     let alike : CrossAlike e f = cross_alike e f forth back in

@@ -92,7 +92,7 @@ module _ (filled : ℤ → Bool) (shape : CountedEdge → ℤ) (es : List Counte
         (alike (fills_above filled es shape e) (fills_below filled es shape e) (none e c (at refl)))
     no_count false e c at = refl
 
-    -- where it fills no side alone round the point, it fills there what it fills at the point
+    -- a shape that fills no side alone round the point fills the same there as at the point
     still : (e : CountedEdge) → Contains es e → EndsAt v e → fills_below filled es shape e ≡ fills_at filled es shape
         (in_plane v)
     still e c at = one_if-injective (fills_below filled es shape e) (fills_at filled es shape (in_plane v))
@@ -115,7 +115,7 @@ module _ (filled : ℤ → Bool) (shape : CountedEdge → ℤ) (es : List Counte
             ∙ b))))
             ∙ +ℤ_idr (winding_by sign es (in_plane e.b)) ∙ ap (λ u. winding_by sign es (in_plane u)) b
 
-    -- so where it is there, it fills a side of each edge
+    -- a shape that is there fills a side of each edge
     all_filled : IsThere → (e : CountedEdge) → Contains es e → EndsAt v e → fills_a_side filled es shape e ≡ true
     all_filled there e c at = or_right (fills_above filled es shape e) (fills_below filled es shape e)
         (still e c at ∙ here there)
@@ -146,7 +146,7 @@ module _ (filled : ℤ → Bool) (shape : CountedEdge → ℤ) (es : List Counte
 -- ---- two shapes
 
 module _ (filled : ℤ → Bool) (es : List CountedEdge) (fillable : IsFillable filled es) where
-  -- the list is ruled by what the subject alone fills, and by what the clip does
+  -- the list is ruled by the subject's filling alone, and by the clip's
   pub ruled_by_subj : IsRuled (λ w z. filled w) subj_of subj_of es
   ruled_by_subj = record {
     planar = fillable.planar;

@@ -23,7 +23,7 @@ use Rattle.overlay_plane.proofs.Totals.{Contains-head}
 abbrev pub HaveSame : List Step → List Step → Type 0
 HaveSame xs ys = ((s : Step) → Contains xs s → Contains ys s) × ((s : Step) → Contains ys s → Contains xs s)
 
--- so have lists in two orders
+-- permuted lists have it too
 pub same_shuffled : (xs ys : List Step) → IsPermutation xs ys → HaveSame xs ys
 same_shuffled xs ys moved = (
   (λ s c. Contains-permutation xs ys s moved c),
@@ -55,7 +55,7 @@ start_alike xs ys same s start = record {
   top = λ t c. start.top t (same.1 t c);
 }
 
--- and have the same orbits
+-- the lists have equal orbits
 orbit_alike : (xs ys : List Step) → HaveSame xs ys → (hand : Hand) (walk : List Step) → IsOrbit xs hand walk →
     IsOrbit ys hand walk
 orbit_alike xs ys same hand walk orbit = record {
@@ -117,7 +117,7 @@ module _ (holds : ℤ → ℤ → Bool) (subj clip : CountedEdge → ℤ) (es : 
   shuffled_once = once_shuffled (selected_steps holds subj clip filled es) steps moved
       (selected_steps_once holds subj clip es ruled filled)
 
-  -- and what they are cut into the selected steps are cut into
+  -- a cut of these steps is a cut of the selected steps
   pub shuffled_cut : (walks : List (List Step)) → IsCutInto (outline_or_hole_hand filled) steps walks →
       AreCutFrom holds subj clip es filled walks
   shuffled_cut walks cut = record {

@@ -1,5 +1,4 @@
--- Entries of a list, no two of which pass a test that takes the two in either order: in every order of the list, no two
--- pass it.
+-- Entries of a list, no two of which pass a symmetric test: no two pass it in any order of the list.
 use Rattle.std.proofs.Common.{◌≡◌, ⊎_elim, Bool, true, false, List, [], ◌∷◌, Contains, AllPairs, sym, subst}
 use Rattle.std.specs.List.{AllByRecursion, IsDistinct}
 use Rattle.std.specs.List.Sorted.{IsPermutation}
@@ -13,7 +12,7 @@ use Rattle.overlay_plane.proofs.LaterEntries.{Contains-cases, Each, Each-from_al
 use Rattle.overlay_plane.proofs.Tests.{same_tests}
 use Rattle.overlay_plane.proofs.Totals.{Contains-head, Contains-later}
 
--- what holds of each entry, by recursion and by entries
+-- a fact of each entry, by recursion and by entries
 by_recursion : {X : Type 0} (P : X → Type 0) (xs : List X) → ((x : X) → Contains xs x → P x) → AllByRecursion P xs
 by_recursion P [] h = tt
 by_recursion P (x ∷ xs) h = (h x (Contains-head x xs), by_recursion P xs (λ y c. h y (Contains-later x xs y c)))

@@ -75,7 +75,7 @@ module _ (e : Edge) (p : PlanePoint) (on : side e p ≡ pos 0) (inner : IsInner 
       and_from (int_le (e.a.x *ℤ p.d) p.x) (int_lt p.x (e.b.x *ℤ p.d))
       (test_from_le (e.a.x *ℤ p.d) p.x (omega linear)) (test_from_lt p.x (e.b.x *ℤ p.d) r)
 
-  -- what lies strictly below an inner point of e is what covers it and is under e
+  -- the edges strictly below an inner point of e are those that cover it and are under e
   pub below_point : (f : Edge) → (edge_eq e f ≡ false → MeetInEnds e f) →
       is_strictly_below f p ≡ (covers f p.x p.d && is_under f e p.x p.d)
   below_point f meets = by (covers f p.x p.d) refl
@@ -136,12 +136,12 @@ one_winding_along ends count xs e forward meets balanced x d positive over =
     (inner_covers e (midpoint e) (side-midpoint e) inner)
     ∙ sym (total_below-inner e (midpoint e) (side-midpoint e) inner ends count xs meets)
 
--- so the sum of the counts under an edge is the winding below it
+-- the sum of the counts under an edge is the winding below it
 pub one_winding_along_a_side : OneWindingAlongASide
 one_winding_along_a_side es count forward settled balanced e at x d positive over = one_winding_along ends_of count es
     (ends_of e) forward (λ f is. settled e f at is) balanced x d positive over
 
--- and the winding at an inner point is it too
+-- the winding at an inner point is that sum too
 pub one_winding_at_inner_points : OneWindingAtInnerPoints
 one_winding_at_inner_points es count forward settled balanced e at p on inner = total_below-inner (ends_of e) p on inner
     ends_of count es (λ f is. settled e f at is)

@@ -18,7 +18,7 @@ use Rattle.overlay_plane.specs.Rounds.{IsSmaller}
 third_first : (x c b : ℤ) → b *ℤ (x *ℤ c) ≡ c *ℤ (x *ℤ b)
 third_first = solve 3 (λ x c b. b ⊗ (x ⊗ c) ≗ c ⊗ (x ⊗ b)) tt
 
--- at most the one is at most the other
+-- `at most` is transitive
 pub fraction_le : (x d y c z b : ℤ) → pos 0 <ℤ d → pos 0 <ℤ c → pos 0 <ℤ b → (x *ℤ c) ≤ℤ (y *ℤ d) →
     (y *ℤ b) ≤ℤ (z *ℤ c) → (x *ℤ b) ≤ℤ (z *ℤ d)
 fraction_le x d y c z b d_pos c_pos b_pos first second =
@@ -29,7 +29,7 @@ fraction_le x d y c z b d_pos c_pos b_pos first second =
     let to = third_first z c d in
     le_of_mul-le c (x *ℤ b) (z *ℤ d) c_pos (omega linear)
 
--- below what is at most another
+-- a number below a number at most another is below that
 fraction_lt_le : (x d y c z b : ℤ) → pos 0 <ℤ d → pos 0 <ℤ c → pos 0 <ℤ b → (x *ℤ c) <ℤ (y *ℤ d) →
     (y *ℤ b) ≤ℤ (z *ℤ c) → (x *ℤ b) <ℤ (z *ℤ d)
 fraction_lt_le x d y c z b d_pos c_pos b_pos first second =
@@ -40,7 +40,7 @@ fraction_lt_le x d y c z b d_pos c_pos b_pos first second =
     let to = third_first z c d in
     lt_of_mul-lt c (x *ℤ b) (z *ℤ d) c_pos (omega linear)
 
--- at most what is below another
+-- a number at most a number below another is below that
 fraction_le_lt : (x d y c z b : ℤ) → pos 0 <ℤ d → pos 0 <ℤ c → pos 0 <ℤ b → (x *ℤ c) ≤ℤ (y *ℤ d) →
     (y *ℤ b) <ℤ (z *ℤ c) → (x *ℤ b) <ℤ (z *ℤ d)
 fraction_le_lt x d y c z b d_pos c_pos b_pos first second =
@@ -51,7 +51,7 @@ fraction_le_lt x d y c z b d_pos c_pos b_pos first second =
     let to = third_first z c d in
     lt_of_mul-lt c (x *ℤ b) (z *ℤ d) c_pos (omega linear)
 
--- equal to what is equal to another
+-- equality is transitive
 fraction_eq : (x d y c z b : ℤ) → pos 0 <ℤ d → pos 0 <ℤ c → pos 0 <ℤ b → x *ℤ c ≡ y *ℤ d → y *ℤ b ≡ z *ℤ c →
     x *ℤ b ≡ z *ℤ d
 fraction_eq x d y c z b d_pos c_pos b_pos first second =
@@ -88,7 +88,7 @@ smaller-irreflexive p = false_from_ne_true (is_smaller p p) (λ t. against ((Dec
     against (inl lt) = omega linear
     against (inr (same, lt)) = omega linear
 
--- what is smaller than a smaller point is smaller
+-- `smaller` is transitive
 pub smaller-transitive : (p q r : PlanePoint) → is_smaller p q ≡ true → is_smaller q r ≡ true → is_smaller p r ≡ true
 smaller-transitive p q r first second = (Decides-is_smaller p r).1
     (by ((Decides-is_smaller p q).0 first) ((Decides-is_smaller q r).0 second))
@@ -105,7 +105,7 @@ smaller-transitive p q r first second = (Decides-is_smaller p r).1
       fraction_lt_le p.y p.d q.y q.d r.y r.d p.positive q.positive r.positive lt (omega linear),
     )
 
--- two points of which neither is smaller are at one place
+-- two points are at one place if neither is smaller
 pub same_place-from_tie : (p q : PlanePoint) → is_smaller p q ≡ false → is_smaller q p ≡ false → SamePlace p q
 same_place-from_tie p q first second = (
   level,

@@ -75,7 +75,7 @@ module _ (es : List CountedEdge) (forward : IsForwardBy ends_of es) (e : Counted
   same_snap_through us us_in_order computed all = chains_alike (ends_of e) before us (snap_points es e) us_in_order
       computed_in_order computed_within computed all
 
-  -- so do such points of which none comes before an earlier one by the test
+  -- such points stand in order if none comes before an earlier point by the test
   pub same_snap_ascending : (us : List Point) → Each (λ v w. comes_first (ends_of e) w v ≡ false) us →
       ((v : Point) → Contains us v → IsEndOrIn e.a e.b (snap_points es e) v) →
       ((v : Point) → Contains (snap_points es e) v → IsEndOrIn e.a e.b us v) →

@@ -74,12 +74,12 @@ module _ (es : List CountedEdge) (forward : IsForwardBy ends_of es) (e : Counted
       (Contains-in_order (comes_first (ends_of e)) (filter (meets_pixel (ends_of e)) (hot_points es)) v at_v) in
       (computed_is_hot es forward v kept.0, kept.1)
 
-  -- so the point for it is on e and rounds to it
+  -- the point for it is on e and rounds to it
   pub point_for_computed : (v : Point) → Contains (snap_points es e) v →
       IsOn (ends_of e) (point_for e v) × (nearest_point (point_for e v) ≡ v)
   point_for_computed v at_v = (pixel_point (ends_of e) v).is leads (computed_is_met v at_v).1
 
-  -- and one of the cuts is at the place of that point
+  -- a cut is at the place of that point
   pub cut_for : (v : Point) → Contains (snap_points es e) v →
       (q : PlanePoint) × Contains (snap_cuts es e) q × (nearest_point q ≡ v)
   cut_for v at_v =
@@ -97,13 +97,13 @@ module _ (es : List CountedEdge) (forward : IsForwardBy ends_of es) (e : Counted
       let rounds = sym (ap nearest_point from.2) ∙ (point_for_computed from.0 from.1).1 in
       (subst (Contains (snap_points es e)) (sym rounds) from.1, ap (point_for e) rounds ∙ from.2)
 
-  -- so it is on e
+  -- the cut is on e
   pub snap_cut_on : (p : PlanePoint) → Contains (snap_cuts es e) p → IsOn (ends_of e) p
   snap_cut_on p at_p =
       let is = cut_is_for p at_p in
       subst (IsOn (ends_of e)) is.1 (point_for_computed (nearest_point p) is.0).0
 
-  -- two cuts of which one is smaller have different whole points nearest them
+  -- two cuts have different nearest whole points if one is smaller
   cuts_apart : (p q : PlanePoint) → Contains (snap_cuts es e) p → Contains (snap_cuts es e) q → IsSmaller p q →
       ¬ (nearest_point p ≡ nearest_point q)
   cuts_apart p q at_p at_q smaller same =

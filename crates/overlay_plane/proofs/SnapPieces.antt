@@ -24,7 +24,8 @@ use Rattle.overlay_plane.proofs.WholeCuts.{forward_merged}
 use Rattle.overlay_plane.proofs.WholeOnEdges.{at_itself, forward_from_test}
 use Rattle.overlay_plane.proofs.WholePlaces.{rounded_whole}
 
--- from p to q an edge of the snap passes no hot pixels but those of the two points nearest p and q, which are hot
+-- from p to q an edge of the snap passes no hot pixels but those of the two whole points nearest to p and q, which are
+-- hot
 pub record IsSnapPiece (r : Round) (e : CountedEdge) (p q : PlanePoint) : Type 0 where
   pub has : Contains r.edges e
   pub on_p : IsOn (ends_of e) p

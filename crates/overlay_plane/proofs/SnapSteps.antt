@@ -34,7 +34,7 @@ abbrev pub ShareAnEnd : Step → Step → Type 0
 ShareAnEnd s t = (u : Point) × IsEndOf s u × IsEndOf t u
 
 module _ (old : List CountedEdge) (r : Round) (forward : IsForwardBy ends_of old) (snap : IsSnap old r) where
-  -- what is mixed of the ends of a piece is on its edge
+  -- a mixture of the ends of a piece is on its edge
   mixed_on : (e : CountedEdge) (p q : PlanePoint) → IsSnapPiece r e p q → (b : Between p q) → IsOn (ends_of e) (mixed b)
   mixed_on e p q piece b = mixture_on (ends_of e) b.m b.n p q b.some b.m_nonneg b.n_nonneg piece.on_p piece.on_q
 
@@ -46,7 +46,7 @@ module _ (old : List CountedEdge) (r : Round) (forward : IsForwardBy ends_of old
       (piece.alone (mixed b) (mixed_on e p q piece b) (first_up_to_mixed p q piece.in_order b)
       (mixed_up_to_second p q piece.in_order b) (subst (IsHot r.edges) (sym is) hot))
 
-  -- so a hot point on a step is an end of it
+  -- a hot point on a step is an end of it
   pub hot_is_end : (s : Step) → IsSnapStep r s → IsBefore (edge_of s).a (edge_of s).b → (v : Point) → IsHot r.edges v →
       IsOn (edge_of s) (in_plane v) →
       IsEndOf s v
@@ -124,7 +124,7 @@ module _ (old : List CountedEdge) (r : Round) (forward : IsForwardBy ends_of old
         on_f = on_same_place (ends_of f) f_forward (mixed c) (mixed b) (sym same_x, sym same_y)
             (mixed_on f k l there c)
 
-        -- so it is a meeting point
+        -- the point is a meeting point
         hot : IsHot r.edges (nearest_point (mixed b))
         hot = inr (
           e,

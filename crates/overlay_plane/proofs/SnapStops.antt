@@ -18,7 +18,7 @@ use Rattle.overlay_plane.specs.Rounds.{Round, whole_cuts, chain_of}
 use Rattle.overlay_plane.proofs.Ends.{start_on, end_on}
 use Rattle.overlay_plane.proofs.LinksKept.{IsBetweenGood, good_through}
 
--- a whole point is the one nearest itself
+-- a whole point is nearest to itself
 pub nearest_itself : (v : Point) → nearest_point (in_plane v) ≡ v
 nearest_itself v = same_point (nearest_point (in_plane v)) v (at v.x) (at v.y)
   where
@@ -67,8 +67,7 @@ ends_of_steps u (v ∷ vs) = by (point_eq u v) refl (ends_of_steps v vs)
     ])
 
 module _ {X : Type 0} (round : X → Point) (P Q : X → Type 0) where
-  -- two neighbours, of which the first is a P and the second a Q: their step is one of the steps, or they are rounded
-  -- alike
+  -- two neighbours, the first a P and the second a Q: their step is one of the steps, or they round to one point
   pub record Change (xs : List X) (ss : List Step) : Type 0 where
     pub first : X
     pub second : X
@@ -171,7 +170,7 @@ module _ (r : Round) (rounding : (p : PlanePoint) → r.whole_at p ≡ nearest_p
         (All-append (IsOn (ends_of e)) (r.cuts e) (in_plane e.b ∷ []) on
         (All-cons (IsOn (ends_of e)) (in_plane e.b) [] (end_on (ends_of e)) (All-nil (IsOn (ends_of e)))))
 
-    -- each point through which the chain leads is the one nearest a point of the edge
+    -- each point through which the chain leads is nearest to a point of the edge
     pub rounded_after : All (IsRounded (ends_of e)) (map nearest_point (places_after r e))
     rounded_after = All-map (IsRounded (ends_of e)) nearest_point (places_after r e)
         (All-weaker (IsOn (ends_of e)) (λ p. IsRounded (ends_of e) (nearest_point p)) (λ p at. (p, at, refl))

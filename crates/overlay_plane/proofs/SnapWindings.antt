@@ -59,7 +59,7 @@ module _ (e : Edge) (before : IsBefore e.a e.b) (p : PlanePoint) (misses : ¬ (M
       (let last = over_le (nearest_point r).x e.b.x p.d p.positive (rounded_up_to_end e before r on_r).x in
       omega linear)))
 
-  -- so such a step passes below p exactly where e does
+  -- such a step passes below p exactly where e does
   crossed_alike : (u v : Point) → IsRounded e u → IsRounded e v → IsCrossedAlike e p u v
   crossed_alike u v (q, on_q, is_u) (r, on_r, is_v) = subst (λ (f : Edge). IsCrossedAlike e p f.a f.b)
       (λ i. record { a = is_u i; b = is_v i }) between

@@ -1,4 +1,4 @@
--- Merged edges cut through the computed hot points whose pixels they meet are what a snap leaves.
+-- Merged edges cut through the computed hot points whose pixels they meet are the result of a snap.
 use Rattle.std.proofs.Common.{◌≡◌, List, [], ◌∷◌, ◌++◌, map, Contains, refl, ap}
 use Rattle.overlay_geom.specs.Plane.{Step, steps_through}
 use Rattle.overlay_geom.specs.Edges.{CountedEdge, ends_of}
@@ -58,7 +58,7 @@ snapping_through old es forward merged unsettled = (
   },
 )
 
--- so they are what a snap leaves
+-- the pieces are the result of a snap
 pub snapping_is_a_snap : SnappingIsASnap
 snapping_is_a_snap old es forward merged unsettled =
     (snap_of es, snap_of_merged old es forward merged unsettled, snap_of_pieces es forward)

@@ -37,7 +37,7 @@ use Rattle.overlay_plane.proofs.WithinHalf.{rounded_mixture_near}
 abbrev turned : Edge → Edge
 turned f = record { a = f.b; b = f.a }
 
--- what lies on an edge lies on it as well where the ends are exchanged
+-- a point on an edge is on it with the ends exchanged too
 on_turned : (f : Edge) (q : PlanePoint) → IsOn f q → IsOn (turned f) q
 on_turned f q on = record {
   on_line =
@@ -136,7 +136,7 @@ near_step e p q on_p on_q h long on = (
           mean.mean_y,
     )
 
--- so for each step between whole points nearest points of the edge
+-- this holds for each step between whole points nearest to points of the edge
 near_chain_step : (e : Edge) (s : Step) → IsBetweenGood (IsRounded e) s → (h : PlanePoint) → IsOnStep s h →
     (m : PlanePoint) × IsOn e m × AreWithinHalf m h
 near_chain_step e s good h on =
@@ -193,7 +193,7 @@ module _ (r : Round) (rounding : (p : PlanePoint) → r.whole_at p ≡ nearest_p
           (Contains-append_right (r.cuts e) (in_plane e.b ∷ []) (in_plane e.b) (Contains-head (in_plane e.b) [])))
           ∙ nearest_itself e.b
 
-  -- what is near one of them is near the chain
+  -- a point near one of them is near the chain
   near_end : (m : PlanePoint) (v : Point) → Contains (map nearest_point (places r e)) v → AreWithinHalf m (in_plane v) →
       NearChain m
   near_end m v has near =
@@ -262,7 +262,7 @@ module _ (r : Round) (rounding : (p : PlanePoint) → r.whole_at p ≡ nearest_p
       t_nonneg : pos 0 ≤ℤ t
       t_nonneg = let no_later = c.is_first in omega linear
 
-      -- so it is near the point of their step at the same weights
+      -- the point is near the point of their step at the same weights
       near_between : AreWithinHalf m (rounded_mixture s t c.first c.second some)
       near_between =
           let same = mixed_between (ends_of e) before c.first c.second m on_first.on_line on_second.on_line on_m.on_line

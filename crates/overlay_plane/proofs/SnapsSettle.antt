@@ -134,6 +134,6 @@ module _ (core : MeetingStepsPassPixels) (old : List CountedEdge) (r : Round) (f
       (subst (λ h. edge_eq (ends_of g) h ≡ false) (sym is_k) other))
       (meets_in_ends of_g.0 of_k.0 of_g.1 of_k.1)))
 
--- what a snap leaves is settled, by what holds of steps that meet
+-- the pieces of a snap are settled, by the facts of steps that meet
 pub snaps_settle_by : MeetingStepsPassPixels → SnapsSettle
 snaps_settle_by core old new r forward snap merged = snapped_settled core old r forward snap new merged

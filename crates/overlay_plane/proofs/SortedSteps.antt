@@ -12,7 +12,7 @@ pub record HaveSameEntries (us vs : List Point) : Type 0 where
   pub forth : (z : Point) → Contains us z → Contains vs z
   pub back : (z : Point) → Contains vs z → Contains us z
 
--- the same the other way round
+-- the converse
 exchanged : {us vs : List Point} → HaveSameEntries us vs → HaveSameEntries vs us
 exchanged same = record { forth = same.back; back = same.forth }
 
@@ -42,7 +42,7 @@ module _ (R : Point → Point → Type 0) (reflexive : (u : Point) → R u u) (a
   first_before v vs sorted z c = ⊎_elim (λ e. subst (λ u. R v u) e (reflexive v)) (λ later. sorted.0 z later)
       (Contains-cases v vs z c)
 
-  -- of an entry and the one after it that differs the first does not come back
+  -- an entry does not come back after an entry that differs from it
   not_again : (p u : Point) (us : List Point) → ¬ (p ≡ u) → Each R (p ∷ u ∷ us) →
       (z : Point) → Contains (u ∷ us) z → ¬ (p ≡ z)
   not_again p u us differ sorted z c same =
@@ -62,7 +62,7 @@ module _ (R : Point → Point → Type 0) (reflexive : (u : Point) → R u u) (a
   GiveSameSteps u us = (ws : List Point) → Each R (u ∷ ws) → HaveSameEntries (u ∷ us) (u ∷ ws) →
       steps_through u us ≡ steps_through u ws
 
-  -- so they do from p before it, where u is another point
+  -- the lists do so from p before them, where u is another point
   steps_past : (p u : Point) (us vs : List Point) → ¬ (p ≡ u) → Each R (p ∷ u ∷ us) → Each R (p ∷ vs) →
       HaveSameEntries (p ∷ u ∷ us) (p ∷ vs) →
       GiveSameSteps u us → steps_through p (u ∷ us) ≡ steps_through p vs

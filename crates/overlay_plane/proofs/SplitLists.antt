@@ -9,13 +9,13 @@ use Rattle.std.proofs.lemmas.List.Sorted.{IsPermutation-refl, IsPermutation-tran
 use Rattle.std.proofs.lemmas.List.Sorted.{IsPermutation-append_right, IsPermutation-append_comm}
 use Rattle.overlay_plane.proofs.Totals.{Contains-head, Contains-later}
 
--- a list comes past another one
+-- a list moved past another list
 pub IsPermutation-past : {X : Type 0} (xs ys zs : List X) → IsPermutation (xs ++ (ys ++ zs)) (ys ++ (xs ++ zs))
 IsPermutation-past xs ys zs = subst (λ vs. IsPermutation vs (ys ++ (xs ++ zs))) (append_assoc xs ys zs)
     (subst (λ vs. IsPermutation ((xs ++ ys) ++ zs) vs) (append_assoc ys xs zs)
     (IsPermutation-append_left zs (xs ++ ys) (ys ++ xs) (IsPermutation-append_comm xs ys)))
 
--- the entry that passes the first test passes the third alone, and another one passes the second where it passes the
+-- the entry that passes the first test passes the third alone. Another entry passes the second exactly if it passes the
 -- first
 abbrev pub IsSplit : Bool → Bool → Bool → Type 0
 IsSplit all some others = ((some ≡ true) × (others ≡ false) × (all ≡ true)) ⊎ ((some ≡ false) × (others ≡ all))
@@ -28,7 +28,7 @@ flat_map-split f all some others [] h = IsPermutation-refl []
 flat_map-split {X} {Y} f all some others (x ∷ xs) h = by (all x) (some x) (others x) (h x (Contains-head x xs))
     (flat_map-split f all some others xs (λ y c. h y (Contains-later x xs y c)))
   where
-    -- what the three tests make of the rest
+    -- the results of the three tests for the rest
     rest : List Y
     rest = flat_map f (filter all xs)
 
@@ -68,7 +68,7 @@ pub filter-all : {X : Type 0} (xs : List X) → filter (λ x. true) xs ≡ xs
 filter-all [] = refl
 filter-all (x ∷ xs) = ap (λ ys. x ∷ ys) (filter-all xs)
 
--- and one that none passes keeps none
+-- a test that none passes keeps none
 pub filter-none : {X : Type 0} (xs : List X) → filter (λ x. false) xs ≡ []
 filter-none [] = refl
 filter-none (x ∷ xs) = filter-none xs

@@ -60,11 +60,11 @@ module _ (count : CountedEdge → ℤ) (es : List CountedEdge) (arranged : IsBal
             (arranged.planar.settled e f spoke_e.entry spoke_f.entry) (ends_there es v e spoke_e he
             ∙ sym (ends_there es v f spoke_f hf))
 
-    -- so they are equal
+    -- such spokes are equal
     pub one_ray_one_spoke : AreOneWay v (far_end v e) (far_end v f) → e ≡ f
     one_ray_one_spoke one = one_entry es arranged.planar.distinct e f spoke_e.entry spoke_f.entry (same_ray one)
 
-    -- and others lie apart
+    -- other spokes lie apart
     pub spokes_apart : edge_eq (ends_of e) (ends_of f) ≡ false → Apart v (far_end v e) (far_end v f)
     spokes_apart differ = record {
       first = far_apart e spoke_e;

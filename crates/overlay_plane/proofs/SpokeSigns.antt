@@ -53,7 +53,7 @@ abbrev pub seen : Bool → Sign → Sign
 seen true s = s
 seen false s = opposite_sign s
 
--- the part of a turn, by the sign of the turn, and by whether what is level is straight ahead or behind
+-- the part of a turn, by the sign of the turn, and by whether a level point is straight ahead or behind
 abbrev pub part_by_sign : Bool → Sign → ℕ
 part_by_sign same minus = 2
 part_by_sign same level = cond same 3 1
@@ -136,8 +136,8 @@ met_by_signs he hg hf a b c = nat_lt (part_by_sign (alike he hg) (seen (alike he
 abbrev pub first_from_down : (hg hf t : Bool) → Bool
 first_from_down hg hf t = cond hf (hg && t) (hg || t)
 
--- what is between e and f is what comes before f, less what comes before e, less e, and everything where e does not
--- come before f
+-- the spokes between e and f are those before f without e and those before e. They are all others where e does not come
+-- before f
 abbrev pub Counted : (he hg hf : Bool) → (a b c : Sign) → ℤ
 Counted he hg hf a b c = ((one_if (first_from_down hg hf (is_plus b)) -ℤ one_if
     (first_from_down hg he (is_plus (opposite_sign a)))) -ℤ one_if (alike hg he && is_level a)) +ℤ one_if
@@ -156,12 +156,12 @@ for_both p = p true && p false
 abbrev for_each : (Sign → Bool) → Bool
 for_each p = p minus && (p level && p plus)
 
--- what passes for both passes for one
+-- an entry that passes for both passes for one
 at_bool : (p : Bool → Bool) → for_both p ≡ true → (b : Bool) → p b ≡ true
 at_bool p h true = (and_parts (p true) (p false) h).0
 at_bool p h false = (and_parts (p true) (p false) h).1
 
--- what passes for each passes for one
+-- an entry that passes for each passes for one
 at_sign : (p : Sign → Bool) → for_each p ≡ true → (s : Sign) → p s ≡ true
 at_sign p h minus = (and_parts (p minus) (p level && p plus) h).0
 at_sign p h level = (and_parts (p level) (p plus) (and_parts (p minus) (p level && p plus) h).1).0
@@ -172,7 +172,7 @@ table : for_both (λ he. for_both
     (λ hg. for_both (λ hf. for_each (λ a. for_each (λ b. for_each (λ c. agrees he hg hf a b c)))))) ≡ true
 table = refl
 
--- so each of its entries is
+-- each of its entries passes
 pub between_counted : (he hg hf : Bool) (a b c : Sign) → go_together a b c ≡ true →
     one_if (met_by_signs he hg hf a b c) ≡ Counted he hg hf a b c
 between_counted he hg hf a b c together =

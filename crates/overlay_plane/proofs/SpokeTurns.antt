@@ -24,7 +24,7 @@ pub record IsAlong (v p : Point) (e : Edge) (h : Bool) : Type 0 where
   pub across : p.x -ℤ v.x ≡ signed h (width e)
   pub up : p.y -ℤ v.y ≡ signed h (rise e)
 
--- the cross product of two ways, of which each may be turned back
+-- the cross product of two vectors, each perhaps reversed
 crossed : (h k : Bool) (w r w' r' : ℤ) → signed h w *ℤ signed k r' -ℤ signed h r *ℤ signed k w' ≡ signed (alike h k)
     (w *ℤ r' -ℤ r *ℤ w')
 crossed true true w r w' r' = refl
@@ -32,7 +32,7 @@ crossed true false w r w' r' = solve 4 (λ w r u s. w ⊗ ⊝ s ⊖ r ⊗ ⊝ u 
 crossed false true w r w' r' = solve 4 (λ w r u s. (⊝ w) ⊗ s ⊖ (⊝ r) ⊗ u ≗ ⊝ (w ⊗ s ⊖ r ⊗ u)) tt w r w' r'
 crossed false false w r w' r' = solve 4 (λ w r u s. (⊝ w) ⊗ ⊝ s ⊖ (⊝ r) ⊗ ⊝ u ≗ w ⊗ s ⊖ r ⊗ u) tt w r w' r'
 
--- the inner product of two ways, of which each may be turned back
+-- the inner product of two vectors, each perhaps reversed
 dotted : (h k : Bool) (w r w' r' : ℤ) → signed h w *ℤ signed k w' +ℤ signed h r *ℤ signed k r' ≡ signed (alike h k)
     (w *ℤ w' +ℤ r *ℤ r')
 dotted true true w r w' r' = refl

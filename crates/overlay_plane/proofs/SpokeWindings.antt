@@ -82,7 +82,7 @@ module _ (count : CountedEdge → ℤ) (es : List CountedEdge) (arranged : IsBal
       each g forward false starts false ends = refl
 
   module _ (e : CountedEdge) (spoke : IsSpoke es v e) where
-    -- what before_is says, by whether the spoke starts in v
+    -- the meaning of `before_is`, by whether the spoke starts in v
     abbrev before_at : Bool → Type 0
     before_at h = cond h (winding_below count es e) (winding_above count es e) ≡ winding_by count es
         (in_plane v) +ℤ total (λ g. cond (first_from_down (point_eq g.a v) h (turns_left (ends_of g) (ends_of e)))

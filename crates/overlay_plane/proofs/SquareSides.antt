@@ -61,7 +61,7 @@ module _ (e : Edge) (p : PlanePoint) (misses : ¬ (MeetsSquareRound e p)) where
         let low : (p.d *ℤ q.d) <ℤ (pos 2 *ℤ fall) = below in
         pos_of_mul-pos (pos 2) fall (record { lt = tt }) (omega linear)
 
-    -- so q and r can be mixed, q as often as r is higher, and r as often as q is lower
+    -- q and r can be mixed, q weighted by how much higher r is, and r by how much lower q is
     some : pos 0 <ℤ (rise *ℤ q.d +ℤ fall *ℤ r.d)
     some =
         let of_q = mul-pos rise q.d rise-positive q.positive in
@@ -110,7 +110,7 @@ module _ (e : Edge) (p : PlanePoint) (misses : ¬ (MeetsSquareRound e p)) where
               omega linear;
         }
 
-    -- so it is in the square
+    -- the mixture is in the square
     pub not_on_both_sides : ⊥
     not_on_both_sides =
         let size = mul-pos p.d between.d p.positive some in

@@ -64,7 +64,7 @@ module _ (es : List CountedEdge) (steps taken : List Step) (along : WalksAlong e
   none_over_start = (nothing_before_the_steps es steps taken along part (edge_of start).a first.lowest).over_top_step
       start (part.inside start first.among) refl first.top
 
-  -- so on its filled side it is once, where that is the lower
+  -- the winding on its filled side is once, where that is the lower side
   pub once_beside_start : HasEachOnce taken → is_filled_above filled start ≡ false →
       winding_beside filled es taken start ≡ once_round filled
   once_beside_start once below = once_from_none filled es taken start

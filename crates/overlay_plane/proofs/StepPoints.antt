@@ -1,4 +1,4 @@
--- The points of a step's edge lie on the way between the step's ends, as what is mixed of them.
+-- The points of a step's edge are mixtures of the step's ends.
 use Rattle.std.proofs.Common.{◌≡◌, Bool, true, false, ℤ, pos, ◌+ℤ◌, ◌*ℤ◌, ◌<ℤ◌, ap}
 use Rattle.overlay_geom.specs.Plane.{PlanePoint, Step, IsOn, SamePlace, in_plane, edge_of, is_forward}
 use Rattle.overlay_geom.proofs.Identities.{solve, number, ◌⊕◌, ◌⊗◌, ◌≗◌}
@@ -8,7 +8,7 @@ use Rattle.overlay_geom.proofs.Signs.{linear, mul-pos}
 use Rattle.overlay_plane.specs.PixelSteps.{Between, mixed}
 use Rattle.overlay_plane.proofs.EdgesOfSteps.{edge_by}
 
--- the mean of two whole numbers is what is mixed of them
+-- the mean of two whole numbers is a mixture of them
 mean_mixed : (s t k x d u v : ℤ) → s +ℤ t ≡ k *ℤ d → k *ℤ x ≡ s *ℤ u +ℤ t *ℤ v →
     (s *ℤ u +ℤ t *ℤ v) *ℤ d ≡ x *ℤ (s *ℤ pos 1 +ℤ t *ℤ pos 1)
 mean_mixed s t k x d u v sum mean =
@@ -25,7 +25,7 @@ some_weight s t k d sum some positive =
     let over_one = solve 2 (λ s t. s ⊗ number (pos 1) ⊕ t ⊗ number (pos 1) ≗ s ⊕ t) tt s t in
     omega linear
 
--- x is on the way from p to q, as what is mixed of them
+-- x is on the way from p to q, as a mixture of them
 abbrev pub IsMixedOf : PlanePoint → PlanePoint → PlanePoint → Type 0
 IsMixedOf p q x = (b : Between p q) × SamePlace (mixed b) x
 

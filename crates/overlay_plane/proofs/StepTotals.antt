@@ -38,7 +38,7 @@ single_step (x ∷ xs) h f s c = ⊎_elim
     ∙ +ℤ_idl (f s))
     (Contains-cases x xs s c)
 
--- so where no step stands twice
+-- this holds if no step occurs twice
 pub single_step_total : (steps : List Step) → HasEachOnce steps → (f : Step → ℤ) (s : Step) → Contains steps s →
     total (λ t. cond (step_eq t s) (f t) (pos 0)) steps ≡ f s
 single_step_total steps once = single_step steps (Each-from_all_pairs (λ s t. step_eq s t ≡ false) steps once)

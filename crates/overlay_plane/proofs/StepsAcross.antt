@@ -12,7 +12,7 @@ use Rattle.overlay_plane.proofs.Mixtures.{mixture, mixture_on}
 use Rattle.overlay_plane.proofs.SquareSides.{IsInColumn, IsBelowSquare, IsAboveSquare}
 use Rattle.overlay_plane.proofs.WithinHalf.{halves_mixed, less_than_half_mixed}
 
--- ---- numbers x / d, c / n and z / n, of which the second is at most 1/2 above the third, or less than 1/2 below it
+-- ---- numbers x / d, c / n and z / n, where the second is at most 1/2 above the third, or less than 1/2 below it
 
 -- where the first is the second, it is at most 1/2 above the third
 at_left : (x d n c z : ℤ) → pos 0 <ℤ d → x *ℤ n ≡ c *ℤ d → (pos 2 *ℤ c) ≤ℤ (pos 2 *ℤ z +ℤ n) →
@@ -99,7 +99,7 @@ module _ (e : Edge) (p q r : PlanePoint) (on_q : IsOn e q) (on_r : IsOn e r)
   t_nonneg : pos 0 ≤ℤ t
   t_nonneg = mul-nonneg (p.x -ℤ u.x *ℤ p.d) q.d (omega linear) (let positive = q.positive in omega linear)
 
-  -- so the denominator is positive
+  -- the denominator is positive
   some : pos 0 <ℤ size
   some =
       let first = mul-pos s q.d s_positive q.positive in
@@ -121,7 +121,7 @@ module _ (e : Edge) (p q r : PlanePoint) (on_q : IsOn e q) (on_r : IsOn e r)
       ((((v ⊗ d ⊖ x) ⊗ b) ⊗ c) ⊗ u ⊕ (((x ⊖ u ⊗ d) ⊗ c) ⊗ b) ⊗ v) ⊗ d)
       tt p.x p.d u.x v.x q.d r.d
 
-  -- and how much lower it is than p tells the side of p
+  -- the difference of its height from p tells the side of p
   lower_by_side : (p.d *ℤ (q.d *ℤ r.d)) *ℤ side (record { a = u; b = v }) p ≡ p.y *ℤ size -ℤ weighed u.y v.y *ℤ p.d
   lower_by_side = solve 9
       (λ x y d ux uy vx vy c b. (d ⊗ (c ⊗ b)) ⊗ sideE ux uy vx vy x y d ≗
@@ -133,7 +133,7 @@ module _ (e : Edge) (p q r : PlanePoint) (on_q : IsOn e q) (on_r : IsOn e r)
   scale-positive : pos 0 <ℤ (p.d *ℤ (q.d *ℤ r.d))
   scale-positive = mul-pos p.d (q.d *ℤ r.d) p.positive (mul-pos q.d r.d q.positive r.positive)
 
-  -- so that point is in the column of the square round p
+  -- that point is in the column of the square round p
   between_in_column : IsInColumn p between
   between_in_column = record {
     from_left = at_left p.x p.d size (weighed u.x v.x) between.x p.positive on_vertical

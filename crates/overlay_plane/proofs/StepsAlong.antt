@@ -14,11 +14,11 @@ use Rattle.overlay_plane.proofs.JoinedLists.{total-append, times_taken}
 use Rattle.overlay_plane.proofs.LinksKept.{IsLong, IsBetweenGood, good_through}
 use Rattle.overlay_plane.proofs.Tests.{same_tests}
 
--- the sign of a step along the edge, and 0 of another one
+-- the sign of a step along the edge, and 0 for another step
 abbrev pub along : Edge → Step → ℤ
 along f s = cond (edge_eq (edge_of s) f) (sign_of s) (pos 0)
 
--- the same test in either order
+-- the test in either order
 pub edge_eq-either : (e f : Edge) → edge_eq e f ≡ edge_eq f e
 edge_eq-either e f = same_tests (edge_eq e f) (edge_eq f e)
     (λ t. (Decides-edge_eq f e).1 (sym ((Decides-edge_eq e f).0 t)))
@@ -32,7 +32,7 @@ turns_round s long = by (is_forward s) refl
     by true e = point_lt-order.one_way s.from s.to e
     by false e = point_lt-back s.from s.to long e
 
--- so it has the opposite sign along the same edge
+-- it has the opposite sign along that edge
 along_back : (f : Edge) (s : Step) → IsLong s → along f (reversed_step s) ≡ negsuc 0 *ℤ along f s
 along_back f s long = ap (λ t. cond (edge_eq (edge_by t (reversed_step s)) f) (cond t (pos 1) (negsuc 0)) (pos 0))
     (turns_round s long) ∙ by (is_forward s)

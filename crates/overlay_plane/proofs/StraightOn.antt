@@ -28,7 +28,7 @@ side-back u v w = solve 6 (λ ux uy vx vy wx wy. formE vx vy ux uy wx wy (number
     tt u.x u.y v.x v.y w.x w.y
 
 module _ (p : PlanePoint) where
-  -- what the step from u to v, if there is one, adds to the winding at p
+  -- the winding that the step from u to v, if there is one, adds at p
   abbrev pub part_between : Point → Point → ℤ
   part_between u v = total (winding_part p) (steps_between u v)
 

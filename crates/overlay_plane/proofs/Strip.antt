@@ -26,8 +26,9 @@ is_in_strip e x d x' d' v = int_lt x (v.x *ℤ d) && int_le (v.x *ℤ d') x' && 
 
 -- ---- tests alone
 
--- a and b are whether an edge starts, and ends, right of the first x-coordinate, a' and b' the same of the second; u
--- and u' are whether it is lower at the one, and the other, v and w whether its start, and end, is
+-- a and b tell whether an edge starts, and ends, right of the first x-coordinate, a' and b' whether right of the
+-- second. u and u' tell whether it is lower at the first, and at the second; v and w whether its start, and its end, is
+-- lower
 record Agrees (a b a' b' u u' v w : Bool) : Type 0 where
   start_kept : a' ≡ true → a ≡ true
   end_kept : b' ≡ true → b ≡ true
@@ -58,7 +59,7 @@ telescopes false false false false u u' v w h = refl
 
 -- ---- x-coordinates in order
 
--- what lies right of the later x-coordinate lies right of the earlier one
+-- a number right of the later x-coordinate is right of the earlier
 right_of_both : (v x d x' d' : ℤ) → pos 0 <ℤ d → pos 0 <ℤ d' → (x *ℤ d') ≤ℤ (x' *ℤ d) → x' <ℤ (v *ℤ d') → x <ℤ (v *ℤ d)
 right_of_both v x d x' d' positive positive' order right =
     let more = mul-lt d x' (v *ℤ d') positive right in
@@ -70,7 +71,7 @@ right_of_both v x d x' d' positive positive' order right =
     exchanged : (d v d' : ℤ) → d *ℤ (v *ℤ d') ≡ d' *ℤ (v *ℤ d)
     exchanged = solve 3 (λ d v d'. d ⊗ (v ⊗ d') ≗ d' ⊗ (v ⊗ d)) tt
 
--- what lies right of an x-coordinate stays so further right
+-- a number right of an x-coordinate is right of each further left
 right_further : (u v x d : ℤ) → pos 0 <ℤ d → u ≤ℤ v → x <ℤ (u *ℤ d) → x <ℤ (v *ℤ d)
 right_further u v x d positive order right =
     let more = mul-le d u v (omega linear) order in
@@ -102,7 +103,7 @@ inner_in_strip e v x d x' d' positive positive' over over' right not_right = rec
 
 -- ---- one edge
 
--- what telescopes says of f, seen from e between two x-coordinates
+-- the telescoping sum of f, seen from e between two x-coordinates
 abbrev AgreesAt : (e f : Edge) (x d x' d' : ℤ) → Type 0
 AgreesAt e f x d x' d' = Agrees (int_lt x (f.a.x *ℤ d)) (int_lt x (f.b.x *ℤ d)) (int_lt x' (f.a.x *ℤ d'))
     (int_lt x' (f.b.x *ℤ d')) (is_under f e x d)

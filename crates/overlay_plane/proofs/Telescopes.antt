@@ -50,7 +50,7 @@ signed_rise-is g s = by (point_lt s.from s.to)
     by true = omega (arith, ints)
     by false = omega (arith, ints)
 
--- and between two points, equal or not
+-- the rise between two points, equal or not
 signed_rise-between : (g : Point → ℤ) (u v : Point) → total (signed_rise g) (steps_between u v) ≡ g v -ℤ g u
 signed_rise-between g u v = by (point_eq u v) refl
   where
@@ -60,18 +60,18 @@ signed_rise-between g u v = by (point_eq u v) refl
     by false apart = +ℤ_idr (signed_rise g (record { from = u; to = v }))
         ∙ signed_rise-is g (record { from = u; to = v })
 
--- what is true holds of all
+-- a true fact holds of all
 everywhere : (vs : List Point) → All (λ (v : Point). ⊤) vs
 everywhere vs = λ k d within. tt
 
--- so along the steps of a chain to a last point
+-- the rises along the steps of a chain to a last point
 pub signed_rise-chain : (g : Point → ℤ) (u : Point) (vs : List Point) (w : Point) →
     total (signed_rise g) (steps_through u (vs ++ w ∷ [])) ≡ g w -ℤ g u
 signed_rise-chain g u vs w = rises_along (signed_rise g) g (λ v. ⊤) (λ x y here there. signed_rise-between g x y) u
     (vs ++ w ∷ []) tt (everywhere (vs ++ w ∷ []))
     ∙ ap (λ z. g z -ℤ g u) (last_from-append u vs w)
 
--- and round a closed list it is 0
+-- the rise round a closed list is 0
 pub signed_rise-around : (g : Point → ℤ) (ps : List Point) → total (signed_rise g) (steps_of ps) ≡ pos 0
 signed_rise-around g [] = refl
 signed_rise-around g (p ∷ ps) = signed_rise-chain g p ps p ∙ sym (nothing_left (g p))

@@ -3,7 +3,7 @@ use Rattle.std.proofs.Common.{◌≡◌, Bool, true, false, not, ℤ, ◌<ℤ◌
 use Rattle.std.specs.Bool.{Decides}
 use Rattle.std.proofs.lemmas.Int.{ints}
 
--- what the tests say
+-- the meaning of the tests
 pub lt_from_test : (a b : ℤ) → int_lt a b ≡ true → a <ℤ b
 lt_from_test a b e = omega (arith, ints)
 
@@ -19,19 +19,19 @@ le_from_test a b e = omega (arith, ints)
 pub gt_from_test : (a b : ℤ) → int_le a b ≡ false → b <ℤ a
 gt_from_test a b e = omega (arith, ints)
 
--- what is less passes the test for it
+-- a smaller number passes the test for less
 pub test_from_lt : (a b : ℤ) → a <ℤ b → int_lt a b ≡ true
 test_from_lt a b h = let e : true ≡ int_lt a b = omega (arith, ints) in sym e
 
--- what is at least fails the test for less
+-- a number at least another fails the test for less
 pub test_from_ge : (a b : ℤ) → b ≤ℤ a → int_lt a b ≡ false
 test_from_ge a b h = let e : false ≡ int_lt a b = omega (arith, ints) in sym e
 
--- what is at most passes the test for it
+-- a number at most another passes the test for at most
 pub test_from_le : (a b : ℤ) → a ≤ℤ b → int_le a b ≡ true
 test_from_le a b h = let e : true ≡ int_le a b = omega (arith, ints) in sym e
 
--- what is greater fails the test for at most
+-- a greater number fails the test for at most
 pub test_from_gt : (a b : ℤ) → b <ℤ a → int_le a b ≡ false
 test_from_gt a b h = let e : false ≡ int_le a b = omega (arith, ints) in sym e
 

@@ -1,5 +1,5 @@
 -- The cyclic order of rays round a point. Of three rays of different directions, a ray is met between the two others
--- where two of the three turns from each to the next are positive.
+-- exactly where two of the three turns from each to the next are positive.
 use Rattle.std.proofs.Common.{◌≡◌, ◌⊎◌, inl, inr, ⊎_elim, ℕ, Bool, true, false, ℤ, pos, ◌-ℤ◌, ◌*ℤ◌, neg_ℤ, ◌<ℤ◌, ◌≤ℤ◌}
 use Rattle.std.proofs.Common.{int_lt, refl, sym, ap₂, ◌∙◌}
 use Rattle.std.specs.Bool.{Decides}
@@ -42,7 +42,7 @@ two_positive_from x y z low h = ⊎_elim (λ xy. xy.1) (λ rest. ⊎_elim (λ yz
 -- ---- between, by the three turns
 
 module _ (hand : Hand) (v p m q : Point) (pm : Apart v p m) (mq : Apart v m q) (qp : Apart v q p) where
-  -- what is to be shown, and how a test that is known shows it
+  -- the claim, and its proof from a known test
   abbrev Claim : Type 0
   Claim = Decides (is_met_before hand v p m q) (TwoPositive (turn hand v p m) (turn hand v m q) (turn hand v q p))
 
@@ -128,7 +128,7 @@ module _ (hand : Hand) (v p m q : Point) (pm : Apart v p m) (mq : Apart v m q) (
       ))
       (λ w not_behind at_q. absurd (let behind = opposite hand v p q (apart_exchanged v q p qp) w in omega linear))
 
-  -- m is met between p and q where two of the turns from p to m, from m to q and from q to p are positive
+  -- m is met between p and q where two of the three turns are positive: from p to m, from m to q and from q to p
   pub between_decides : Decides (is_met_before hand v p m q)
       (TwoPositive (turn hand v p m) (turn hand v m q) (turn hand v q p))
   between_decides = by_part (turn hand v p m) (dot_at v p m) early straight late

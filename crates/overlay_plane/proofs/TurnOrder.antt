@@ -109,19 +109,19 @@ same_side t d t' d' same = by_part t d
       ahead = λ a b. k';
     }))
 
--- ---- what it is to come first
+-- ---- the meaning of coming first
 
--- what comes first lies in an earlier part, or in the same part with a turn on to the other point
+-- the first point lies in an earlier part, or in the same part with a turn on to the other point
 pub first_cases : (i j : ℕ) (t : ℤ) → comes_first i j t ≡ true → (i < j) ⊎ ((i ≡ j) × (pos 0 <ℤ t))
 first_cases i j t e = ⊎_elim (λ less. inl (ltb-true i j less))
     (λ rest. let both = and_parts (i == j) (int_lt (pos 0) t) rest in
     inr (eqb-true i j both.0, lt_from_test (pos 0) t both.1)) (or_cases (nat_lt i j) (i == j && int_lt (pos 0) t) e)
 
--- what lies in an earlier part comes first
+-- a point in an earlier part comes first
 pub first_by_part : (i j : ℕ) (t : ℤ) → i < j → comes_first i j t ≡ true
 first_by_part i j t h = or_left (nat_lt i j) (i == j && int_lt (pos 0) t) (lt-ltb i j h)
 
--- in one part, what has a turn on to the other comes first
+-- in one part, a point with a turn on to the other comes first
 pub first_by_turn : (i j : ℕ) (t : ℤ) → i ≡ j → pos 0 <ℤ t → comes_first i j t ≡ true
 first_by_turn i j t e h = or_right (nat_lt i j) (i == j && int_lt (pos 0) t)
     (and_from (i == j) (int_lt (pos 0) t) (eq-eqb i j e) (test_from_lt (pos 0) t h))
@@ -219,7 +219,7 @@ turns_on hand v u p q r long same_pq same_qr pq qr = by_sign (turn hand v u q) l
     level : turn hand v u q ≡ pos 0 → pos 0 <ℤ (turn hand v p r)
     level h = let none = no_turn hand v u p q long (to_p.level h) h in absurd (omega linear)
 
--- what is met before a point is met before whatever comes after that
+-- a point met before another is met before all points after that
 pub met_transitive : (hand : Hand) (v u p q r : Point) → ¬ (u ≡ v) → is_met_before hand v u p q ≡ true →
     is_met_before hand v u q r ≡ true → is_met_before hand v u p r ≡ true
 met_transitive hand v u p q r long pq qr = ⊎_elim

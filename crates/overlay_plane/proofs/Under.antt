@@ -12,13 +12,13 @@ use Rattle.overlay_plane.proofs.LineForms.{gap-same, gap_exchanged, gap_through}
 use Rattle.overlay_plane.proofs.Crossing.{IsShared, inner_spans, apart_inside, same_low}
 use Rattle.overlay_plane.proofs.Tests.{lt_from_test, le_from_test, test_from_lt, test_from_le, test_from_ge}
 
--- ---- what it is to cover an x-coordinate
+-- ---- the meaning of covering an x-coordinate
 
--- an edge starts at or before what it covers
+-- an edge starts at or before an x-coordinate that it covers
 pub covers_from : (e : Edge) (x d : ℤ) → covers e x d ≡ true → (e.a.x *ℤ d) ≤ℤ x
 covers_from e x d c = le_from_test (e.a.x *ℤ d) x (and_parts (int_le (e.a.x *ℤ d) x) (int_lt x (e.b.x *ℤ d)) c).0
 
--- and ends after it
+-- an edge ends after an x-coordinate that it covers
 pub covers_to : (e : Edge) (x d : ℤ) → covers e x d ≡ true → x <ℤ (e.b.x *ℤ d)
 covers_to e x d c = lt_from_test x (e.b.x *ℤ d) (and_parts (int_le (e.a.x *ℤ d) x) (int_lt x (e.b.x *ℤ d)) c).1
 
@@ -70,7 +70,7 @@ under_asymmetric f e x d t =
     let opposite = gap_exchanged f e (x +ℤ x +ℤ pos 1) (d +ℤ d) in
     test_from_ge (pos 0) (gap e f (x +ℤ x +ℤ pos 1) (d +ℤ d)) (omega linear)
 
--- what is under an edge that is under a third one is under that one
+-- the order under edges is transitive
 pub under_transitive : (f g h : Edge) (x d : ℤ) → pos 0 <ℤ d → covers f x d ≡ true → covers g x d ≡ true →
     covers h x d ≡ true →
     is_under f g x d ≡ true → is_under g h x d ≡ true → is_under f h x d ≡ true

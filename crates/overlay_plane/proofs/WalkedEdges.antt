@@ -130,7 +130,7 @@ module _ (walks : List (List Step)) (contours : All IsContour walks) (single : A
         (below_is e anchor f (of_anchor f other) ∙ and_from (covers f e.a.x (pos 1)) (is_under f e e.a.x (pos 1)) over
         under))
 
-    -- and so they are equal
+    -- the two are equal
     pub one_anchor : (e f : Edge) → IsAnchor w e → IsAnchor w f → e ≡ f
     one_anchor e f anchor other =
         let starts = anchors_start e f anchor other in

@@ -56,7 +56,7 @@ module _ (f : Point → Point → ℤ) where
       let to_z = along-last z zs z in
       omega linear
 
--- what adds up to given numbers between any two points adds up along a walk
+-- numbers that add up between any two points add up along a walk
 module _ (count : Step → ℤ) (f : Point → Point → ℤ) (between : (u v : Point) →
     total count (steps_between u v) ≡ f u v) where
   -- from u through the points
@@ -65,7 +65,7 @@ module _ (count : Step → ℤ) (f : Point → Point → ℤ) (between : (u v : 
   total-through u (v ∷ vs) = total-append count (steps_between u v) (steps_through v vs)
       ∙ ap₂ (λ a b. a +ℤ b) (between u v) (total-through v vs)
 
-  -- and round a closed list
+  -- they add up round a closed list
   pub total-around : (ps : List Point) → total count (steps_of ps) ≡ around f ps
   total-around [] = refl
   total-around (p ∷ ps) = total-through p (ps ++ p ∷ [])

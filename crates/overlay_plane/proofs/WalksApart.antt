@@ -60,7 +60,7 @@ module _ (holds : ℤ → ℤ → Bool) (subj clip : CountedEdge → ℤ) (es : 
   from_selected s c = Contains-permutation (all_steps walks) selected s
       (IsPermutation-sym selected (all_steps walks) walks_have_each_step) c
 
-  -- each walk is the first of what is left of them
+  -- each walk is the first of those left
   pub own_walk : (walk : List Step) → Contains walks walk → IsWalkOfCut es (outline_or_hole_hand filled) selected walk
   own_walk = walk_of_a_cut holds subj clip es filled cut.ruled walks cut.cut
 
@@ -84,13 +84,13 @@ module _ (holds : ℤ → ℤ → Bool) (subj clip : CountedEdge → ℤ) (es : 
   pub filled_above_distinct : AllPairs (λ e f. edge_eq e f ≡ false) (all_filled_above filled walks)
   filled_above_distinct = distinct_above filled walks all_edges_once
 
-  -- and they meet in ends alone
+  -- the edges meet in ends alone
   pub walks_settled : IsSettledBy edge_of (all_steps walks)
   walks_settled s t at_s at_t apart = edges_meet es cut.ruled.planar.settled (edge_of s) (edge_of t)
       (edge_of_step es selected (selected_along holds subj clip es filled cut.ruled) s (from_selected s at_s))
       (edge_of_step es selected (selected_along holds subj clip es filled cut.ruled) t (from_selected t at_t)) apart
 
-  -- so they have the selected steps, each once, and can be bound
+  -- the walks have the selected steps, each once, and can be bound
   pub have_selected : HaveSelected holds subj clip es filled walks
   have_selected = record {
     ruled = cut.ruled;

@@ -43,7 +43,7 @@ edge_forward holds subj clip es ruled g h =
     ap (λ f. point_lt f.a f.b) h.ends ∙ All-contains (λ e. point_lt e.a e.b ≡ true) es h.entry ruled.planar.forward
     h.among
 
--- and in a settled one two different such edges meet in ends alone
+-- in a settled list two different such edges meet in ends alone
 pub edges_meet : (es : List CountedEdge) → IsSettledBy ends_of es → (g h : Edge) → IsEdgeOf es g → IsEdgeOf es h →
     edge_eq g h ≡ false → MeetInEnds g h
 edges_meet es settled g h of_g of_h apart =

@@ -23,8 +23,8 @@ way_back of a b = solve 6 (λ p q k l a b.
     number (pos 0) ⊖ (((number (pos 0) ⊖ a) ⊗ p ⊕ a ⊗ q) ⊖ ((number (pos 0) ⊖ b) ⊗ k ⊕ b ⊗ l))) tt
     of.p of.q of.k of.l a b
 
--- y times the way leads from x times the weights m and n of a segment's ends no farther than to where one of the two is
--- 0, if y times the pace is no more than x times the room
+-- y times the way leads from x times the weights m and n of a segment's ends no farther than to where one of them is 0.
+-- This holds if y times the pace is at most x times the distance
 record Room (m n a : ℤ) : Type 0 where
   room : ℤ
   pace : ℤ

@@ -11,7 +11,7 @@ use Rattle.overlay_plane.proofs.StepTotals.{total-exchange}
 use Rattle.overlay_plane.proofs.Totals.{total-same, total-add}
 
 module _ (count : CountedEdge → ℤ) (old : List CountedEdge) where
-  -- what the links of the edges' chains add up to
+  -- the sum over the links of the edges' chains
   abbrev pub weighed : (CountedEdge → List ChainLink) → (ChainLink → ℤ) → ℤ
   weighed links w = total (λ e. count e *ℤ total w (links e)) old
 

@@ -14,7 +14,7 @@ use Rattle.overlay_plane.proofs.Crossing.{IsShared, no_crossing, apart_inside, s
 use Rattle.overlay_plane.proofs.Under.{covers_from, covers_to, covers_wide, shared_just_right, under_asymmetric}
 use Rattle.overlay_plane.proofs.Tests.{test_from_lt, test_from_le}
 
--- an edge spans what it covers
+-- an edge spans an x-coordinate that it covers
 pub covers_spans : (e : Edge) (x d : ℤ) → covers e x d ≡ true → Spans e x d
 covers_spans e x d c = record { from = covers_from e x d c; to = let less = covers_to e x d c in omega linear }
 
@@ -44,7 +44,7 @@ under_from_gap f e x d positive meet over_f over_e low = by_sign (gap f e (x +�
         (let there = gap_exchanged e f (x +ℤ x +ℤ pos 1) (d +ℤ d) in omega linear) (let here = gap_exchanged e f x d in
         omega linear)
 
--- what is strictly below the start of an edge is under the edge
+-- an edge strictly below the start of an edge is under that edge
 pub at_start_low : (f e : Edge) → MeetInEnds e f → pos 0 <ℤ width e → covers f e.a.x (pos 1) ≡ true →
     covers e e.a.x (pos 1) ≡ true →
     pos 0 <ℤ side f (in_plane e.a) → is_under f e e.a.x (pos 1) ≡ true
@@ -54,7 +54,7 @@ at_start_low f e meet wide over_f over_e left = under_from_gap f e e.a.x (pos 1)
     let opposite = gap_exchanged f e e.a.x (pos 1) in
     omega linear)
 
--- what is strictly above the start is not
+-- an edge strictly above the start is not under it
 pub at_start_high : (f e : Edge) → MeetInEnds e f → pos 0 <ℤ width e → covers f e.a.x (pos 1) ≡ true →
     covers e e.a.x (pos 1) ≡ true →
     side f (in_plane e.a) <ℤ pos 0 → is_under f e e.a.x (pos 1) ≡ false
@@ -64,7 +64,7 @@ at_start_high f e meet wide over_f over_e right = under_asymmetric e f e.a.x (po
     let start = gap-at_start e f in
     omega linear))
 
--- and what goes through the start starts there too
+-- an edge through the start starts there too
 pub at_start_level : (f e : Edge) → MeetInEnds e f → pos 0 <ℤ width e → covers f e.a.x (pos 1) ≡ true →
     covers e e.a.x (pos 1) ≡ true →
     side f (in_plane e.a) ≡ pos 0 → e.a ≡ f.a

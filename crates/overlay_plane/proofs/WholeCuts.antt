@@ -95,7 +95,7 @@ module _ (r : Round) (h : CutsWhole r) where
   is_cut_at : (e : CountedEdge) → Contains r.edges e → IsCutAt r.edges e (r.cuts e)
   is_cut_at e has = All-contains (λ e. IsCutAt r.edges e (r.cuts e)) r.edges e h.cut has
 
-  -- and leads from its smaller end to its larger
+  -- the edge leads from its smaller end to its larger
   pub goes_forward : (e : CountedEdge) → Contains r.edges e → IsBefore e.a e.b
   goes_forward e has = forward_from_test (ends_of e)
       (All-contains (λ e. point_lt e.a e.b ≡ true) r.edges e h.forward has)
@@ -107,12 +107,12 @@ module _ (r : Round) (h : CutsWhole r) where
       let at = h.whole e meets.0 p has meets.1 meets.3 in
       subst (λ v. IsAt v p) (sym (rounded_whole r.whole_at at.0 p h.rounding at.1)) at.1
 
-  -- so for each cut
+  -- this holds for each cut
   cut_whole : (e : CountedEdge) (p : PlanePoint) → Contains r.edges e → Contains (r.cuts e) p → IsAt (r.whole_at p) p
   cut_whole e p has has_p = meeting_whole e p has
       (All-contains (MeetsAnother r.edges e) (r.cuts e) p (is_cut_at e has).only has_p)
 
-  -- so the round moves no point
+  -- the round moves no point
   pub moves_none : MovesNone r
   moves_none = λ k d l. λ j c m. cut_whole (get_or r.edges k d) (get_or (r.cuts (get_or r.edges k d)) j c)
       (Contains-get_or r.edges k d l)
@@ -161,7 +161,7 @@ module _ (r : Round) (h : CutsWhole r) where
   cut_held e v has has_v = let meets = whole_cut_meets e v has has_v in
       held_of_on (ends_of e) v meets.0 (goes_forward e has) meets.2 meets.1.3.common.0
 
-  -- so does each stop
+  -- each stop is so too
   pub stop_held : (e : CountedEdge) (v : Point) → Contains r.edges e → Contains (stops r e) v → IsHeldBy (ends_of e) v
   stop_held e v has has_v =
       stop_cases e v has_v

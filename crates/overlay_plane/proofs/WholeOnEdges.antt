@@ -77,7 +77,7 @@ held_of_on e v p forward at on =
       to = up_to_of_over v e.b p.d p.positive (subst (λ w. IsUpTo w (over e.b p.d)) (sym (at_place v p at)) order.1);
     }
 
--- a point is no smaller than another one where that one is up to it
+-- a point is at least another point exactly where that is up to it
 Decides-not_lt : (p q : Point) → Decides (not (point_lt p q)) (IsUpTo q p)
 Decides-not_lt p q = Decides-like (not (point_lt p q)) forth back (Decides-not (point_lt p q) (Decides-point_lt p q))
   where

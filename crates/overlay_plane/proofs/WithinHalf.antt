@@ -11,7 +11,7 @@ use Rattle.overlay_plane.proofs.Mixtures.{mixture}
 
 -- ---- coordinates x / d, z / c and y / b
 
--- what is at most 1/2 below one number is so below the same number written over another denominator
+-- a number at most 1/2 below a number is so below it over another denominator
 below_elsewhere : (x d z c y b : ℤ) → pos 0 <ℤ c → pos 0 <ℤ b → z *ℤ b ≡ y *ℤ c →
     (pos 2 *ℤ (z *ℤ d -ℤ x *ℤ c)) ≤ℤ (d *ℤ c) →
     (pos 2 *ℤ (y *ℤ d -ℤ x *ℤ b)) ≤ℤ (d *ℤ b)
@@ -50,7 +50,7 @@ within_half_exchanged p q h =
       down = let le = h.up in omega linear;
     }
 
--- what is within half a unit of a point is so of each point at its place
+-- a point within half a unit of a point is so of each point at its place
 pub within_half_elsewhere : (p q r : PlanePoint) → SamePlace q r → AreWithinHalf p q → AreWithinHalf p r
 within_half_elsewhere p q r same h = record {
   right = above_elsewhere p.x p.d q.x q.d r.x r.d q.positive r.positive same.0 h.right;

@@ -64,8 +64,7 @@ contours_from filled n (w ∷ ws) =
 pub record IsCut (filled : Hand) (keeps : List Step → Bool) (selected : List Step)
     (contours : List Contour) : Type 0 where
   pub walks : List (List Step)
-  -- while steps are left, the next walk is the orbit of the one of them that is along the top edge at their leftmost
-  -- lowest point
+  -- while steps are left, the next walk is the orbit of the step along the top edge at their leftmost lowest point
   pub cut : IsCutInto (outline_or_hole_hand filled) selected walks
   pub are : contours ≡ contours_from filled 0 (filter keeps walks)
 

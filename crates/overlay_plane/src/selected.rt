@@ -2,8 +2,8 @@
 
 ghost use Rattle.overlay_plane.specs.SelectedSteps.{SelectedStepsAlternate, SelectedStepsOfEdges};
 
-/// Takes the steps along edges on exactly one side of which a rule holds, all with that side on the left or all on the
-/// right. They alternate round every node.
+/// Steps alternate round every node, if they run along the edges that have a rule on exactly one side, all with that
+/// side on the left or all on the right.
 pub fn selected_steps_alternate()
     ensures { SelectedStepsAlternate }
 {}

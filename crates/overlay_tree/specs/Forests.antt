@@ -61,7 +61,7 @@ pub record AreFewVisits (old new n d : ℕ) : Type 0 where
 
 module _ {I V : Type 0} (whole : I → ℤ) (post : List (IntPoint I) → Ordering → Type 0) (x : ℤ)
     (es : List (LiveEdge I V)) where
-  -- the live entries are the same, but for the node that was put in between those that pass and those that do not
+  -- live entries stay, and the node is put in between those that pass and those that do not
   pub record IsFound (new : List Links) (t : Tree) (put root free : Option NodeIndex) (v : Option V) : Type 0 where
     pub tree : Tree
     pub unused : List ℕ
@@ -77,7 +77,7 @@ module _ {I V : Type 0} (whole : I → ℤ) (post : List (IntPoint I) → Orderi
     pub dropped : ℕ
     pub count : length (items tree) + dropped ≡ length (items t) + length (items (alone put))
 
-  -- and the visits are few
+  -- `IsFound` holds, after few visits
   abbrev pub IsSettledSo : ℕ → ℕ → List Links → Tree → Option NodeIndex → Option NodeIndex → Option NodeIndex → Option
       V → Type 0
   IsSettledSo visits_before visits_after new t put root free v = (found : IsFound new t put root free v)

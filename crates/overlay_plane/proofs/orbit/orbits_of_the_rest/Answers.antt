@@ -1,4 +1,4 @@
--- An orbit of what closed parts leave is an orbit of the whole set.
+-- An orbit of the steps left by closed parts is an orbit of the whole set.
 use Rattle.overlay_plane.proofs.OrbitsApart.{orbits_of_the_rest}
 use Rattle.overlay_plane.proofs.orbit.orbits_of_the_rest.Goals as goal
 
