@@ -28,7 +28,8 @@ module _ {I : Type 0} (whole : I → ℤ) (limit : ℕ) (cs : List I) where
   no_fault_of_points are Ends fault = fault are.even
   no_fault_of_points are Range fault = fault.1 are.within
 
-  one_fault_of_points : (f g : Fault) → PointsHaveOwnFault whole limit cs f → PointsHaveOwnFault whole limit cs g → f ≡ g
+  one_fault_of_points : (f g : Fault) → PointsHaveOwnFault whole limit cs f → PointsHaveOwnFault whole limit cs g →
+      f ≡ g
   one_fault_of_points Memory g a b = absurd a
   one_fault_of_points Ends Memory a b = absurd b
   one_fault_of_points Ends Ends a b = refl
