@@ -1,8 +1,6 @@
 -- The ends of edges and the points of all their meetings are their hot points.
-use Rattle.std.proofs.Common.{◌≡◌, ◌⊎◌, ⊎_elim, inl, inr, List, [], ◌∷◌, ◌++◌, map, flat_map, Contains, sym, ap}
-use Rattle.std.proofs.Common.{◌∙◌, subst}
-use Rattle.std.proofs.lemmas.Grind.{flat_map-append}
-use Rattle.std.proofs.lemmas.List.{append_assoc}
+use Rattle.std.proofs.Common.{◌≡◌, ◌⊎◌, ⊎_elim, inl, inr, List, [], ◌∷◌, ◌++◌, map, flat_map, Contains, sym}
+use Rattle.std.proofs.Common.{subst}
 use Rattle.std.proofs.lemmas.List.Elements.{Contains-append_cases, Contains-append_left, Contains-append_right}
 use Rattle.overlay_geom.specs.Plane.{Point}
 use Rattle.overlay_geom.specs.Edges.{CountedEdge, ends_of}
@@ -15,36 +13,31 @@ use Rattle.overlay_arrange.specs.Cut.{IsEndOf}
 use Rattle.overlay_arrange.specs.HotPoints.{ArePointsAscending, AreHotPoints, HaveSameMembers}
 use Rattle.overlay_arrange.specs.Meetings.{AreMeetings, Meeting}
 
--- the ends of an edge
-abbrev pub both_ends : CountedEdge → List Point
-both_ends e = e.a ∷ e.b ∷ []
-
--- the ends of one edge more
-pub ends_pushed : (old vs : List Point) (es : List CountedEdge) (e : CountedEdge) → vs ≡ old ++ flat_map both_ends es →
-    (vs ++ e.a ∷ []) ++ e.b ∷ [] ≡ old ++ flat_map both_ends (es ++ e ∷ [])
-ends_pushed old vs es e is =
-    append_assoc vs (e.a ∷ []) (e.b ∷ [])
-    ∙ ap (λ us. us ++ both_ends e) is
-    ∙ append_assoc old (flat_map both_ends es) (both_ends e)
-    ∙ ap (λ us. old ++ us) (sym (flat_map-append both_ends es (e ∷ [])))
-
 module _ (es : List CountedEdge) (ms : List Meeting) (meetings : AreMeetings es ms) where
   -- the ends of the edges, and the points of the meetings
+  abbrev starts : List Point
+  starts = map (λ (e : CountedEdge). e.a) es
+
+  abbrev ends : List Point
+  ends = map (λ (e : CountedEdge). e.b) es
+
+  abbrev points : List Point
+  points = map (λ (m : Meeting). m.point) ms
+
   abbrev pub ends_and_met : List Point
-  ends_and_met = flat_map both_ends es ++ map (λ (m : Meeting). m.point) ms
+  ends_and_met = (starts ++ ends) ++ points
 
   -- the hot points that an edge adds
   abbrev added_by : CountedEdge → List Point
   added_by e = e.a ∷ e.b ∷ cut_points es e
 
-  end_there : (e : CountedEdge) (v : Point) → Contains es e → Contains (both_ends e) v → Contains ends_and_met v
-  end_there e v at_e at_v = Contains-append_left (flat_map both_ends es) (map (λ (m : Meeting). m.point) ms) v
-      (Contains-flat_map both_ends es e v at_e at_v)
-
-  an_end : (e : CountedEdge) (v : Point) → IsEndOf e v → Contains (both_ends e) v
-  an_end e v (inl is) = subst (Contains (both_ends e)) (sym is) (Contains-head e.a (e.b ∷ []))
-  an_end e v (inr is) = subst (Contains (both_ends e)) (sym is)
-      (Contains-later e.a (e.b ∷ []) e.b (Contains-head e.b []))
+  end_there : (e : CountedEdge) (v : Point) → Contains es e → IsEndOf e v → Contains ends_and_met v
+  end_there e v at_e (inl is) = subst (Contains ends_and_met) (sym is)
+      (Contains-append_left (starts ++ ends) points e.a
+      (Contains-append_left starts ends e.a (Contains-map (λ (e : CountedEdge). e.a) es e at_e)))
+  end_there e v at_e (inr is) = subst (Contains ends_and_met) (sym is)
+      (Contains-append_left (starts ++ ends) points e.b
+      (Contains-append_right starts ends e.b (Contains-map (λ (e : CountedEdge). e.b) es e at_e)))
 
   -- each hot point is there
   hot_there : (v : Point) → Contains (hot_points es) v → Contains ends_and_met v
@@ -56,33 +49,45 @@ module _ (es : List CountedEdge) (ms : List Meeting) (meetings : AreMeetings es 
       cut e at_e at_v =
           let met = Contains-from_flat_map (λ f. met_at (ends_of e) (ends_of f)) es v
           (Contains-in_order (comes_first (ends_of e)) (flat_map (λ f. met_at (ends_of e) (ends_of f)) es) v at_v) in
-          ⊎_elim (λ end. end_there e v at_e (an_end e v end))
-          (λ there. Contains-append_right (flat_map both_ends es) (map (λ (m : Meeting). m.point) ms) v
+          ⊎_elim (λ end. end_there e v at_e end)
+          (λ there. Contains-append_right (starts ++ ends) points v
           (Contains-map (λ (m : Meeting). m.point) ms (record { place = at_e.0; point = v }) there))
           (meetings.all at_e.0 met.1.0 e met.0 (at_e.1, at_e.2) (met.1.1, met.1.2) (inl at_e.1) v met.2)
 
       by : (e : CountedEdge) → Contains es e → (e.a ≡ v) ⊎ Contains (e.b ∷ cut_points es e) v →
           Contains ends_and_met v
-      by e at_e (inl is) = end_there e v at_e (an_end e v (inl (sym is)))
-      by e at_e (inr later) = ⊎_elim (λ is. end_there e v at_e (an_end e v (inr (sym is)))) (cut e at_e)
+      by e at_e (inl is) = end_there e v at_e (inl (sym is))
+      by e at_e (inr later) = ⊎_elim (λ is. end_there e v at_e (inr (sym is))) (cut e at_e)
           (Contains-cases e.b (cut_points es e) v later)
 
   -- the points there are hot
   there_hot : (v : Point) → Contains ends_and_met v → Contains (hot_points es) v
-  there_hot v at = ⊎_elim of_edge of_meeting
-      (Contains-append_cases (flat_map both_ends es) (map (λ (m : Meeting). m.point) ms) v at)
+  there_hot v at = ⊎_elim of_end of_meeting (Contains-append_cases (starts ++ ends) points v at)
     where
-      of_edge : Contains (flat_map both_ends es) v → Contains (hot_points es) v
-      of_edge end =
-          let of = Contains-from_flat_map both_ends es v end in
-          Contains-flat_map added_by es of.0 v of.1 (Contains-append_left (both_ends of.0) (cut_points es of.0) v of.2)
+      an_end : (e : CountedEdge) → Contains es e → Contains (e.a ∷ e.b ∷ []) v → Contains (hot_points es) v
+      an_end e at_e at_v = Contains-flat_map added_by es e v at_e
+          (Contains-append_left (e.a ∷ e.b ∷ []) (cut_points es e) v at_v)
 
-      of_meeting : Contains (map (λ (m : Meeting). m.point) ms) v → Contains (hot_points es) v
-      of_meeting met =
-          let m = Contains-from_map (λ (m : Meeting). m.point) ms v met in
+      of_start : Contains starts v → Contains (hot_points es) v
+      of_start start =
+          let of = Contains-from_map (λ (e : CountedEdge). e.a) es v start in
+          an_end of.0 of.1 (subst (Contains (of.0.a ∷ of.0.b ∷ [])) of.2 (Contains-head of.0.a (of.0.b ∷ [])))
+
+      of_last : Contains ends v → Contains (hot_points es) v
+      of_last end =
+          let of = Contains-from_map (λ (e : CountedEdge). e.b) es v end in
+          an_end of.0 of.1 (subst (Contains (of.0.a ∷ of.0.b ∷ [])) of.2
+          (Contains-later of.0.a (of.0.b ∷ []) of.0.b (Contains-head of.0.b [])))
+
+      of_end : Contains (starts ++ ends) v → Contains (hot_points es) v
+      of_end end = ⊎_elim of_start of_last (Contains-append_cases starts ends v end)
+
+      of_meeting : Contains points v → Contains (hot_points es) v
+      of_meeting at_met =
+          let m = Contains-from_map (λ (m : Meeting). m.point) ms v at_met in
           let led = meetings.led m.0 m.1 in
           Contains-flat_map added_by es led.0 v (m.0.place, led.1.0, led.1.1)
-          (Contains-append_right (both_ends led.0) (cut_points es led.0) v
+          (Contains-append_right (led.0.a ∷ led.0.b ∷ []) (cut_points es led.0) v
           (subst (Contains (cut_points es led.0)) m.2 led.2))
 
   -- a list with the same members that ascends holds the hot points

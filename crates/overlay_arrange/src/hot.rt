@@ -1,6 +1,6 @@
 //! The hot points of a list of edges: their ends, and the whole points nearest to their meeting points.
 
-ghost use Rattle.std.specs.Prelude.{◌≡◌, [], ◌∷◌, ◌++◌, map, flat_map, IfOk, OnOk, IsOkUnless};
+ghost use Rattle.std.specs.Prelude.{◌≡◌, ◌++◌, map, IfOk, OnOk, IsOkUnless};
 ghost use Rattle.overlay_geom.specs.Points.{plain_points};
 ghost use Rattle.overlay_arrange.specs.Content.{plain_edges};
 ghost use Rattle.overlay_arrange.specs.HotPoints.{AreHotPoints, ArePointsAscending, HaveSameMembers};
@@ -28,23 +28,39 @@ pub(crate) fn hot_points<I: IntNumber, C: EdgeCount, A: Allocator>(
     ensures err { IsOkUnless result OverlayError.Memory }
 {
     let mut points = Vec::new(alloc);
+    // (the smaller ends ascend, so the sort takes them as they stand)
+    push_starts(&mut points, edges)?;
     push_ends(&mut points, edges)?;
     push_points(&mut points, meetings)?;
     sort_points(&mut points)?;
     Ok(points)
 }
 
-/// Adds the ends of the edges.
+/// Adds the smaller ends of the edges.
+fn push_starts<I: IntNumber, C: EdgeCount, A: Allocator>(
+    points: &mut Vec<IntPoint<I>, A>,
+    edges: &[CountedEdge<I, C>],
+) -> Result<(), OverlayError>
+    ensures ok { OnOk result (plain_points I.whole points.new.items ≡ plain_points I.whole points.old.items
+        ++ map (λ e. e.a) (plain_edges I.whole C.counts edges.now)) }
+    ensures err { IsOkUnless result OverlayError.Memory }
+{
+    for i in 0..edges.len() {
+        points.push(edges[i].a)?;
+    }
+    Ok(())
+}
+
+/// Adds the larger ends of the edges.
 fn push_ends<I: IntNumber, C: EdgeCount, A: Allocator>(
     points: &mut Vec<IntPoint<I>, A>,
     edges: &[CountedEdge<I, C>],
 ) -> Result<(), OverlayError>
     ensures ok { OnOk result (plain_points I.whole points.new.items ≡ plain_points I.whole points.old.items
-        ++ flat_map (λ e. e.a ∷ e.b ∷ []) (plain_edges I.whole C.counts edges.now)) }
+        ++ map (λ e. e.b) (plain_edges I.whole C.counts edges.now)) }
     ensures err { IsOkUnless result OverlayError.Memory }
 {
     for i in 0..edges.len() {
-        points.push(edges[i].a)?;
         points.push(edges[i].b)?;
     }
     Ok(())

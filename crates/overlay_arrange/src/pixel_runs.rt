@@ -21,6 +21,9 @@ use overlay_geom::point::IntPoint;
 use overlay_geom::vector::cross_at;
 use std::alloc::Allocator;
 
+// First step, in places, of the search for a point that lies above an edge.
+const FIRST: usize = 8;
+
 /// Adds the places of the points of a strip, from `from` up to `to`, whose pixels the edge may meet. Their
 /// x-coordinates lie between `left` and `right`.
 pub(crate) fn push_run<I: IntNumber, C: EdgeCount, A: Allocator>(
@@ -148,7 +151,7 @@ fn place_above<I: IntNumber, C: EdgeCount>(
         (plain_extents I.whole strips.now) result to }
 {
     let mut low = from;
-    let mut high = to;
+    let mut high = place_over(strips, e, x, from, to);
     while low < high {
         let middle = low + (high - low) / 2;
         if passes_below(e, x, strips[middle].low) {
@@ -158,6 +161,37 @@ fn place_above<I: IntNumber, C: EdgeCount>(
         }
     }
     high
+}
+
+/// Returns a place as [`place_above`] does, near `from` if few points lie near the edge: each step is twice as long as
+/// the step before.
+fn place_over<I: IntNumber, C: EdgeCount>(
+    strips: &[Extent<I>],
+    e: &CountedEdge<I, C>,
+    x: I,
+    from: usize,
+    to: usize,
+) -> usize
+    requires one { IsHeld I.limit (plain_edge I.whole C.counts e.now) }
+    requires amid { IsAmidX (plain_edge I.whole C.counts e.now) (I.whole x) }
+    requires ordered { from ≤ to }
+    requires within { to ≤ length strips.now }
+    requires upwards { AreUpwards (plain_extents I.whole strips.now) from to }
+    ensures ordered { from ≤ result }
+    ensures within { result ≤ to }
+    ensures above { ArePassedBelow (plain_edge I.whole C.counts e.now) (I.whole x)
+        (plain_extents I.whole strips.now) result to }
+{
+    let mut at = from;
+    let mut step: usize = FIRST;
+    while at < to {
+        if passes_below(e, x, strips[at].low) {
+            return at;
+        }
+        at = at.saturating_add(step);
+        step = step.saturating_add(step);
+    }
+    to
 }
 
 /// Returns true only if the edge passes above the pixels of all points up to the height y, from x on in its rising

@@ -37,14 +37,17 @@ pub(crate) fn gather_snapped<I: IntNumber, C: EdgeCount, A: Allocator + Clone>(
     ensures order { IfOk result (λ meetings. AreByPlace (plain_meetings I.whole meetings.items)) }
     ensures err { IsOkUnless result OverlayError.Memory }
 {
-    let width = strip_width(length_of_spans(edges, hot));
+    // (a quarter as wide as strips of edges)
+    let width = strip_width(length_of_spans(edges, hot) / 16);
     let strips = points_by_strips(alloc.clone()?, hot, width)?;
     let mut near = Vec::new(alloc.clone()?);
+    let mut points = Vec::new(alloc.clone()?);
     let mut meetings = Vec::new(alloc);
     for i in 0..edges.len() {
         let e = &edges[i];
         find_ranks(&mut near, hot, width, &strips, e)?;
-        push_snapped(&mut meetings, i, e, hot, &near)?;
+        take_points(&mut points, hot, &near)?;
+        push_snapped(&mut meetings, i, e, &points)?;
     }
     Ok(meetings)
 }
@@ -121,24 +124,40 @@ fn count_up_to<I: IntNumber>(hot: &[IntPoint<I>], x: I) -> usize
     hot.partition_point(|v| v.x.compare(x).is_le())
 }
 
-/// Adds the points at the ranks whose pixels the edge at place i meets, as its meetings.
+/// Replaces the list by the points at the ranks. These lie far apart in memory, so one loop that only reads them lets
+/// the processor fetch several at once.
+fn take_points<I: IntNumber, A: Allocator>(
+    points: &mut Vec<IntPoint<I>, A>,
+    hot: &[IntPoint<I>],
+    ranks: &[usize],
+) -> Result<(), OverlayError>
+    requires { All (λ k. k < length hot.now) ranks.now }
+    ensures ok { OnOk result (plain_points I.whole points.new.items
+        ≡ points_at (plain_points I.whole hot.now) ranks.now) }
+    ensures err { IsOkUnless result OverlayError.Memory }
+{
+    points.clear();
+    for k in 0..ranks.len() {
+        let rank = ranks[k];
+        points.push(hot[rank])?;
+    }
+    Ok(())
+}
+
+/// Adds the points whose pixels the edge at place i meets, as its meetings.
 fn push_snapped<I: IntNumber, C: EdgeCount, A: Allocator>(
     meetings: &mut Vec<Meeting<I>, A>,
     i: usize,
     e: &CountedEdge<I, C>,
-    hot: &[IntPoint<I>],
-    ranks: &[usize],
+    points: &[IntPoint<I>],
 ) -> Result<(), OverlayError>
-    requires one { IsHeld I.limit (plain_edge I.whole C.counts e.now) }
-    requires within { All (λ k. k < length hot.now) ranks.now }
-    ensures ok { OnOk result (AddsMet i (plain_edge I.whole C.counts e.now)
-        (points_at (plain_points I.whole hot.now) ranks.now)
+    requires { IsHeld I.limit (plain_edge I.whole C.counts e.now) }
+    ensures ok { OnOk result (AddsMet i (plain_edge I.whole C.counts e.now) (plain_points I.whole points.now)
         (plain_meetings I.whole meetings.old.items) (plain_meetings I.whole meetings.new.items)) }
     ensures err { IsOkUnless result OverlayError.Memory }
 {
-    for k in 0..ranks.len() {
-        let rank = ranks[k];
-        push_where_met(meetings, i, e, hot[rank])?;
+    for k in 0..points.len() {
+        push_where_met(meetings, i, e, points[k])?;
     }
     Ok(())
 }

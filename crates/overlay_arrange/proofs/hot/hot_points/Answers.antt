@@ -1,11 +1,12 @@
 -- The ends of the edges and the points of the meetings are the hot points, which the sort keeps.
-use Rattle.std.proofs.Common.{◌≡◌, ◌++◌, List, map, flat_map, ap, ◌∙◌, subst}
+use Rattle.std.proofs.Common.{◌≡◌, ◌++◌, List, map, ap, ◌∙◌, subst}
 use Rattle.overlay_geom.specs.Plane.{Point}
+use Rattle.overlay_geom.specs.Edges.{CountedEdge}
 use Rattle.overlay_geom.specs.Points.{plain_points}
 use Rattle.overlay_arrange.specs.Content.{plain_edges}
 use Rattle.overlay_arrange.specs.HotPoints.{HaveSameMembers}
 use Rattle.overlay_arrange.specs.Meetings.{plain_meetings, Meeting}
-use Rattle.overlay_arrange.proofs.HotLists.{are_hot_points, both_ends, ends_and_met}
+use Rattle.overlay_arrange.proofs.HotLists.{are_hot_points, ends_and_met}
 use Rattle.overlay_arrange.proofs.hot.hot_points.Goals as goal
 
 pub returns-clause-ok : goal.returns-clause-ok
@@ -18,7 +19,9 @@ returns-clause-ok g c =
     c.in_ok-push_points.ensures.ok
     ∙ ap (λ (vs : List Point). vs ++ map (λ (m : Meeting). m.point) ms)
     (c.in_ok-push_ends.ensures.ok
-    ∙ ap (λ vs. plain_points whole vs ++ flat_map both_ends es) c.new-points.ensures.items) in
+    ∙ ap (λ (vs : List Point). vs ++ map (λ (e : CountedEdge). e.b) es)
+    (c.in_ok-push_starts.ensures.ok
+    ∙ ap (λ vs. plain_points whole vs ++ map (λ (e : CountedEdge). e.a) es) c.new-points.ensures.items)) in
     are_hot_points es ms c.requires sorted
     (subst (λ (us : List Point). HaveSameMembers us sorted) listed c.in_ok-sort_points.ensures.members)
     c.in_ok-sort_points.ensures.ascending

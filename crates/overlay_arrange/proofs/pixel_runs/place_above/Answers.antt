@@ -6,16 +6,15 @@ use Rattle.overlay_arrange.specs.Extents.{plain_extent, plain_extents}
 use Rattle.overlay_arrange.specs.PixelRuns.{PassesBelow}
 use Rattle.overlay_arrange.specs.declared.extents.Extent.{Extent as HeldExtent}
 use Rattle.overlay_arrange.proofs.GatheredMeetings.{placed_in_mapped}
-use Rattle.overlay_arrange.proofs.HeightRuns.{below_from, none_below}
+use Rattle.overlay_arrange.proofs.HeightRuns.{below_from}
 use Rattle.overlay_arrange.proofs.pixel_runs.place_above.Goals as goal
 
 pub loop-low-init : goal.loop-low-init
-loop-low-init g c = let ordered = c.requires.ordered in (
+loop-low-init g c = (
   omega arith,
-  omega (arith, ordered),
-  omega arith,
-  none_below (plain_edge g.I.IntNumber.whole g.C.EdgeCount.counts c.args.e.now) (g.I.IntNumber.whole c.args.x)
-      (plain_extents g.I.IntNumber.whole c.args.strips.now) c.args.from c.args.to,
+  c.place_over-high.ensures.ordered,
+  c.place_over-high.ensures.within,
+  c.place_over-high.ensures.above,
 )
 
 pub loop-low-preserved-then-passes_below : goal.loop-low-preserved-then-passes_below

@@ -1,6 +1,7 @@
 -- Each edge adds its points.
-use Rattle.std.proofs.Common.{◌<◌, Contains, length, sym, subst, arith}
+use Rattle.std.proofs.Common.{◌<◌, List, Contains, length, sym, ap, ◌∙◌, subst, arith}
 use Rattle.std.proofs.lemmas.List.{length-map}
+use Rattle.overlay_geom.specs.Plane.{Point}
 use Rattle.overlay_geom.specs.Points.{plain_point, plain_points}
 use Rattle.overlay_geom.proofs.Mapped.{All-mapped_at}
 use Rattle.overlay_plane.proofs.Entries.{all_of_entries}
@@ -24,13 +25,13 @@ find_ranks-requires-clause-strips g c =
     subst (λ ss. ArePointsByStrips vs c.strip_width-width.result (plain_extents whole ss))
     (sym c.deref.ensures.value) c.in_ok-strips.ensures.ok
 
-pub push_snapped-requires-clause-one : goal.push_snapped-requires-clause-one
-push_snapped-requires-clause-one g c =
+pub push_snapped-requires : goal.push_snapped-requires
+push_snapped-requires g c =
     All-mapped_at (IsHeld g.I.IntNumber.limit) (plain_edge g.I.IntNumber.whole g.C.EdgeCount.counts) c.args.edges.now
     c.loop-i.i c.index-edges-i.result c.loop-i-test.true c.index-edges-i.is c.requires.held
 
-pub push_snapped-requires-clause-within : goal.push_snapped-requires-clause-within
-push_snapped-requires-clause-within g c =
+pub take_points-requires : goal.take_points-requires
+take_points-requires g c =
     all_of_entries (λ k. k < length c.args.hot.now) c.deref-in-loop-i.result.now
     (λ k at. let l = length-map c.args.hot.now (plain_point g.I.IntNumber.whole) in
     let has = subst (λ ks. Contains ks k) c.deref-in-loop-i.ensures.value at in
@@ -48,9 +49,10 @@ loop-i-preserved g c =
     let near = c.find_ranks.new.near.items in
     let at_e = placed_in_mapped plain c.args.edges.now i c.index-edges-i.result c.loop-i-test.true
     c.index-edges-i.is in
-    let adds = subst (λ ks. AddsMet i e (points_at vs ks) (plain_meetings whole c.loop-i.meetings.items)
-    (plain_meetings whole c.push_snapped.new.meetings.items)) c.deref-in-loop-i.ensures.value
-    c.in_ok-push_snapped.ensures.ok in (
+    let adds = subst (λ (us : List Point). AddsMet i e us (plain_meetings whole c.loop-i.meetings.items)
+    (plain_meetings whole c.push_snapped.new.meetings.items))
+    (ap (plain_points whole) c.deref-in-loop-i-2.ensures.value ∙ c.in_ok-take_points.ensures.ok
+    ∙ ap (points_at vs) c.deref-in-loop-i.ensures.value) c.in_ok-push_snapped.ensures.ok in (
       one_snapped es vs i e at_e near c.in_ok-find_ranks.ensures.ok c.loop-i.invariant.0 adds,
       by_place_more es vs i e at_e near c.in_ok-find_ranks.ensures.ok c.loop-i.invariant.0 adds c.loop-i.invariant.1,
     )
