@@ -1,6 +1,7 @@
 //! The places of steps by where their edges start, and the first of them that is not taken.
 
 ghost use Rattle.std.specs.Prelude.{◌≡◌, ◌<◌, true, length, map, slice_index_or, All, IfOk, IsOkUnless};
+ghost use Rattle.std.specs.List.Sorted.{IsPermutation};
 ghost use Rattle.overlay_walk.specs.Places.{is_open, ArePassed, ArePlacesByStart};
 ghost use Rattle.overlay_walk.specs.Starts.{HaveEdges};
 ghost use Rattle.overlay_walk.specs.Steps.{plain_steps, IsLong};
@@ -10,11 +11,15 @@ use crate::by_start::{compare_starts, sort_by_start};
 use crate::filled_side::edge_along;
 use crate::numbered_edge::NumberedEdge;
 use crate::open_places::is_open;
-use crate::step::{Step, is_forward};
-use overlay_arrange::sort_runs::{bring_forward, order_neighbours};
+use crate::step::Step;
+use overlay_arrange::sort_numbers::order_by_numbers;
+use overlay_arrange::sort_runs::order_neighbours;
 use overlay_geom::error::OverlayError;
 use overlay_geom::number::IntNumber;
 use std::alloc::Allocator;
+
+// The most edges for each step up to which their numbers are counted.
+const MOST_EDGES_A_STEP: usize = 16;
 
 /// The places of the steps, by where their edges start: by the smaller ends, and those from one point
 /// from the top edge down. The only refusal is `Memory`.
@@ -27,17 +32,42 @@ pub fn places_by_start<I: IntNumber, A: Allocator + Clone>(
     ensures err { IsOkUnless result OverlayError.Memory }
 {
     let mut edges = edges_along(alloc.clone()?, steps)?;
-    bring_forward(&mut edges, |e| runs_forward(steps, e.number));
+    order_by_steps(&mut edges, steps)?;
     order_neighbours(&mut edges, |e, f| compare_starts(e, f));
     sort_by_start(&mut edges)?;
     numbers_of(alloc, &edges)
 }
 
-/// Returns whether the step at a place runs forward; there need not be one.
-fn runs_forward<I: IntNumber>(steps: &[Step<I>], place: usize) -> bool {
+/// Moves the edges of steps into the order of the edges from which the steps are made, unless these are many more. They
+/// stay the same. The only refusal is `Memory`.
+fn order_by_steps<I: IntNumber, A: Allocator + Clone>(
+    edges: &mut Vec<NumberedEdge<I>, A>,
+    steps: &[Step<I>],
+) -> Result<(), OverlayError>
+    ensures permutation { IsPermutation edges.old.items edges.new.items }
+    ensures err { IsOkUnless result OverlayError.Memory }
+{
+    let count = edge_count(steps);
+    if count / MOST_EDGES_A_STEP > steps.len() {
+        return Ok(());
+    }
+    order_by_numbers(edges, count, |e| edge_number(steps, e.number))
+}
+
+/// Returns how many edges there are at least in the list from which the steps are made.
+fn edge_count<I: IntNumber>(steps: &[Step<I>]) -> usize {
+    let mut count: usize = 0;
+    for step in steps {
+        count = count.max(step.edge.saturating_add(1));
+    }
+    count
+}
+
+/// Returns the number of the edge of the step at a place, or 0 where there is none.
+fn edge_number<I: IntNumber>(steps: &[Step<I>], place: usize) -> usize {
     match steps.get(place) {
-        Some(step) => is_forward(step),
-        None => false,
+        Some(step) => step.edge,
+        None => 0,
     }
 }
 
