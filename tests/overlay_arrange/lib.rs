@@ -6,6 +6,7 @@ mod data;
 mod edges;
 mod fills;
 mod graph;
+mod numbers;
 mod rounds;
 mod snapping;
 mod string_count;

@@ -14,6 +14,7 @@ use crate::count::EdgeCount;
 use crate::crossing::push_meetings;
 use crate::edge::CountedEdge;
 use crate::settle::meet_in_ends;
+use crate::sort_numbers::order_by_numbers;
 use crate::strips::Strips;
 use overlay_geom::error::OverlayError;
 use overlay_geom::number::IntNumber;
@@ -60,7 +61,7 @@ pub(crate) fn gather<I: IntNumber, C: EdgeCount, A: Allocator + Clone>(
         find_open(&mut near, edges, strips, changed, i)?;
         gather_from(&mut meetings, &mut is_open, edges, i, &near)?;
     }
-    sort_by_place(&mut meetings)?;
+    sort_by_place(&mut meetings, edges.len())?;
     Ok((meetings, is_open))
 }
 
@@ -110,14 +111,16 @@ fn mark_open<A: Allocator>(is_open: &mut Vec<bool, A>, i: usize, j: usize)
     is_open[j] = true;
 }
 
-/// Sorts the meetings by their places.
-fn sort_by_place<I: IntNumber, A: Allocator>(
+/// Sorts the meetings by their places. It is fast if these are below `count`.
+fn sort_by_place<I: IntNumber, A: Allocator + Clone>(
     meetings: &mut Vec<Meeting<I>, A>,
+    count: usize,
 ) -> Result<(), OverlayError>
     ensures permutation { IsPermutation meetings.old.items meetings.new.items }
     ensures order { OnOk result (AreByPlace (plain_meetings I.whole meetings.new.items)) }
     ensures err { IsOkUnless result OverlayError.Memory }
 {
+    order_by_numbers(meetings, count, |m| m.place)?;
     meetings.sort_by(|m, n| m.place.cmp(&n.place))?;
     Ok(())
 }

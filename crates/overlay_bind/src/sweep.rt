@@ -49,10 +49,13 @@ pub fn parents_by_sweep<I: IntNumber, A: Allocator + Clone, S: Scan<I, usize>>(
         (map (walk_of I.whole) contours.now) known.now v.items n) }
     ensures err { IsOkUnless result OverlayError.Memory }
 {
-    let edges = filled_above_edges(alloc.clone()?, contours, direction)?;
     let anchors = hole_anchors(alloc.clone()?, contours, known)?;
-    let mut parents = Vec::new(alloc);
+    let mut parents = Vec::new(alloc.clone()?);
     parents.resize(contours.len(), None)?;
+    if anchors.is_empty() {
+        return Ok(parents);
+    }
+    let edges = filled_above_edges(alloc, contours, direction)?;
     let mut from = 0;
     for hole in &anchors {
         from = insert_up_to(scan, &edges, from, hole.a.x)?;

@@ -1,6 +1,7 @@
 //! The places of steps by the starts of their edges, and the first of them that is not taken.
 
 ghost use Rattle.std.specs.Prelude.{◌≡◌, ◌<◌, true, length, map, slice_index_or, All, IfOk, IsOkUnless};
+ghost use Rattle.std.specs.List.Sorted.{IsPermutation};
 ghost use Rattle.overlay_walk.specs.Places.{is_open, ArePassed, ArePlacesByStart};
 ghost use Rattle.overlay_walk.specs.Starts.{HaveEdges};
 ghost use Rattle.overlay_walk.specs.Steps.{plain_steps, IsLong};
@@ -10,11 +11,15 @@ use crate::by_start::{compare_starts, sort_by_start};
 use crate::filled_side::edge_along;
 use crate::numbered_edge::NumberedEdge;
 use crate::open_places::is_open;
-use crate::step::{Step, is_forward};
-use overlay_arrange::sort_runs::{bring_forward, order_neighbours};
+use crate::step::Step;
+use overlay_arrange::sort_numbers::order_by_numbers;
+use overlay_arrange::sort_runs::order_neighbours;
 use overlay_geom::error::OverlayError;
 use overlay_geom::number::IntNumber;
 use std::alloc::Allocator;
+
+// Greatest number of edges for each step up to which their numbers are counted.
+const MOST_EDGES_A_STEP: usize = 16;
 
 /// Returns the places of the steps, sorted by the starts of their edges: by the smaller ends, and from one point by
 /// slope, highest first. The only refusal is `Memory`.
@@ -27,17 +32,42 @@ pub fn places_by_start<I: IntNumber, A: Allocator + Clone>(
     ensures err { IsOkUnless result OverlayError.Memory }
 {
     let mut edges = edges_along(alloc.clone()?, steps)?;
-    bring_forward(&mut edges, |e| runs_forward(steps, e.number));
+    order_by_steps(&mut edges, steps)?;
     order_neighbours(&mut edges, |e, f| compare_starts(e, f));
     sort_by_start(&mut edges)?;
     numbers_of(alloc, &edges)
 }
 
-/// Returns whether there is a step at the place and it runs forward.
-fn runs_forward<I: IntNumber>(steps: &[Step<I>], place: usize) -> bool {
+/// Sorts the edges of the steps by the numbers of their edges in the arrangement, unless the arrangement has many more
+/// edges than there are steps. The list stays a permutation of itself. The only refusal is `Memory`.
+fn order_by_steps<I: IntNumber, A: Allocator + Clone>(
+    edges: &mut Vec<NumberedEdge<I>, A>,
+    steps: &[Step<I>],
+) -> Result<(), OverlayError>
+    ensures permutation { IsPermutation edges.old.items edges.new.items }
+    ensures err { IsOkUnless result OverlayError.Memory }
+{
+    let count = edge_count(steps);
+    if count / MOST_EDGES_A_STEP > steps.len() {
+        return Ok(());
+    }
+    order_by_numbers(edges, count, |e| edge_number(steps, e.number))
+}
+
+/// Returns a lower bound on the number of edges in the arrangement: one more than the greatest number of a step's edge.
+fn edge_count<I: IntNumber>(steps: &[Step<I>]) -> usize {
+    let mut count: usize = 0;
+    for step in steps {
+        count = count.max(step.edge.saturating_add(1));
+    }
+    count
+}
+
+/// Returns the number of the edge of the step at a place, or 0 where there is none.
+fn edge_number<I: IntNumber>(steps: &[Step<I>], place: usize) -> usize {
     match steps.get(place) {
-        Some(step) => is_forward(step),
-        None => false,
+        Some(step) => step.edge,
+        None => 0,
     }
 }
 

@@ -4,7 +4,7 @@ use Rattle.std.proofs.Common.{ap}
 use Rattle.std.proofs.Common.{◌∙◌, subst, arith, rules}
 use Rattle.std.specs.List.{All, AllPairs}
 use Rattle.std.proofs.lemmas.List.{length-map, length-set}
-use Rattle.std.proofs.lemmas.List.Elements.{All-contains}
+use Rattle.std.proofs.lemmas.List.Elements.{All-contains, All-nil}
 use Rattle.std.proofs.lemmas.Option.{slice_get_within}
 use Rattle.overlay_geom.specs.Plane.{edge_eq}
 use Rattle.overlay_geom.specs.Settled.{IsSettledBy}
@@ -184,3 +184,21 @@ returns-clause-numbers g c =
     let past : length hs ≤ c.loop-hole.hole-index = rw length-map c.loop-hole-test.false in
     all_walks_numbered filled walks c.args.known.now hs holes c.loop-hole.parents.items c.loop-hole.hole-index past
     c.loop-hole.invariant.3
+
+-- no walk's shape is to be found
+pub returns-then-is_empty-clause-numbers : goal.returns-then-is_empty-clause-numbers
+returns-then-is_empty-clause-numbers g c =
+    let whole = g.I.IntNumber.whole in
+    let filled = filled_hand c.args.direction in
+    let walks = map (walk_of whole) c.args.contours.now in
+    let hs = numbered_entries whole c.in_ok-anchors.anchors.items in
+    let parents = c.resize.new.self.items in
+    let empty : length c.in_ok-anchors.anchors.items ≡ 0 = grind (
+      arith,
+      c.is_empty.ensures,
+      c.if-is_empty.true,
+      c.in_ok-anchors.anchors.ok.0,
+    ) in
+    let none : length c.in_ok-anchors.anchors.items ≤ 0 = omega (arith, empty) in
+    all_walks_numbered filled walks c.args.known.now hs c.in_ok-anchors.ensures.ok parents 0 (rw length-map none)
+    (All-nil (λ (k : Entry ℕ). HasShapeNumber filled walks c.args.known.now parents k.value))

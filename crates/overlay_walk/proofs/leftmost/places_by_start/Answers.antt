@@ -16,10 +16,10 @@ returns-clause-ok g c =
     let ss = plain_steps whole c.args.steps.now in
     let edges = c.in_ok-edges.edges.items in
     let sorted = c.sort_by_start.new.edges.items in
-    let forward = c.bring_forward.new.items.items in
+    let made = c.order_by_steps.new.edges.items in
     let near = c.order_neighbours.new.items.items in
-    let moved = IsPermutation-trans edges forward sorted c.bring_forward.ensures
-    (IsPermutation-trans forward near sorted c.order_neighbours.ensures c.in_ok-sort_by_start.ensures.permutation) in
+    let moved = IsPermutation-trans edges made sorted c.order_by_steps.ensures.permutation
+    (IsPermutation-trans made near sorted c.order_neighbours.ensures c.in_ok-sort_by_start.ensures.permutation) in
     let have = subst (λ n. HaveEdges ss n (numbered_entries whole edges))
     (sym (length-map c.args.steps.now (plain_step whole))) c.in_ok-edges.ensures.ok in
     let places = places_sorted ss (numbered_entries whole edges) (numbered_entries whole sorted) have
