@@ -14,6 +14,7 @@ pub mod LinesGoOn
 pub mod Multiples
 pub mod NoneUpward
 pub mod OnOneSide
+pub mod OneGrid
 pub mod OneSideOfLines
 pub mod PointsOnSteps
 pub mod StaysBeyond

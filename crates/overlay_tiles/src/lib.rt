@@ -3,6 +3,7 @@
 
 pub mod grid;
 pub mod lines;
+pub mod only_tiles;
 pub mod places;
 pub mod slice;
 pub mod span;

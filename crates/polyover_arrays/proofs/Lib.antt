@@ -1,4 +1,5 @@
 pub mod ComeBack
+pub mod OnePacking
 pub mod OneTest
 pub mod PointCounts
 pub mod WithinPoints

@@ -1,6 +1,9 @@
 -- What arrays hold is determined by them, and they by what they hold.
 use Rattle.std.specs.Prelude.{◌≡◌, ℕ, ◌%◌, ℤ, List, [], ◌∷◌, length, Result, MatchResult}
 use Rattle.std.specs.declared.ops.Range.{Range}
+use Rattle.overlay_geom.specs.Flat.{paths_in, shapes_in}
+use Rattle.overlay_geom.specs.FlatShapes.{AreShapesPacked}
+use Rattle.overlay_geom.specs.Packed.{IsPacked}
 use Rattle.overlay_geom.specs.declared.point.IntPoint.{IntPoint}
 use Rattle.polyover_arrays.specs.Arrays.{points_of, coordinates_of, ranges_from, ends_of}
 use Rattle.polyover_arrays.specs.Reading.{AreContours, ArePoints, HaveOwnFault, PointsHaveOwnFault}
@@ -40,3 +43,18 @@ abbrev pub OneTestOfPoints : {I : Type 0} → (I → ℤ) → ℕ → Type 0
 OneTestOfPoints {I = I} whole limit = (cs : List I) (first second : Result (Unit {0}) Fault) →
     MatchResult first (λ _. ArePoints whole limit cs) (PointsHaveOwnFault whole limit cs) →
     MatchResult second (λ _. ArePoints whole limit cs) (PointsHaveOwnFault whole limit cs) → first ≡ second
+
+-- ---- one packing
+
+-- paths that stand packed in two lists of points are the same in both only where these are one, and so are the ranges
+abbrev pub OnePacking : {I : Type 0} → (I → ℤ) → Type 0
+OnePacking {I = I} whole = (points others : List (IntPoint I)) (ranges more : List (Range ℕ)) →
+    IsPacked points ranges → IsPacked others more → paths_in whole points ranges ≡ paths_in whole others more →
+    (points ≡ others) × (ranges ≡ more)
+
+-- so are shapes
+abbrev pub OnePackingOfShapes : {I : Type 0} → (I → ℤ) → Type 0
+OnePackingOfShapes {I = I} whole = (points others : List (IntPoint I)) (contours more shapes rest : List (Range ℕ)) →
+    AreShapesPacked points contours shapes → AreShapesPacked others more rest →
+    shapes_in whole points contours shapes ≡ shapes_in whole others more rest →
+    (points ≡ others) × (contours ≡ more) × (shapes ≡ rest)

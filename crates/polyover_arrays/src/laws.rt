@@ -1,7 +1,7 @@
 //! Arrays and what they hold determine each other.
 
 ghost use Rattle.polyover_arrays.specs.Laws.{PointsComeBack, CoordinatesComeBack, EndsComeBack, RangesComeBack};
-ghost use Rattle.polyover_arrays.specs.Laws.{OneTest, OneTestOfPoints};
+ghost use Rattle.polyover_arrays.specs.Laws.{OneTest, OneTestOfPoints, OnePacking, OnePackingOfShapes};
 
 use overlay_geom::number::IntNumber;
 
@@ -21,4 +21,10 @@ pub fn ranges_come_back()
 pub fn one_test<I: IntNumber>()
     ensures contours { OneTest I.whole I.limit }
     ensures points { OneTestOfPoints I.whole I.limit }
+{}
+
+/// Points and ranges in which the same paths stand packed are equal, and so are those of shapes.
+pub fn one_packing<I: IntNumber>()
+    ensures paths { OnePacking I.whole }
+    ensures shapes { OnePackingOfShapes I.whole }
 {}
