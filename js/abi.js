@@ -84,7 +84,7 @@ class Held {
     if (bytes === 0) {
       return 0;
     }
-    const at = this.library.calls.take(BigInt(bytes));
+    const at = this.library.calls.malloc(BigInt(bytes));
     if (at === 0n) {
       throw new OutOfMemory();
     }
@@ -95,7 +95,7 @@ class Held {
   /** Gives all of it back. */
   giveAll() {
     for (const at of this.taken) {
-      this.library.calls.give(at);
+      this.library.calls.free(at);
     }
   }
 }
