@@ -66,8 +66,11 @@ function askLive() {
 
 // ---- what is opened
 
-/** Shows another drawing. */
-function show(/** @type {Partial<import("./state.js").Drawing>} */ drawing, looks = {}) {
+/** Shows another drawing: an example that has a name, or what is opened. */
+function show(/** @type {Partial<import("./state.js").Drawing>} */ drawing, looks = {}, name = "") {
+  const select = /** @type {HTMLSelectElement} */ (byId("example"));
+  select.value = name;
+  select.title = EXAMPLES.find((each) => each.name === name)?.says ?? "";
   keys.escape();
   Object.assign(state.looks, { nodes: false, sides: false, snapping: "after", step: 1, ...looks });
   state.step(drawing);
@@ -80,8 +83,8 @@ function showExample(/** @type {string} */ name) {
   const example = EXAMPLES.find((each) => each.name === name);
   if (!example) return;
   const { figures, asked } = drawingIn(example.text);
-  show({ figures, asked: { ...DEFAULTS, ...asked, solver: example.solver ?? "snapped" }, digits: 0 }, example.looks);
-  byId("example").title = example.says;
+  const solver = example.solver ?? "snapped";
+  show({ figures, asked: { ...DEFAULTS, ...asked, solver }, digits: 0 }, example.looks, name);
 }
 
 /** Shows what a file holds: a text of the program, or GeoJSON. */
@@ -184,7 +187,6 @@ state.on("drawing", () => {
 state.on("looks", askMore);
 if (!openLink()) {
   const { textContent: said, hidden } = byId("notice");
-  /** @type {HTMLSelectElement} */ (byId("example")).value = "picture";
   showExample("picture");
   if (!hidden) tell(said ?? "");
 }
