@@ -73,7 +73,7 @@ class Files(unittest.TestCase):
         self.assertEqual([each["geometry"]["type"] for each in answer["features"]], ["Polygon"])
         picture = ElementTree.fromstring(self.page.saved("svg"))
         words = [each.text for each in picture.iter() if each.tag.endswith("text")]
-        self.assertIn("run overlay Union NonZero ogc", words)
+        self.assertIn("run overlay Union NonZero ogc", " ".join(words))
         self.assertEqual(words[-5:], ["subject", "clip", "line", "answer", "point"])
 
     def test_bad_files_are_told(self):
