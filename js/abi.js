@@ -3,7 +3,8 @@
  * (include/polyover.h). All sizes and addresses have 64 bits, and are BigInts in the calls.
  */
 
-import { BadInput, NotResolved, NotSettled, OutOfMemory, PolyoverError, TooManyEdges } from "./errors.js";
+import { BadInput, LibraryMissing, NotResolved, NotSettled } from "./errors.js";
+import { OutOfMemory, PolyoverError, TooManyEdges } from "./errors.js";
 
 export const RULES = ["subject", "clip", "intersect", "union", "difference", "inverse_difference", "xor"];
 export const FILLS = ["evenodd", "nonzero", "positive", "negative"];
@@ -84,7 +85,7 @@ class Held {
     if (bytes === 0) {
       return 0;
     }
-    const at = this.library.calls.take(BigInt(bytes));
+    const at = this.library.calls.malloc(BigInt(bytes));
     if (at === 0n) {
       throw new OutOfMemory();
     }
@@ -95,7 +96,7 @@ class Held {
   /** Gives all of it back. */
   giveAll() {
     for (const at of this.taken) {
-      this.library.calls.give(at);
+      this.library.calls.free(at);
     }
   }
 }
@@ -127,9 +128,12 @@ class Row {
  * numbers, places in the lists above.
  */
 export class Library {
-  constructor(instance) {
-    this.calls = instance.exports;
-    this.memory = instance.exports.memory;
+  constructor({ exports }) {
+    if (typeof exports.polyover_free !== "function") {
+      throw new LibraryMissing("it is another module");
+    }
+    this.calls = exports;
+    this.memory = exports.memory;
   }
 
   /** What some work gives, which holds memory as long as it runs. */

@@ -26,3 +26,13 @@ export function unpacked(value) {
   }
   return value?.shapes?.packed ? { ...value, shapes: unpacked(value.shapes) } : value;
 }
+
+/** The buffers of the arrays in what was packed. */
+export function buffersIn(value) {
+  if (ArrayBuffer.isView(value)) {
+    return [value.buffer];
+  }
+  // (lists hold numbers, and no arrays)
+  const isParted = typeof value === "object" && value !== null && !Array.isArray(value);
+  return isParted ? (value.parts ?? Object.values(value)).flatMap(buffersIn) : [];
+}

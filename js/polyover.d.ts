@@ -8,16 +8,22 @@ export type Point<N extends Coordinate = number> = [x: N, y: N];
 export type Numbers = BigInt64Array | Int32Array | Float64Array;
 /** Counts of points or contours up to the end of each path or shape. */
 export type Ends = readonly number[] | Uint32Array | BigUint64Array | BigInt64Array | Int32Array;
-/** A geometry, a feature or a collection of GeoJSON. */
+/** A geometry, a feature or a collection of GeoJSON, as other packages have types of it too. */
 export interface GeoJSON {
   type: string;
-  [member: string]: unknown;
+  coordinates?: unknown;
+  geometries?: unknown;
+  geometry?: unknown;
+  features?: unknown;
+  properties?: unknown;
+  id?: unknown;
+  bbox?: unknown;
 }
-export interface MultiPolygon extends GeoJSON {
+export interface MultiPolygon {
   type: "MultiPolygon";
   coordinates: number[][][][];
 }
-export interface MultiLineString extends GeoJSON {
+export interface MultiLineString {
   type: "MultiLineString";
   coordinates: number[][][];
 }

@@ -17,12 +17,10 @@ export * from "./errors.js";
 export { Flat, FlatShapes } from "./flat.js";
 export { RemotePolyover } from "./remote.js";
 
-const BESIDE = "./polyover.wasm";
-
 /** The bytes of a file, where the system of files is there, or of what a URL answers. */
 async function bytesAt(url) {
   if (url.protocol === "file:" && typeof process !== "undefined" && process.versions?.node) {
-    const { readFile } = await import("node:fs/promises");
+    const { readFile } = await import(/* webpackIgnore: true */ "node:fs/promises");
     return readFile(url);
   }
   const answer = await fetch(url);
@@ -37,12 +35,8 @@ async function compiled(wasm) {
   if (wasm instanceof WebAssembly.Module) {
     return wasm;
   }
-  try {
-    const isBytes = wasm instanceof ArrayBuffer || ArrayBuffer.isView(wasm);
-    return await WebAssembly.compile(isBytes ? wasm : await bytesAt(new URL(wasm, import.meta.url)));
-  } catch (fault) {
-    throw new LibraryMissing(`the module of WebAssembly cannot be loaded: ${fault.message}`);
-  }
+  const isBytes = wasm instanceof ArrayBuffer || ArrayBuffer.isView(wasm);
+  return WebAssembly.compile(isBytes ? wasm : await bytesAt(new URL(wasm, import.meta.url)));
 }
 
 /**
@@ -51,7 +45,11 @@ async function compiled(wasm) {
  * `wasm` is where it is, its bytes, or a module that is compiled; if it is not given, the file beside this one. With
  * `worker` the calls run in a worker, and answer promises; `end()` ends it, and with it a call that runs.
  */
-export async function load({ wasm = BESIDE, worker = false } = {}) {
-  const module = await compiled(wasm);
-  return worker ? RemotePolyover.over(module) : new Polyover(await WebAssembly.instantiate(module, {}));
+export async function load({ wasm = new URL("./polyover.wasm", import.meta.url), worker = false } = {}) {
+  try {
+    const module = await compiled(wasm);
+    return worker ? await RemotePolyover.over(module) : new Polyover(await WebAssembly.instantiate(module, {}));
+  } catch (fault) {
+    throw new LibraryMissing(`the module of WebAssembly cannot be loaded: ${fault.message}`);
+  }
 }

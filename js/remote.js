@@ -5,13 +5,13 @@ import { packed, unpacked } from "./packing.js";
 
 const CALLS = ["overlay", "hierarchy", "simplify", "relate", "clip", "slice", "locate", "edges", "isResolved"];
 
-/** A worker of the browser, or one of Node with its ways. */
-async function workerAt(url) {
+/** A worker of the browser, or one of Node with its ways. (Bundlers take the address where it stands like this.) */
+async function newWorker() {
   if (typeof Worker !== "undefined") {
-    return new Worker(url, { type: "module" });
+    return new Worker(new URL("./worker.js", import.meta.url), { type: "module" });
   }
-  const { Worker: NodeWorker } = await import("node:worker_threads");
-  const worker = new NodeWorker(url);
+  const { Worker: NodeWorker } = await import(/* webpackIgnore: true */ "node:worker_threads");
+  const worker = new NodeWorker(new URL("./worker.js", import.meta.url));
   worker.on("message", (data) => worker.onmessage?.({ data }));
   worker.on("error", (fault) => worker.onerror?.(fault));
   return worker;
@@ -27,7 +27,8 @@ class Channel {
   constructor(worker) {
     this.#worker = worker;
     worker.onmessage = ({ data }) => this.#answered(data);
-    worker.onerror = (fault) => this.end(new PolyoverError(`the worker failed: ${fault.message}`));
+    // (a browser that finds no worker at the address says no more than that)
+    worker.onerror = ({ message = "it is not there" }) => this.end(new PolyoverError(`the worker failed: ${message}`));
   }
 
   ask(message) {
@@ -85,10 +86,15 @@ export class RemotePolyover {
     this.#grid = grid;
   }
 
-  /** The calls over a module of WebAssembly, in a worker that is made for it. */
+  /** The calls over a module of WebAssembly, in a worker that is made for it if none is given. */
   static async over(module, worker) {
-    const channel = new Channel(worker ?? (await workerAt(new URL("./worker.js", import.meta.url))));
-    await channel.ask({ module });
+    const channel = new Channel(worker ?? (await newWorker()));
+    try {
+      await channel.ask({ module });
+    } catch (fault) {
+      channel.end();
+      throw fault;
+    }
     return new RemotePolyover(channel);
   }
 

@@ -83,7 +83,10 @@ function faultBox(state, answer) {
 /** Shows the answer in words. */
 function showAnswer(state) {
   const { answer } = state;
-  if (!answer) return;
+  if (!answer) {
+    byId("answer").replaceChildren(element("p", { class: "quiet" }, "It is not asked for yet."));
+    return;
+  }
   const summary = byId("summary");
   if (answer.kind === "fault") {
     byId("answer").replaceChildren(faultBox(state, answer));

@@ -112,7 +112,7 @@ export function summaryOf(/** @type {Answer} */ answer, unit = 1) {
     }
     case "locations": {
       const count = (/** @type {string} */ name) => answer.locations?.filter((each) => each === name).length;
-      return ["inside", "boundary", "outside"].map((name) => `${count(name)} ${name}`).join(", ");
+      return `${count("inside")} inside, ${count("boundary")} on the boundary, ${count("outside")} outside`;
     }
     default:
       return answer.message ?? "no answer";

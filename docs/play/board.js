@@ -18,7 +18,6 @@ export class Board {
     /** What the hand is at: a path that is begun, where the pointer is, and what it would take. */
     this.hand = { begun: null, pointer: null, pixels: [0, 0], aim: null };
     this.isDue = false;
-    this.isFitDue = true;
     /** @type {number | undefined} device pixels in a pixel, once the board has a size */
     this.dense = undefined;
     this.colours = coloursOf(canvas);
@@ -26,27 +25,21 @@ export class Board {
     state.on("drawing answer looks hand piece", () => this.draw());
   }
 
-  /** Takes the size of the canvas as it is laid out. */
+  /** Takes the size of the canvas as it is laid out. What was shown whole stays so; else the middle stays. */
   resize() {
     const { width, height } = this.canvas.getBoundingClientRect();
-    const [oldWide, oldTall] = [this.view.paneWidth, this.view.height];
     this.view.width = Math.round(width);
     this.view.height = Math.round(height);
     this.view.isSplit = this.state.looks.beside;
     this.dense = window.devicePixelRatio || 1;
     this.canvas.width = Math.round(width * this.dense);
     this.canvas.height = Math.round(height * this.dense);
-    if (this.isFitDue && width > 0) this.fit();
-    else if (oldWide > 0 && oldTall > 0) {
-      const shrunk = Math.min(this.view.paneWidth / oldWide, this.view.height / oldTall);
-      if (shrunk < 1) this.view.scale *= shrunk;
-    }
+    if (this.view.isFit && width > 0) this.fit();
     this.paint();
   }
 
-  /** Shows the whole drawing, once the board has its size. */
+  /** Shows the whole drawing. */
   fit() {
-    this.isFitDue = this.dense === undefined;
     this.view.fit(boxOf(allPaths(this.state.figures)));
     this.draw();
   }

@@ -19,58 +19,39 @@
  * @property {boolean} boundary
  */
 
-const LOOK = ["valid", "clockwise", "keep", "minimumArea"];
+const FILLED = ["fill", "solver"];
+const LOOK = [...FILLED, "valid", "clockwise", "keep", "minimumArea"];
+
+/** @returns {Command} */
+const command = (
+  /** @type {Kind[]} */ takes,
+  /** @type {AnswerKind} */ answers,
+  /** @type {string[]} */ options,
+  /** @type {string} */ says,
+) => ({ takes, answers, options, says });
+
+const [REGIONS, LINES] = /** @type {Kind[][]} */ ([["subject", "clip"], ["subject", "line"]]);
 
 /** @type {Record<string, Command>} */
 export const COMMANDS = {
-  overlay: {
-    takes: ["subject", "clip"],
-    answers: "shapes",
-    says: "The shapes round the region where the rules hold.",
-    options: ["rule", "fill", "solver", ...LOOK],
-  },
-  hierarchy: {
-    takes: ["subject", "clip"],
-    answers: "shapes",
-    says: "The same shapes, and which of them lie in holes of which.",
-    options: ["rule", "fill", "solver", ...LOOK],
-  },
-  simplify: {
-    takes: ["subject"],
-    answers: "shapes",
-    says: "The shapes round what the subject fills; one simple contour stays as it is.",
-    options: ["fill", "solver", ...LOOK],
-  },
-  relate: {
-    takes: ["subject", "clip"],
-    answers: "relations",
-    says: "How subject and clip lie to each other.",
-    options: ["fill", "solver"],
-  },
-  clip: {
-    takes: ["subject", "line"],
-    answers: "paths",
-    says: "The parts of the lines inside the subject.",
-    options: ["fill", "solver", "invert", "boundary"],
-  },
-  slice: {
-    takes: ["subject", "line"],
-    answers: "shapes",
-    says: "The shapes into which the lines cut the subject.",
-    options: ["fill", "solver"],
-  },
-  locate: {
-    takes: ["subject", "point"],
-    answers: "locations",
-    says: "Where each point lies: inside, on the boundary or outside.",
-    options: [],
-  },
-  edges: {
-    takes: ["subject", "clip"],
-    answers: "edges",
-    says: "The edges of the arrangement, after snapping, and the sides that are filled.",
-    options: ["fill", "solver"],
-  },
+  overlay: command(REGIONS, "shapes", ["rule", ...LOOK], "The shapes round the region where the rules hold."),
+  hierarchy: command(REGIONS, "shapes", ["rule", ...LOOK], "The same shapes, and which of them lie in holes of which."),
+  simplify: command(
+    ["subject"],
+    "shapes",
+    LOOK,
+    "The shapes round what the subject fills; one simple contour stays as it is.",
+  ),
+  relate: command(REGIONS, "relations", FILLED, "How subject and clip lie to each other."),
+  clip: command(LINES, "paths", [...FILLED, "invert", "boundary"], "The parts of the lines inside the subject."),
+  slice: command(LINES, "shapes", FILLED, "The shapes into which the lines cut the subject."),
+  locate: command(["subject", "point"], "locations", [], "Where each point lies: inside, on the boundary or outside."),
+  edges: command(
+    REGIONS,
+    "edges",
+    FILLED,
+    "The edges of the arrangement, after snapping, and the sides that are filled.",
+  ),
 };
 
 /** The overlay rules: what each takes, and its words. */

@@ -1,7 +1,7 @@
 /** The controls: tools, what is asked for and what is shown. */
 
 import { COMMANDS, FILLS, RULES } from "./commands.js";
-import { LIVE_POINTS, noFigures, pointCount, scaleFigures } from "./drawing.js";
+import { noFigures, scaleFigures } from "./drawing.js";
 import { byId, fillSelect } from "./page.js";
 
 const CHECKS = ["valid", "clockwise", "keep", "invert", "boundary"];
@@ -94,6 +94,3 @@ function beginTools(state, board, keys) {
     /** @type {any} */ (byId("redo-step")).disabled = !state.history.future.length;
   });
 }
-
-/** Whether the answer follows each move: where there are not too many points. */
-export const isLive = (figures) => pointCount(figures) <= LIVE_POINTS;

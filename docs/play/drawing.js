@@ -28,6 +28,9 @@ export function pointCount(/** @type {Figures} */ figures) {
   return KINDS.reduce((sum, kind) => sum + figures[kind].reduce((count, path) => count + path.length, 0), 0);
 }
 
+/** Whether the answer follows each move: where there are not too many points. */
+export const isLive = (/** @type {Figures} */ figures) => pointCount(figures) <= LIVE_POINTS;
+
 /** A number as a whole coordinate in the range. */
 export const whole = (/** @type {number} */ value) => Math.max(-LIMIT, Math.min(LIMIT, Math.round(value))) + 0;
 

@@ -87,14 +87,20 @@ export class Engine {
   /** Starts a worker, which loads the library. */
   start() {
     const address = held?.worker ?? new URL("./worker.js", import.meta.url);
-    this.worker = new Worker(address, { type: "module" });
+    const worker = new Worker(address, { type: "module" });
+    this.worker = worker;
     this.isReady = false;
-    this.worker.onmessage = ({ data }) => (data === "ready" ? this.begin() : this.receive(data));
-    this.worker.onerror = (event) => {
-      event.preventDefault();
-      this.receive({ kind: "fault", name: "Missing", message: MISSING, time: 0 });
+    worker.onmessage = ({ data }) => {
+      // (an answer of a worker that was ended is passed over)
+      if (worker !== this.worker) return;
+      if (data === "ready") this.begin();
+      else this.receive(data);
     };
-    this.worker.postMessage({ library: held ? bytesOf(held.library) : null });
+    worker.onerror = (event) => {
+      event.preventDefault();
+      if (worker === this.worker) this.receive({ kind: "fault", name: "Missing", message: MISSING, time: 0 });
+    };
+    worker.postMessage({ library: held ? bytesOf(held.library) : null });
   }
 
   /** Counts the time of an answer from now on: the library is loaded. */

@@ -41,19 +41,21 @@ export class History {
 
   /** Goes back by a step. Returns whether there was one. */
   undo() {
-    this.settle();
-    if (!this.past.length) return false;
-    this.future.push(this.present);
-    this.present = /** @type {T} */ (this.past.pop());
-    return true;
+    return this.#go("past", "future");
   }
 
   /** Makes the step again that was undone last. Returns whether there was one. */
   redo() {
+    return this.#go("future", "past");
+  }
+
+  /** Takes what is there from the end of a list, and puts what was there on the other. */
+  #go(/** @type {"past" | "future"} */ from, /** @type {"past" | "future"} */ to) {
     this.settle();
-    if (!this.future.length) return false;
-    this.past.push(this.present);
-    this.present = /** @type {T} */ (this.future.pop());
+    const next = this[from].pop();
+    if (next === undefined) return false;
+    this[to].push(this.present);
+    this.present = next;
     return true;
   }
 }

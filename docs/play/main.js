@@ -4,8 +4,8 @@ import { beginAnswers } from "./answer_panel.js";
 import { Board } from "./board.js";
 import { beginCalls } from "./call_panel.js";
 import { DEFAULTS } from "./commands.js";
-import { beginControls, isLive } from "./controls.js";
-import { LIVE_POINTS, pointCount } from "./drawing.js";
+import { beginControls } from "./controls.js";
+import { LIVE_POINTS, isLive, pointCount } from "./drawing.js";
 import { Engine } from "./engine.js";
 import { EXAMPLES } from "./examples.js";
 import { copy, isGeojson, save } from "./files.js";
@@ -24,23 +24,41 @@ const canvas = /** @type {HTMLCanvasElement} */ (byId("board"));
 const board = new Board(canvas, state);
 const keys = new Keys(new Hand(board));
 const engine = new Engine((answer) => {
+  // (where the answer does not follow each move, none stands there that is of another drawing)
+  if (answer.drawing === state.drawing || isLive(state.figures)) take(answer);
+});
+
+/** Shows an answer, or none. */
+function take(/** @type {import("./answers.js").Answer | null} */ answer) {
   state.answer = answer;
   state.piece = null;
   state.tell("answer");
   state.tell("piece");
-});
+}
 
 // ---- asking
 
+/** What was asked last: a drawing, and whether with the edges of its arrangement. */
+let asked = { drawing: /** @type {import("./state.js").Drawing | null} */ (null), isArranged: false };
+
 /** Asks the library for the answer to what is drawn. */
 function ask() {
-  const { looks } = state;
-  engine.ask(state.drawing, looks.nodes || looks.sides);
+  const { drawing, looks } = state;
+  asked = { drawing, isArranged: looks.nodes || looks.sides };
+  engine.ask(drawing, asked.isArranged);
 }
 
-/** The same, where the answer follows each move; else a button stands there. */
+/** Asks again where more is to be shown than was asked for. */
+function askMore() {
+  const { nodes, sides } = state.looks;
+  if (asked.drawing === state.drawing && !asked.isArranged && (nodes || sides)) ask();
+}
+
+/** Asks for the answer to what is new in the drawing, where it follows each move; else a button stands there. */
 function askLive() {
+  if (asked.drawing === state.drawing) return;
   if (isLive(state.figures)) return ask();
+  take(null);
   const count = pointCount(state.figures).toLocaleString("en");
   const said = `${count} points: beyond ${LIVE_POINTS.toLocaleString("en")} the answer comes when it is asked for. `;
   byId("summary").replaceChildren(said, element("button", { type: "button", id: "ask-now", onclick: ask }, "Answer"));
@@ -48,8 +66,11 @@ function askLive() {
 
 // ---- what is opened
 
-/** Shows another drawing. */
-function show(/** @type {Partial<import("./state.js").Drawing>} */ drawing, looks = {}) {
+/** Shows another drawing: an example that has a name, or what is opened. */
+function show(/** @type {Partial<import("./state.js").Drawing>} */ drawing, looks = {}, name = "") {
+  const select = /** @type {HTMLSelectElement} */ (byId("example"));
+  select.value = name;
+  select.title = EXAMPLES.find((each) => each.name === name)?.says ?? "";
   keys.escape();
   Object.assign(state.looks, { nodes: false, sides: false, snapping: "after", step: 1, ...looks });
   state.step(drawing);
@@ -62,8 +83,8 @@ function showExample(/** @type {string} */ name) {
   const example = EXAMPLES.find((each) => each.name === name);
   if (!example) return;
   const { figures, asked } = drawingIn(example.text);
-  show({ figures, asked: { ...DEFAULTS, ...asked, solver: example.solver ?? "snapped" }, digits: 0 }, example.looks);
-  byId("example").title = example.says;
+  const solver = example.solver ?? "snapped";
+  show({ figures, asked: { ...DEFAULTS, ...asked, solver }, digits: 0 }, example.looks, name);
 }
 
 /** Shows what a file holds: a text of the program, or GeoJSON. */
@@ -163,10 +184,9 @@ state.on("drawing", () => {
   byId("notice").hidden = true;
   askLive();
 });
-state.on("looks", ask);
+state.on("looks", askMore);
 if (!openLink()) {
   const { textContent: said, hidden } = byId("notice");
-  /** @type {HTMLSelectElement} */ (byId("example")).value = "picture";
   showExample("picture");
   if (!hidden) tell(said ?? "");
 }

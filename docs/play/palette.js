@@ -1,6 +1,6 @@
 /**
- * The colours of the page's theme, which `theme.css` states, by the names of the marks. In the light theme they are
- * those of the pictures of `python3 -m polyover svg`.
+ * The colours of the page's theme, which `theme.css` and `dark.css` state, by the names of the marks. In the light
+ * theme they are those of the pictures of `python3 -m polyover svg`.
  */
 
 const NAMES = [
@@ -39,6 +39,6 @@ export const PRINTED = {
   boundary: "#c9a227",
   outside: "#b03a3a",
   edge: "#444444",
-  before: "#b0306a",
+  before: "#c02d78",
   node: "#111111",
 };

@@ -38,8 +38,6 @@ export class State {
     this.looks = { beside: false, nodes: false, sides: false, snapping: "after", step: 1 };
     /** @type {import("./answers.js").Answer | null} */
     this.answer = null;
-    /** @type {boolean} the answer is older than the drawing */
-    this.isStale = false;
     /** @type {Map<string, Set<() => void>>} */
     this.listeners = new Map();
   }

@@ -9,6 +9,8 @@ import { gridStep, multiples } from "./view.js";
 
 const LEGEND = 190;
 const TICK = 5;
+/** How many letters of the title stand in a line. */
+const TITLE = 26;
 
 const rounded = (/** @type {number} */ value) => Math.round(value * 100) / 100;
 const escaped = (/** @type {string} */ text) =>
@@ -70,11 +72,23 @@ function gridOf(view) {
   return `<g stroke="#dddddd" stroke-width="1" fill="#666666">${[...uprights, ...levels].join("")}</g>`;
 }
 
+/** The words of a text in lines that stand beside the picture. */
+function wrapped(/** @type {string} */ text) {
+  return text.split(" ").reduce((lines, word) => {
+    const last = lines.at(-1);
+    if (last !== undefined && last.length + word.length < TITLE) return [...lines.slice(0, -1), `${last} ${word}`];
+    return [...lines, word];
+  }, /** @type {string[]} */ ([]));
+}
+
 /** The title, and what each colour stands for. */
 function legend(view, title, marks) {
   const x = view.paneWidth + 12;
+  const titles = wrapped(title).map(
+    (line, at) => `<text x="${x}" y="${46 + 14 * at}" font-weight="bold">${escaped(line)}</text>`,
+  );
   const lines = legendOf(marks).map(([name, kind], at) => {
-    const y = 46 + 20 * (at + 1);
+    const y = 46 + 14 * (titles.length - 1) + 20 * (at + 1);
     const colour = PRINTED[name];
     const sign = {
       area:
@@ -85,7 +99,7 @@ function legend(view, title, marks) {
     }[kind];
     return `${sign}<text x="${x + 22}" y="${y}">${name}</text>`;
   });
-  return [`<text x="${x}" y="46" font-weight="bold">${escaped(title)}</text>`, ...lines].join("\n");
+  return [...titles, ...lines].join("\n");
 }
 
 /** The text of a picture of some marks. */

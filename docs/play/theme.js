@@ -1,7 +1,11 @@
 /** The light and the dark theme: that of the system, or the one that is chosen, which is kept. */
 
+import { byId } from "./page.js";
+
 const KEY = "polyover-theme";
-const dark = window.matchMedia("(prefers-color-scheme: dark)");
+/** The styles of the dark theme; `media` says where they are shown, and in `index.html` that is where the system is. */
+const dark = /** @type {HTMLLinkElement} */ (byId("dark"));
+const system = window.matchMedia(dark.media);
 
 /** What was chosen, or null. Where nothing may be kept, nothing was. */
 function kept() {
@@ -13,19 +17,24 @@ function kept() {
 }
 
 /** The theme that is shown: "light" or "dark". */
-export const themeNow = () => document.documentElement.dataset.theme ?? (dark.matches ? "dark" : "light");
+export const themeNow = () => (window.matchMedia(dark.media).matches ? "dark" : "light");
+
+/** Shows a theme, whatever that of the system is. */
+function show(/** @type {string | null} */ theme) {
+  if (theme === "dark") dark.media = "all";
+  if (theme === "light") dark.media = "not all";
+}
 
 /** Shows the theme that was chosen before, and calls `changed` after each change. */
 export function beginTheme(/** @type {() => void} */ changed) {
-  const chosen = kept();
-  if (chosen === "light" || chosen === "dark") document.documentElement.dataset.theme = chosen;
-  dark.addEventListener("change", changed);
+  show(kept());
+  system.addEventListener("change", changed);
 }
 
 /** Shows the other theme. */
 export function switchTheme() {
   const next = themeNow() === "dark" ? "light" : "dark";
-  document.documentElement.dataset.theme = next;
+  show(next);
   try {
     localStorage.setItem(KEY, next);
   } catch {

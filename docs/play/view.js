@@ -15,6 +15,8 @@ export class View {
     this.width = 300;
     this.height = 300;
     this.isSplit = false;
+    /** Whether it shows a box whole, as `fit` left it. */
+    this.isFit = false;
   }
 
   /** How wide a pane is: the board, or half of it. */
@@ -40,12 +42,14 @@ export class View {
 
   /** Moves what is seen by some pixels. */
   pan(/** @type {number} */ left, /** @type {number} */ top) {
+    this.isFit = false;
     this.x -= left / this.scale;
     this.y += top / this.scale;
   }
 
   /** Makes what is seen larger by a factor; the point at some pixels stays there. */
   zoom(/** @type {number} */ factor, left = this.paneWidth / 2, top = this.height / 2) {
+    this.isFit = false;
     const [x, y] = this.toPoint(left, top);
     this.scale = Math.max(LEAST, Math.min(MOST, this.scale * factor));
     const [u, v] = this.toPoint(left, top);
@@ -53,9 +57,10 @@ export class View {
     this.y += y - v;
   }
 
-  /** Shows a box whole, with a margin in pixels. */
-  fit(/** @type {[number, number, number, number] | null} */ box, margin = 44) {
+  /** Shows a box whole, with a margin, which is less in a small pane. */
+  fit(/** @type {[number, number, number, number] | null} */ box) {
     const [left, low, right, high] = box ?? [-5, -5, 5, 5];
+    const margin = Math.min(44, this.paneWidth / 9);
     // (the buttons stand beside it)
     const wide = Math.max(this.paneWidth - 3 * margin, 40);
     const tall = Math.max(this.height - 2 * margin, 40);
@@ -63,6 +68,7 @@ export class View {
     this.scale = Math.max(LEAST, Math.min(MOST / 4, scale));
     this.x = (left + right) / 2;
     this.y = (low + high) / 2;
+    this.isFit = true;
   }
 }
 

@@ -1,19 +1,13 @@
-/** Forms of what is given and answered: arrays, GeoJSON, floats by a scale; and the calls in a worker. */
+/** Forms of what is given and answered: arrays, GeoJSON, floats by a scale. */
 
 import assert from "node:assert/strict";
 import { readFileSync } from "node:fs";
 import test from "node:test";
-import { BadInput, Flat, FlatShapes, LOCATIONS, NotResolved, WorkerEnded } from "../polyover.js";
-import { load, multiLineString, multiPolygon } from "../polyover.js";
-import { doubleArea, polyover, rows } from "./there.js";
+import { Flat, FlatShapes, LOCATIONS, multiLineString, multiPolygon } from "../polyover.js";
+import { doubleArea, flat, polyover, rows } from "./there.js";
 
 const { SQUARE, OTHER, HALL, WALLS, NESTED } = rows;
 const KINDS = [BigInt64Array, Int32Array, Float64Array];
-
-/** A square in an array of a kind. */
-function flat(kind, points = SQUARE) {
-  return new Flat(kind.from(points.flat(), kind === BigInt64Array ? BigInt : Number), [points.length]);
-}
 
 /** A polygon of GeoJSON of rings that are not closed. */
 function polygon(...rings) {
@@ -157,29 +151,4 @@ test("floats by a scale", () => {
   assert.deepEqual(tenths.locate([half], [[0.3, 0.1], [0.5, 0.2], [1, 1]]), ["inside", "boundary", "outside"]);
   assert.equal(tenths.relate([half], [[[0.5, 0], [1, 0], [1, 1]]]).touches, true);
   assert.equal(tenths.isResolved([half]), true);
-});
-
-test("the calls in a worker", async () => {
-  const remote = await load({ worker: true });
-  const expected = polyover.overlay([SQUARE], [OTHER], { rule: "xor" });
-  const both = await Promise.all([
-    remote.overlay([SQUARE], [OTHER], { rule: "xor" }),
-    remote.relate([SQUARE], [OTHER]),
-    remote.scaled(10).simplify([[[0, 0], [0.5, 0], [0.5, 0.5]]]),
-    remote.hierarchy(flat(Int32Array)),
-  ]);
-  assert.deepEqual(both[0], expected);
-  assert.equal(both[1].interiorsIntersect, true);
-  assert.deepEqual(both[2], [[[[0, 0], [0.5, 0], [0.5, 0.5]]]]);
-  assert.ok(both[3].shapes instanceof FlatShapes && both[3].links instanceof Uint32Array);
-  await assert.rejects(remote.overlay(3), (fault) => fault instanceof BadInput && fault.name === "BadInput");
-  await assert.rejects(remote.scaled(0).overlay([]), BadInput);
-  await assert.rejects(remote.overlay(() => 0), BadInput);
-  const crossed = [[0, 0], [4, 4], [4, 0], [0, 4]];
-  const located = remote.locate([crossed], [[1, 1]]);
-  await assert.rejects(located, (fault) => fault instanceof NotResolved && fault.contour === 0);
-  const waiting = remote.overlay([SQUARE]);
-  remote.end();
-  await assert.rejects(waiting, WorkerEnded);
-  await assert.rejects(remote.overlay([SQUARE]), WorkerEnded);
 });

@@ -2,7 +2,8 @@
 """Overlays many squares by the library for C, through Python's module: many.py FILE RULE.
 
 FILE holds int64 in a row: the counts of subject contours and of clip contours, and the coordinates of all, four points
-each. It is overwritten with the answer: milliseconds, the counts of coordinates, contours and shapes, and these arrays.
+each. It is overwritten with the answer: milliseconds of processors, the less of two calls, the counts of coordinates,
+contours and shapes, and these arrays.
 """
 
 from __future__ import annotations
@@ -27,9 +28,11 @@ def main() -> None:
     numbers = array("q", file.read_bytes())
     (subjects, _), coordinates = numbers[:2], numbers[2:]
     subject, clip = group(coordinates[: 8 * subjects]), group(coordinates[8 * subjects :])
-    begun = time.perf_counter()
-    shapes = polyover.overlay(subject, clip, sys.argv[2], arrays=True)
-    took = round(1000 * (time.perf_counter() - begun))
+    took = 2**62
+    for _ in range(2):
+        begun = time.process_time()
+        shapes = polyover.overlay(subject, clip, sys.argv[2], arrays=True)
+        took = min(took, round(1000 * (time.process_time() - begun)))
     parts = [array("q", memoryview(it).cast("B").cast("q").tolist()) for it in parts_of(shapes)]
     file.write_bytes(array("q", [took, *map(len, parts)]).tobytes() + b"".join(it.tobytes() for it in parts))
 

@@ -1,6 +1,6 @@
 /**
- * Many edges: the answer is that of the library for C, and the times of both are told. POLYOVER_EDGES says how many
- * edges there are, 100,000 if it is not set.
+ * Many edges: the answer is that of the library for C, and the processor times of both are told, the less of two calls.
+ * POLYOVER_EDGES says how many edges there are, 100,000 if it is not set.
  */
 
 import assert from "node:assert/strict";
@@ -59,6 +59,17 @@ function byLibrary(subject, clip) {
   }
 }
 
+/** What a call answers, and how many milliseconds of processors it takes: the less of two calls. */
+function timed(call) {
+  const both = [0, 1].map(() => {
+    const begun = process.cpuUsage();
+    const answer = call();
+    const { user, system } = process.cpuUsage(begun);
+    return [answer, Math.round((user + system) / 1000)];
+  });
+  return both[both[0][1] < both[1][1] ? 0 : 1];
+}
+
 test("many edges have the answer of the library for C", { skip: SKIPPED }, (context) => {
   const count = Math.round(EDGES / 8);
   const [took, coordinates, ends, shapeEnds] = byLibrary(
@@ -68,9 +79,8 @@ test("many edges have the answer of the library for C", { skip: SKIPPED }, (cont
   context.diagnostic(`${8 * count} edges: ${took} ms by the library for C`);
   for (const kind of [BigInt64Array, Float64Array, Int32Array]) {
     const [subject, clip] = [squares(count, 1, kind), squares(count, 2, kind)];
-    const begun = performance.now();
-    const found = polyover.overlay(subject, clip, { rule: RULE });
-    context.diagnostic(`${kind.name}: ${Math.round(performance.now() - begun)} ms`);
+    const [found, milliseconds] = timed(() => polyover.overlay(subject, clip, { rule: RULE }));
+    context.diagnostic(`${kind.name}: ${milliseconds} ms`);
     assert.equal(found.length, shapeEnds.length);
     const turn = kind === BigInt64Array ? (it) => it : (it) => kind.from(it, Number);
     assert.ok(isSame(found.contours.coordinates, turn(coordinates)), kind.name);

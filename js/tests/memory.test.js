@@ -65,23 +65,23 @@ for (const [name, call] of Object.entries(CALLS)) {
 test("more than the engine grants is refused", { skip: SKIPPED }, async () => {
   const { exports } = await refusing();
   for (const size of [2n ** 33n, 2n ** 46n, 2n ** 47n, 2n ** 63n, 2n ** 64n - 1n, 5n * 2n ** 30n]) {
-    assert.equal(exports.take(size), 0n);
+    assert.equal(exports.malloc(size), 0n);
   }
-  const at = exports.take(1n);
+  const at = exports.malloc(1n);
   assert.equal(at % 16n, 0n);
-  exports.give(at);
-  exports.give(0n);
+  exports.free(at);
+  exports.free(0n);
 });
 
 test("a call of more than there is", { skip: SKIPPED }, async () => {
   const { exports, polyover } = await refusing();
   const taken = [];
   for (let size = 2n ** 31n; size > 1000n; size /= 2n) {
-    for (let at = exports.take(size); at !== 0n; at = exports.take(size)) {
+    for (let at = exports.malloc(size); at !== 0n; at = exports.malloc(size)) {
       taken.push(at);
     }
   }
   assert.throws(() => polyover.overlay(FRAME, BAR), OutOfMemory);
-  taken.forEach((at) => exports.give(at));
+  taken.forEach((at) => exports.free(at));
   assert.equal(polyover.overlay([SQUARE]).length, 1);
 });

@@ -1,10 +1,15 @@
 /** What tests take: the package, the worked inputs, and the program's text of answers. */
 
 import { readFileSync } from "node:fs";
-import { load } from "../polyover.js";
+import { Flat, load } from "../polyover.js";
 
 export const rows = JSON.parse(readFileSync(new URL("./rows.json", import.meta.url), "utf8"));
 export const polyover = await load();
+
+/** A contour in an array of a kind; the square if none is given. */
+export function flat(kind, points = rows.SQUARE) {
+  return new Flat(kind.from(points.flat(), kind === BigInt64Array ? BigInt : Number), [points.length]);
+}
 
 /** Twice the area inside a contour. */
 export function doubleArea(contour) {

@@ -4,12 +4,20 @@ import type { Edge, Link, Location, MultiPolygon, Polyover, Relations, RemotePol
 
 const square = [[0, 0], [4, 0], [4, 4], [0, 4]];
 
+// (as types of GeoJSON elsewhere are)
+interface Other {
+  type: "MultiPolygon";
+  coordinates: number[][][][];
+  bbox?: [number, number, number, number];
+}
+
 export async function asked(): Promise<void> {
   const polyover: Polyover = await load();
   const lists: Shapes = polyover.overlay([square], [square], { rule: "xor", fill: "evenodd", minimumArea: 3n });
   const arrays: FlatShapes = polyover.overlay(new Flat(new Int32Array(8), [4]));
   const named: FlatShapes = polyover.simplify([square], { answer: "arrays", solver: "rounds" });
   const geometry: MultiPolygon = polyover.scaled(100).overlay({ type: "Polygon", coordinates: [] });
+  const other: Other = polyover.scaled(100).overlay(geometry as Other);
   const found: { shapes: Shapes; links: Link[] } = polyover.hierarchy([square]);
   const relations: Relations = polyover.relate([square], arrays.contours);
   const places: Location[] = polyover.locate([square], [[1, 1]]);
@@ -21,13 +29,15 @@ export async function asked(): Promise<void> {
   const remote: RemotePolyover = await load({ worker: true });
   const later: Shapes = await remote.overlay([square], [], { touching: true });
   remote.end();
-  console.log(lists, named, geometry, found, relations, places, numbers, edges, parts, is, later, big);
+  console.log(lists, named, other, found, relations, places, numbers, edges, parts, is, later, big);
   console.log(multiPolygon(lists));
 
   // @ts-expect-error: there is no such rule
   polyover.overlay([square], [], { rule: "join" });
   // @ts-expect-error: and no such option
   polyover.simplify([square], { ogc: true });
+  // @ts-expect-error: nor is a geometry one without a type
+  polyover.overlay({ coordinates: [] });
   // @ts-expect-error: contours are lists of points, in a list
   polyover.overlay(square);
 }

@@ -1,4 +1,4 @@
-/* Memory of the WebAssembly module, behind the code that the toolchain makes and for the module of JavaScript.
+/* Memory of the WebAssembly module: C's own words for it, which ../../c/heap.c and the module of JavaScript take.
  *
  * All memory above the stack and the constants is one row of blocks, each with a head of 16 bytes: the size of the
  * block before it and its own, heads included, and in the lowest bit of that whether it is taken. Free blocks are in
@@ -160,7 +160,7 @@ static size_t with_head(size_t size) {
 }
 
 /* Memory of a size, at a multiple of 16; or a null pointer. */
-void *take(size_t size) {
+void *malloc(size_t size) {
 #ifdef REFUSING
     if (left == 0)
         return NULL;
@@ -182,7 +182,7 @@ void *take(size_t size) {
 }
 
 /* Frees memory that was taken; a null pointer is none. */
-void give(void *at) {
+void free(void *at) {
     if (at != NULL)
         join(block_of(at));
 }
@@ -197,8 +197,9 @@ static int has_widened(struct block *it, size_t size) {
     return 1;
 }
 
-/* Memory of another size with what was there, as far as both reach; or a null pointer, and what was there stays. */
-static void *retake(void *at, size_t size) {
+/* Memory of another size with what was there, as far as both reach; or a null pointer, and what was there stays. A null
+ * pointer is not taken. */
+void *realloc(void *at, size_t size) {
     struct block *it = block_of(at);
     size_t was = size_of(it) - HEAD;
     if (size > MOST)
@@ -216,10 +217,10 @@ static void *retake(void *at, size_t size) {
         cut(it, whole);
         return at;
     }
-    void *other = take(size);
+    void *other = malloc(size);
     if (other != NULL) {
         __builtin_memcpy(other, at, was < size ? was : size);
-        give(at);
+        free(at);
     }
     return other;
 }
@@ -230,35 +231,3 @@ void refuse_after(uint64_t count) {
     left = count;
 }
 #endif
-
-/* ---- the words of the part of the library that is C, and of the code that the toolchain makes */
-
-void free(void *at) {
-    give(at);
-}
-
-/* Memory, if it is there; else `at` is no null pointer either. */
-struct answer {
-    uint64_t is_there;
-    void *at;
-};
-
-static char nothing;
-
-static struct answer told(void *at) {
-    struct answer it = {at != NULL, at != NULL ? at : &nothing};
-    return it;
-}
-
-struct answer rattle_alloc(size_t size, size_t align) {
-    return told(take(size != 0 ? size : align));
-}
-
-struct answer rattle_realloc(void *old, size_t old_size, size_t size, size_t align) {
-    (void)old_size;
-    return told(retake(old, size != 0 ? size : align));
-}
-
-void rattle_dealloc(void *at) {
-    give(at);
-}

@@ -3,6 +3,7 @@
 import atexit
 import json
 import os
+import re
 import socket
 import threading
 import time
@@ -10,26 +11,46 @@ from functools import lru_cache
 from pathlib import Path
 
 from selenium import webdriver
+from selenium.common.exceptions import WebDriverException
 from selenium.webdriver.chrome.service import Service
 
 from polyover.play import HOST, page, server_of
 
 ROOT = Path(__file__).resolve().parents[2]
+NAMES = re.compile(r'^ +name: "(\w+)",$', re.MULTILINE)
+EXAMPLES = NAMES.findall((ROOT / "docs" / "play" / "examples.js").read_text())
+# a subject with a hole, a clip, lines and points: something for each command
+DRAWN = (
+    "#subject=0+0+10+0+10+8+0+8&subject=2+2+2+6+6+6+6+2&clip=4+-2+14+3+5+11&line=-2+3+12+4&line=2+6+6+6+9+9"
+    "&point=1+1&point=4+4&point=10+4&run=overlay+Union+NonZero+ogc"
+)
 CHROMIUM, DRIVER = "/usr/bin/chromium", "/usr/bin/chromedriver"
-# (the page is never in the background, and no page that was left is kept)
+# (it runs as root, and where /dev/shm is small; the page is never in the background, and no page that was left is kept)
 WORDS = (
     "--headless=new",
     "--no-sandbox",
+    "--disable-dev-shm-usage",
     "--disable-gpu",
     "--force-device-scale-factor=1",
+    "--force-color-profile=srgb",
     "--disable-renderer-backgrounding",
     "--disable-backgrounding-occluded-windows",
     "--disable-background-timer-throttling",
     "--disable-background-networking",
     "--disable-features=BackForwardCache",
 )
-PATIENCE = 30
+# how many seconds an answer may take on a machine that is busy
+PATIENCE = 120
+# how often the browser is started, where it ends at once
+STARTS = 3
 SETTLED = "return !polyover.engine.isBusy && polyover.state.answer?.drawing === polyover.state.drawing"
+# whether the window has a size, and the board of the page, if it is there, has taken its own of that
+SIZED = """
+    const { board } = globalThis.polyover ?? {};
+    const { width, height } = board?.canvas.getBoundingClientRect() ?? {};
+    const isTaken = !board || (board.view.width === Math.round(width) && board.view.height === Math.round(height));
+    return isTaken && innerWidth === arguments[0] && innerHeight === arguments[1];
+"""
 SHOWN = """
     const { kind, shapes, links, paths, edges, relations, locations, name, nodes } = polyover.state.answer;
     return { kind, shapes, links, paths, edges, relations, locations, name, nodes };
@@ -62,6 +83,24 @@ def recorded(server):
     return paths
 
 
+def started():
+    """The driver of a browser. (Its port is free when it is looked for, and may be taken when the driver begins.)"""
+    options = webdriver.ChromeOptions()
+    options.binary_location = CHROMIUM
+    for word in WORDS:
+        options.add_argument(word)
+    options.set_capability("goog:loggingPrefs", {"browser": "ALL", "performance": "ALL"})
+    # (what is asked of this machine goes to no proxy)
+    options.ignore_local_proxy_environment_variables()
+    for start in range(STARTS):
+        try:
+            return webdriver.Chrome(service=Service(DRIVER, log_output=os.devnull), options=options)
+        except WebDriverException:
+            if start + 1 == STARTS:
+                raise
+    return None
+
+
 class Browser:
     """A browser that shows the page, which is served on this machine."""
 
@@ -70,18 +109,14 @@ class Browser:
         self.paths = recorded(self.server)
         threading.Thread(target=self.server.serve_forever, daemon=True).start()
         self.base = f"http://{HOST}:{self.server.server_address[1]}/"
-        options = webdriver.ChromeOptions()
-        options.binary_location = CHROMIUM
-        for word in WORDS:
-            options.add_argument(word)
-        options.set_capability("goog:loggingPrefs", {"browser": "ALL", "performance": "ALL"})
-        self.driver = webdriver.Chrome(service=Service(DRIVER, log_output=os.devnull), options=options)
+        self.driver = started()
         self.driver.set_script_timeout(PATIENCE)
 
     def end(self):
         """Ends the browser and the server."""
         self.driver.quit()
         self.server.shutdown()
+        self.server.server_close()
 
     # ---- what is opened
 
@@ -91,10 +126,20 @@ class Browser:
         self.driver.execute_cdp_cmd("Emulation.setDeviceMetricsOverride", metrics)
         theme = {"name": "prefers-color-scheme", "value": "dark" if is_dark else "light"}
         self.driver.execute_cdp_cmd("Emulation.setEmulatedMedia", {"features": [theme]})
+        self.until(SIZED, width, height)
+        self.frames()
+
+    def leave(self):
+        """Leaves the page, with what it keeps and what the console and the requests were."""
+        self.driver.get("about:blank")
+        kept = {"origin": self.base.rstrip("/"), "storageTypes": "local_storage"}
+        self.driver.execute_cdp_cmd("Storage.clearDataForOrigin", kept)
+        self.requests()
+        self.messages()
 
     def load(self, part="", address=None):
         """Loads the page anew, with a hash, and waits for its first answer."""
-        self.driver.get("about:blank")
+        self.leave()
         self.driver.get((address or self.base) + part)
         self.wait()
 
@@ -139,10 +184,10 @@ class Browser:
         """What a script answers."""
         return self.driver.execute_script(script, *words)
 
-    def until(self, script):
+    def until(self, script, *words):
         """Waits until a script answers what is true."""
         end = time.monotonic() + PATIENCE
-        while not self.run(script):
+        while not self.run(script, *words):
             if time.monotonic() > end:
                 raise AssertionError(f"not within {PATIENCE} seconds: {script}")
             time.sleep(0.02)
@@ -151,6 +196,10 @@ class Browser:
         """Waits until the answer is that of what is drawn, and is told."""
         self.until("return Boolean(globalThis.polyover)")
         self.until(SETTLED)
+        self.frames()
+
+    def frames(self):
+        """Waits until what was to be painted is."""
         self.driver.execute_async_script("requestAnimationFrame(() => requestAnimationFrame(arguments[0]))")
 
     def answer(self):
@@ -239,17 +288,17 @@ class Browser:
         return self.driver.execute_async_script(script, what)
 
     def give(self, name, text):
-        """Opens a file of a name and a text."""
+        """Opens a file of a name and a text. (Once the page has taken it, its field is empty.)"""
         script = """
-            const [name, text, done] = arguments;
+            const [name, text] = arguments;
             const given = new DataTransfer();
             given.items.add(new File([text], name));
             const field = document.getElementById("file");
             field.files = given.files;
             field.dispatchEvent(new Event("change"));
-            setTimeout(done, 200);
         """
-        self.driver.execute_async_script(script, name, text)
+        self.run(script, name, text)
+        self.until("return document.getElementById('file').files.length === 0")
         self.wait()
 
 

@@ -1,17 +1,14 @@
 """Answers of the page: of each example, and of each command with its options, they are those of the program, which
 splits in rounds; snapped ones are compared with Python's in test_files.py."""
 
-import re
 import unittest
 
 from polyover.commands import printed
 from polyover.errors import NotSettled
 from polyover.text import RELATIONS, printed_path, printed_shapes
 
-from .page import ROOT, browser
+from .page import DRAWN, EXAMPLES, ROOT, browser
 
-NAMES = re.compile(r'^ +name: "(\w+)",$', re.MULTILINE)
-EXAMPLES = NAMES.findall((ROOT / "docs" / "play" / "examples.js").read_text())
 # (until it has one, the library answers by rounds)
 HAS_SOLVER = "POLYOVER_ROUNDS" in (ROOT / "include" / "polyover.h").read_text()
 OPTIONS = {
@@ -35,12 +32,6 @@ BEFORE = {
     "invert": False,
     "boundary": False,
 }
-DRAWN = (
-    "subject=0+0+10+0+10+8+0+8&subject=2+2+2+6+6+6+6+2&clip=4+-2+14+3+5+11&line=-2+3+12+4&line=2+6+6+6+9+9"
-    "&point=1+1&point=4+4&point=10+4&run=overlay+Union+NonZero+ogc"
-)
-
-
 def text_of(answer):
     """An answer as the program prints it."""
     kind = answer["kind"]
@@ -93,7 +84,7 @@ class Answers(unittest.TestCase):
         self.assertEqual(self.page.answer(), answer)
 
     def test_commands(self):
-        self.page.open(f"#{DRAWN}")
+        self.page.open(DRAWN)
         for command, several in OPTIONS.items():
             for options in several:
                 with self.subTest(command, **options):

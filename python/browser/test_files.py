@@ -12,8 +12,8 @@ from xml.etree import ElementTree
 
 from polyover.commands import printed
 
-from .page import ROOT, browser
-from .test_answers import DRAWN, EXAMPLES, HAS_SOLVER
+from .page import DRAWN, EXAMPLES, ROOT, browser
+from .test_answers import HAS_SOLVER
 
 INCLUDE, LIBRARY = ROOT / "include", ROOT / "out" / "libpolyover.a"
 
@@ -40,7 +40,7 @@ class Files(unittest.TestCase):
     def setUp(self):
         self.page = browser()
         self.page.size()
-        self.page.open(f"#{DRAWN}")
+        self.page.open(DRAWN)
         self.figures = self.page.figures()
 
     def test_text(self):
@@ -73,7 +73,7 @@ class Files(unittest.TestCase):
         self.assertEqual([each["geometry"]["type"] for each in answer["features"]], ["Polygon"])
         picture = ElementTree.fromstring(self.page.saved("svg"))
         words = [each.text for each in picture.iter() if each.tag.endswith("text")]
-        self.assertIn("run overlay Union NonZero ogc", words)
+        self.assertIn("run overlay Union NonZero ogc", " ".join(words))
         self.assertEqual(words[-5:], ["subject", "clip", "line", "answer", "point"])
 
     def test_bad_files_are_told(self):

@@ -16,6 +16,7 @@ ADDRESS = re.compile(r"https?://[^\s\"'`)]+")
 # (of the language of pictures, which nobody asks for)
 NAMES = {"http://www.w3.org/2000/svg"}
 WIDTHS = ((1600, 1000), (1000, 760), (400, 860))
+SCHEME = "return getComputedStyle(document.documentElement).colorScheme"
 OVERFLOW = "return [document.documentElement.scrollWidth, innerWidth]"
 # parts that have to be seen whole
 SEEN = "#board, #summary, #ask, #answer, #call, #example, #link, #save, [data-tool], [data-kind]"
@@ -61,22 +62,38 @@ class Look(unittest.TestCase):
                 with self.subTest(width=width, is_dark=is_dark):
                     self.page.size(width, height, is_dark)
                     self.page.load(SQUARES)
+                    self.assertEqual(self.page.run(SCHEME), "dark" if is_dark else "light")
                     across, room = self.page.run(OVERFLOW)
                     self.assertLessEqual(across, room)
                     self.assertEqual(self.page.run(OUT_OF_SIGHT), [])
                     contrast, part = self.page.run(CONTRAST)
                     self.assertGreaterEqual(contrast, 4.5, part)
 
-    def test_theme_is_switched(self):
+    def test_theme_is_switched_and_kept(self):
+        for is_dark in (False, True):
+            self.page.size(is_dark=is_dark)
+            self.page.load(SQUARES)
+            before = self.page.colour(-0.5, 5.5)
+            self.page.press("#theme-switch")
+            after = self.page.colour(-0.5, 5.5)
+            light, dark = (after, before) if is_dark else (before, after)
+            self.assertGreater(sum(light[:3]), 600)
+            self.assertLess(sum(dark[:3]), 200)
+            self.page.driver.refresh()
+            self.page.wait()
+            self.assertEqual(self.page.colour(-0.5, 5.5), after)
+            self.assertEqual(self.page.run(SCHEME), "light" if is_dark else "dark")
+            self.page.press("#theme-switch")
+            self.assertEqual(self.page.colour(-0.5, 5.5), before)
+        self.page.leave()
+
+    def test_theme_of_the_system_is_followed(self):
         self.page.size()
-        self.page.open(SQUARES)
-        light = self.page.colour(-0.5, 5.5)
-        self.page.press("#theme-switch")
-        dark = self.page.colour(-0.5, 5.5)
-        self.assertGreater(sum(light[:3]), 600)
-        self.assertLess(sum(dark[:3]), 200)
-        self.page.press("#theme-switch")
-        self.assertEqual(self.page.colour(-0.5, 5.5), light)
+        self.page.load(SQUARES)
+        for is_dark in (True, False):
+            self.page.size(is_dark=is_dark)
+            self.assertEqual(self.page.run(SCHEME), "dark" if is_dark else "light")
+            self.assertEqual(sum(self.page.colour(-0.5, 5.5)[:3]) < 200, is_dark)
 
     def test_drawn_colours(self):
         self.page.size()
@@ -124,8 +141,6 @@ class Alone(unittest.TestCase):
 
     def test_nothing_of_any_host(self):
         page = browser()
-        page.requests()
-        page.messages()
         page.size()
         page.load(SQUARES)
         page.choose("command", "edges")
@@ -148,8 +163,6 @@ class Alone(unittest.TestCase):
             file = Path(folder) / "play.html"
             words = [sys.executable, "-m", "polyover", "play", "--out", str(file)]
             subprocess.run(words, cwd=ROOT / "python", check=True)
-            page.requests()
-            page.messages()
             page.size()
             page.load(SQUARES, file.as_uri())
             self.assertEqual(page.answer()["shapes"], [[[[2, 4], [2, 2], [4, 2], [4, 4]]]])

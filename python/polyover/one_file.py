@@ -16,7 +16,7 @@ from .play import ENGINE, WASM, Page
 
 # an import, or what is passed on, from a file beside the module
 IMPORT = re.compile(r'(\bfrom\s*|\bimport\s*)"(\.{1,2}/[^"]+\.js)"')
-STYLE = re.compile(r'<link rel="stylesheet" href="([^"]+)" />')
+STYLE = re.compile(r'<link rel="stylesheet" href="([^"]+)"([^>]*?) */>')
 SCRIPT = re.compile(r'<script type="module" src="([^"]+)"></script>')
 POLICY = re.compile(r'content="default-src[^"]*"')
 # nothing is loaded from anywhere: all is inside
@@ -83,5 +83,5 @@ def page_in_one(page: Page) -> str:
         f'    <script type="module">import "{PLAY}{start[1]}";</script>'
     )
     text = POLICY.sub(lambda _: f'content="{ALLOWED}"', text)
-    text = STYLE.sub(lambda found: f"<style>\n{page.text(found[1])}</style>", text)
+    text = STYLE.sub(lambda found: f"<style{found[2]}>\n{page.text(found[1])}</style>", text)
     return SCRIPT.sub(lambda _: scripts, text)

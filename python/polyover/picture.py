@@ -6,6 +6,7 @@ from dataclasses import dataclass, field
 from fractions import Fraction
 from html import escape
 from math import floor, hypot
+from textwrap import wrap
 from typing import Any, Callable, Iterable, Sequence
 
 from .contour import box_of
@@ -16,6 +17,8 @@ LEGEND = 190
 TICK = 5
 # (of a letter in a label)
 LETTER = 6.2
+# how many letters of the title stand in a line beside the picture
+TITLE = 26
 THIN = 0.15
 # of each bit of the filled sides: whose it is, on which side, and where along the edge its tick stands
 TICKS = ((1, "subject", 1, 0.45), (2, "subject", -1, 0.45), (4, "clip", 1, 0.55), (8, "clip", -1, 0.55))
@@ -179,9 +182,13 @@ def drawn_grid(at: Place) -> str:
 
 def drawn_legend(at: Place, title: str, legend: Sequence[tuple[str, str]]) -> str:
     """The title, and what each colour stands for."""
-    parts = [f'<text x="{at.width}" y="{MARGIN}" font-weight="bold">{escape(title)}</text>']
+    lines = wrap(title, TITLE) or [""]
+    parts = [
+        f'<text x="{at.width}" y="{MARGIN + 14 * number}" font-weight="bold">{escape(line)}</text>'
+        for number, line in enumerate(lines)
+    ]
     for place, (name, kind) in enumerate(legend, 1):
-        x, y = at.width, MARGIN + 20 * place
+        x, y = at.width, MARGIN + 14 * (len(lines) - 1) + 20 * place
         colour = COLOURS[name]
         if kind == "area":
             paint = f'fill="{colour}" fill-opacity="0.5" stroke="{colour}"'

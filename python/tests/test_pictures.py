@@ -84,6 +84,18 @@ class Pictures(unittest.TestCase):
             picture.add_contours("subject", [[(0, 0), (7, 0), (7, 7)]])
             self.assertEqual(float(ElementTree.fromstring(picture.svg(wide)).get("width")), wide)
 
+    def test_long_titles_stand_in_lines(self):
+        title = "run overlay InverseDifference NonZero ogc clockwise keep min 100"
+        for words in ("", "run edges NonZero", title):
+            picture = Picture(words)
+            picture.add_points("node", [(0, 0), (1, 1)])
+            texts = [each for each in ElementTree.fromstring(picture.svg()).iter() if each.tag.endswith("text")]
+            lines = [each for each in texts if each.get("font-weight") == "bold"]
+            self.assertEqual(" ".join(each.text or "" for each in lines), words)
+            self.assertLessEqual(max(len(each.text or "") for each in lines), 26)
+            (below,) = [each for each in texts if each.text == "node"]
+            self.assertEqual(float(below.get("y")), float(lines[-1].get("y")) + 20)
+
     def nodes(self, text):
         """The nodes in a picture of an input whose largest side is 12."""
         root = ElementTree.fromstring(picture_of(text, with_nodes=True).svg())

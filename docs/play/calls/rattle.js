@@ -43,6 +43,16 @@ const strings = (figures) => [
   ...figures.line.map((path) => `overlay.add_string_path(&${points(path)})?;`),
 ];
 
+/** The lines that make a list of contours under a name. */
+const listed = (/** @type {string} */ name, /** @type {number[][][]} */ paths) => [
+  `let mut ${name} = Vec::new(alloc);`,
+  ...paths.flatMap((path) => [
+    "let mut contour = Vec::new(alloc);",
+    ...path.map(([x, y]) => `contour.push(IntPoint::new(${x}, ${y}))?;`),
+    `${name}.push(contour)?;`,
+  ]),
+];
+
 const PLAIN = ["let options = IntOverlayOptions::default();"];
 const SHAPES = "IntShapes<i64, Global>";
 
@@ -65,12 +75,7 @@ const PARTS = {
   simplify: (figures, asked) => ({
     answers: SHAPES,
     lines: [
-      "let mut contours = Vec::new(alloc);",
-      ...figures.subject.flatMap((path) => [
-        "let mut contour = Vec::new(alloc);",
-        ...path.map(([x, y]) => `contour.push(IntPoint::new(${x}, ${y}))?;`),
-        "contours.push(contour)?;",
-      ]),
+      ...listed("contours", figures.subject),
       ...lookOf(asked),
       `let mut overlay = Overlay::<i64, Global>::new_custom(alloc, 16, options, ${solverOf(asked)})?;`,
       `overlay.simplify_source(&contours, ${fillOf(asked)})`,
@@ -108,12 +113,7 @@ const PARTS = {
   locate: (figures) => ({
     answers: "Vec<PointLocation, Global>",
     lines: [
-      "let mut shape = Vec::new(alloc);",
-      ...figures.subject.flatMap((path) => [
-        "let mut contour = Vec::new(alloc);",
-        ...path.map(([x, y]) => `contour.push(IntPoint::new(${x}, ${y}))?;`),
-        "shape.push(contour)?;",
-      ]),
+      ...listed("shape", figures.subject),
       `let points: [IntPoint<i64>; ${figures.point.length}] = ${points(figures.point.flat())};`,
       "shape.locate_points(alloc, &points)",
     ],
