@@ -1,4 +1,4 @@
-"""Edits of the tree, as files: what `.ci/edits` and `.ci/refused` share."""
+"""Edits of the tree, as files, for `.ci/edits` and `.ci/refused`."""
 
 from dataclasses import dataclass, field
 from pathlib import Path
@@ -37,7 +37,7 @@ def read_change(path, head):
 
 
 def apply(change, root):
-    """Exchanges the texts below the root; each pair in what the earlier ones have made."""
+    """Exchanges the texts below the root; later pairs apply to texts that earlier ones have made."""
     for file, old, new in change.pairs:
         text = (root / file).read_text()
         if text.count(old) != 1 or old == new:
