@@ -233,4 +233,23 @@ static void TEST(results_refused)(void) {
     REFUSED(POLYOVER_OUT_OF_RANGE, polyover_clip_result, 3, NULL, &out, &bad);
     REFUSED(POLYOVER_OUT_OF_RANGE, polyover_edges_result, 3, 0, &square, &out);
 }
+
+/* The needles of tests_of_solvers.h, which rounds do not settle: as two contours, as one that runs round both, and with
+ * a line along one of them. */
+static void TEST(results_not_settled)(void) {
+    const NUMBER around[] = {2, 0, 0, 66, 2, -66, -1, 0, 1, 0, 0, 67, -1, 0, 2, -66};
+    const OPTIONS rounds = {.solver = POLYOVER_ROUNDS};
+    const polyover_clip_options kept = {.solver = POLYOVER_ROUNDS};
+    const size_t two[] = {2}, three[] = {3}, eight[] = {8}, both_ends[] = {3, 6};
+    const CONTOURS first = {TEST(needles_at), 6, three, 1}, second = {TEST(needles_at) + 6, 6, three, 1};
+    const CONTOURS both = {TEST(needles_at), 12, both_ends, 2}, one = {around, 16, eight, 1};
+    const CONTOURS line = {TEST(needles_at) + 6, 4, two, 1};
+    REFUSED(POLYOVER_NOT_SETTLED, polyover_overlay_result, 3, 1, &rounds, &first, &second);
+    REFUSED(POLYOVER_NOT_SETTLED, polyover_hierarchy_result, 3, 1, &rounds, &first, &second);
+    REFUSED(POLYOVER_NOT_SETTLED, polyover_simplify_result, 1, &rounds, &both);
+    REFUSED(POLYOVER_NOT_SETTLED, polyover_simplify_result, 1, &rounds, &one);
+    REFUSED(POLYOVER_NOT_SETTLED, polyover_edges_result, 1, POLYOVER_ROUNDS, &first, &second);
+    REFUSED(POLYOVER_NOT_SETTLED, polyover_slice_result, 1, POLYOVER_ROUNDS, &first, &line);
+    REFUSED(POLYOVER_NOT_SETTLED, polyover_clip_result, 1, &kept, &first, &line);
+}
 #undef REFUSED

@@ -288,4 +288,5 @@ static void TEST(all)(void) {
     TEST(results)();
     TEST(results_by_default)();
     TEST(results_refused)();
+    TEST(results_not_settled)();
 }

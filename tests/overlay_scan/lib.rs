@@ -1,5 +1,6 @@
 //! Tests of `overlay_scan` and of `overlay_tree`: sweeps that keep their live edges in a list or in a tree.
 
+mod held;
 mod levels;
 mod list;
 mod many;

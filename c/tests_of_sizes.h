@@ -1,0 +1,455 @@
+/* The tests at one width of calls with many edges: NUMBER is the type of coordinates, LIMIT the end of their range,
+ * CONTOURS, OPTIONS, RESULT, NAME(call) and TEST(what) the names at that width. */
+
+/* Contours, or lines, with their points. */
+typedef struct {
+    NUMBER *coordinates;
+    size_t count;
+    size_t *ends;
+    size_t end_count;
+} TEST(made);
+
+/* None, and room for more than any of these tests has. */
+static TEST(made) TEST(none)(void) {
+    const size_t most = 400000;
+    TEST(made) it = {malloc(most * sizeof(NUMBER)), 0, malloc(most * sizeof(size_t)), 0};
+    if (!it.coordinates || !it.ends) {
+        abort();
+    }
+    return it;
+}
+
+static void TEST(let_go)(TEST(made) *it) {
+    free(it->coordinates);
+    free(it->ends);
+}
+
+static void TEST(point)(TEST(made) *it, size_t x, size_t y) {
+    it->coordinates[it->count++] = (NUMBER)x;
+    it->coordinates[it->count++] = (NUMBER)y;
+}
+
+/* Ends a contour, or a line. */
+static void TEST(end)(TEST(made) *it) {
+    it->ends[it->end_count++] = it->count / 2;
+}
+
+static CONTOURS TEST(given)(const TEST(made) *it) {
+    const CONTOURS contours = {it->coordinates, it->count, it->ends, it->end_count};
+    return contours;
+}
+
+/* A rectangle, counter-clockwise. */
+static void TEST(rectangle)(TEST(made) *it, const size_t *low, const size_t *high) {
+    TEST(point)(it, low[0], low[1]);
+    TEST(point)(it, high[0], low[1]);
+    TEST(point)(it, high[0], high[1]);
+    TEST(point)(it, low[0], high[1]);
+    TEST(end)(it);
+}
+
+/* A square in each cell of `side` times `side` cells, which are so wide, column by column. */
+static void TEST(squares)(TEST(made) *it, size_t side, size_t cell, size_t low, size_t high) {
+    for (size_t i = 0; i < side; i++) {
+        for (size_t j = 0; j < side; j++) {
+            const size_t from[] = {cell * i + low, cell * j + low}, to[] = {cell * i + high, cell * j + high};
+            TEST(rectangle)(it, from, to);
+        }
+    }
+}
+
+/* What is asked, by all calls alike. */
+typedef struct {
+    polyover_rule rule;
+    polyover_fill fill;
+    polyover_solver solver;
+    CONTOURS subject;
+    CONTOURS clip;
+} TEST(question);
+
+typedef polyover_status (*TEST(call))(const TEST(question) *of, RESULT *result);
+
+static OPTIONS TEST(options_of)(const TEST(question) *of) {
+    const OPTIONS options = {.solver = of->solver};
+    return options;
+}
+
+static polyover_clip_options TEST(clip_options_of)(const TEST(question) *of) {
+    const polyover_clip_options options = {.solver = of->solver};
+    return options;
+}
+
+static polyover_status TEST(overlay)(const TEST(question) *of, RESULT *result) {
+    const OPTIONS options = TEST(options_of)(of);
+    return NAME(polyover_overlay_result)(of->rule, of->fill, &options, &of->subject, &of->clip, result);
+}
+
+static polyover_status TEST(hierarchy)(const TEST(question) *of, RESULT *result) {
+    const OPTIONS options = TEST(options_of)(of);
+    return NAME(polyover_hierarchy_result)(of->rule, of->fill, &options, &of->subject, &of->clip, result);
+}
+
+static polyover_status TEST(simplify)(const TEST(question) *of, RESULT *result) {
+    const OPTIONS options = TEST(options_of)(of);
+    return NAME(polyover_simplify_result)(of->fill, &options, &of->subject, result);
+}
+
+static polyover_status TEST(slice)(const TEST(question) *of, RESULT *result) {
+    return NAME(polyover_slice_result)(of->fill, of->solver, &of->subject, &of->clip, result);
+}
+
+static polyover_status TEST(clip)(const TEST(question) *of, RESULT *result) {
+    const polyover_clip_options options = TEST(clip_options_of)(of);
+    return NAME(polyover_clip_result)(of->fill, &options, &of->subject, &of->clip, result);
+}
+
+static polyover_status TEST(edges)(const TEST(question) *of, RESULT *result) {
+    return NAME(polyover_edges_result)(of->fill, of->solver, &of->subject, &of->clip, result);
+}
+
+/* Each call with arrays, which have just the room that the result has: POLYOVER_OK where they are filled with the same
+ * numbers, and POLYOVER_MEMORY where they are not. */
+static NUMBER TEST(coordinates)[2000000];
+static size_t TEST(contour_ends)[200000], TEST(shape_ends)[200000];
+static polyover_link TEST(links)[20000];
+static uint8_t TEST(fills)[500000];
+
+static int TEST(are_same)(const RESULT *result) {
+    return memcmp(result->coordinates, TEST(coordinates), result->coordinate_count * sizeof(NUMBER)) == 0 &&
+           memcmp(result->contour_ends, TEST(contour_ends), result->contour_count * sizeof(size_t)) == 0 &&
+           memcmp(result->shape_ends, TEST(shape_ends), result->shape_count * sizeof(size_t)) == 0 &&
+           memcmp(result->links, TEST(links), result->link_count * sizeof(polyover_link)) == 0 &&
+           memcmp(result->fills, TEST(fills), result->fill_count) == 0;
+}
+
+static int TEST(has_room)(const RESULT *result) {
+    return result->coordinate_count <= 2000000 && result->contour_count <= 200000 && result->shape_count <= 200000 &&
+           result->link_count <= 20000 && result->fill_count <= 500000;
+}
+
+static polyover_status TEST(overlay_in_arrays)(const TEST(question) *of, RESULT *result) {
+    const OPTIONS options = TEST(options_of)(of);
+    polyover_counts counts;
+    return NAME(polyover_overlay)(of->rule, of->fill, &options, &of->subject, &of->clip, TEST(coordinates),
+                                  result->coordinate_count, TEST(contour_ends), result->contour_count,
+                                  TEST(shape_ends), result->shape_count, &counts);
+}
+
+static polyover_status TEST(hierarchy_in_arrays)(const TEST(question) *of, RESULT *result) {
+    const OPTIONS options = TEST(options_of)(of);
+    polyover_counts counts;
+    size_t link_count;
+    return NAME(polyover_hierarchy)(of->rule, of->fill, &options, &of->subject, &of->clip, TEST(coordinates),
+                                    result->coordinate_count, TEST(contour_ends), result->contour_count,
+                                    TEST(shape_ends), result->shape_count, TEST(links), result->link_count, &counts,
+                                    &link_count);
+}
+
+static polyover_status TEST(simplify_in_arrays)(const TEST(question) *of, RESULT *result) {
+    const OPTIONS options = TEST(options_of)(of);
+    polyover_counts counts;
+    return NAME(polyover_simplify)(of->fill, &options, &of->subject, TEST(coordinates), result->coordinate_count,
+                                   TEST(contour_ends), result->contour_count, TEST(shape_ends), result->shape_count,
+                                   &counts);
+}
+
+static polyover_status TEST(slice_in_arrays)(const TEST(question) *of, RESULT *result) {
+    polyover_counts counts;
+    return NAME(polyover_slice)(of->fill, of->solver, &of->subject, &of->clip, TEST(coordinates),
+                                result->coordinate_count, TEST(contour_ends), result->contour_count, TEST(shape_ends),
+                                result->shape_count, &counts);
+}
+
+static polyover_status TEST(clip_in_arrays)(const TEST(question) *of, RESULT *result) {
+    const polyover_clip_options options = TEST(clip_options_of)(of);
+    polyover_path_counts counts;
+    return NAME(polyover_clip)(of->fill, &options, &of->subject, &of->clip, TEST(coordinates),
+                               result->coordinate_count, TEST(contour_ends), result->contour_count, &counts);
+}
+
+static polyover_status TEST(edges_in_arrays)(const TEST(question) *of, RESULT *result) {
+    size_t count;
+    return NAME(polyover_edges)(of->fill, of->solver, &of->subject, &of->clip, TEST(coordinates),
+                                result->coordinate_count, TEST(fills), result->fill_count, &count);
+}
+
+static polyover_status TEST(relate)(const TEST(question) *of, RESULT *result) {
+    polyover_relations relations = 77;
+    memset(result, 0, sizeof *result);
+    polyover_status status = NAME(polyover_relate)(of->fill, of->solver, &of->subject, &of->clip, &relations);
+    CHECK((relations == 77) == (status != POLYOVER_OK));
+    return status;
+}
+
+/* The answer as a result, which the call with arrays gives too. */
+static RESULT TEST(answered)(const TEST(question) *of, TEST(call) call, TEST(call) in_arrays) {
+    RESULT result;
+    CHECK(call(of, &result) == POLYOVER_OK);
+    CHECK(TEST(has_room)(&result) && in_arrays(of, &result) == POLYOVER_OK && TEST(are_same)(&result));
+    return result;
+}
+
+static int TEST(is_rectangle)(const NUMBER *at, const size_t *low, const size_t *high) {
+    return at[0] == (NUMBER)low[0] && at[1] == (NUMBER)high[1] && at[2] == (NUMBER)low[0] &&
+           at[3] == (NUMBER)low[1] && at[4] == (NUMBER)high[0] && at[5] == (NUMBER)low[1] &&
+           at[6] == (NUMBER)high[0] && at[7] == (NUMBER)high[1];
+}
+
+/* Whether the answer has a shape with one contour in each cell: its square, from the upper left corner on. */
+static int TEST(are_squares)(const RESULT *result, size_t side, size_t cell, size_t low, size_t high) {
+    size_t count = side * side;
+    int same = result->coordinate_count == 8 * count && result->contour_count == count && result->shape_count == count;
+    for (size_t i = 0; same && i < side; i++) {
+        for (size_t j = 0; same && j < side; j++) {
+            const size_t from[] = {cell * i + low, cell * j + low}, to[] = {cell * i + high, cell * j + high};
+            size_t at = side * i + j;
+            same = TEST(is_rectangle)(result->coordinates + 8 * at, from, to) &&
+                   result->contour_ends[at] == 4 * (at + 1) && result->shape_ends[at] == at + 1;
+        }
+    }
+    return same;
+}
+
+/* 12,544 squares, and as many others, of which each meets one of them. */
+#define SIDE 112
+
+static void TEST(many_squares)(polyover_solver solver) {
+    TEST(made) subject = TEST(none)(), clip = TEST(none)();
+    TEST(squares)(&subject, SIDE, 4, 0, 2);
+    TEST(squares)(&clip, SIDE, 4, 1, 3);
+    const TEST(question) of = {POLYOVER_INTERSECT, POLYOVER_EVEN_ODD, solver, TEST(given)(&subject),
+                               TEST(given)(&clip)};
+    RESULT result = TEST(answered)(&of, TEST(overlay), TEST(overlay_in_arrays));
+    CHECK(TEST(are_squares)(&result, SIDE, 4, 1, 2));
+    NAME(polyover_free)(&result);
+    result = TEST(answered)(&of, TEST(simplify), TEST(simplify_in_arrays));
+    CHECK(TEST(are_squares)(&result, SIDE, 4, 0, 2));
+    NAME(polyover_free)(&result);
+    polyover_relations relations = 77;
+    CHECK(NAME(polyover_relate)(of.fill, solver, &of.subject, &of.clip, &relations) == POLYOVER_OK);
+    CHECK(relations == (POLYOVER_INTERSECTS | POLYOVER_INTERIORS_INTERSECT));
+    TEST(let_go)(&subject);
+    TEST(let_go)(&clip);
+}
+
+/* A square in a hole in each of 4,225 squares: of each column the outer ones come first. */
+static void TEST(many_islands)(polyover_solver solver) {
+    const size_t side = 65, count = side * side;
+    TEST(made) subject = TEST(none)();
+    const CONTOURS empty = {NULL, 0, NULL, 0};
+    TEST(squares)(&subject, side, 8, 0, 6);
+    TEST(squares)(&subject, side, 8, 1, 5);
+    TEST(squares)(&subject, side, 8, 2, 4);
+    const TEST(question) of = {POLYOVER_SUBJECT, POLYOVER_EVEN_ODD, solver, TEST(given)(&subject), empty};
+    RESULT result = TEST(answered)(&of, TEST(hierarchy), TEST(hierarchy_in_arrays));
+    CHECK(result.contour_count == 3 * count && result.shape_count == 2 * count && result.link_count == count);
+    int same = result.link_count == count;
+    for (size_t at = 0; same && at < count; at++) {
+        size_t i = at / side, j = at % side;
+        const polyover_link *link = &result.links[at];
+        same = link->parent_shape == 2 * side * i + j && link->parent_contour == 3 * side * i + 2 * j + 1 &&
+               link->child_shape == 2 * side * i + side + j;
+    }
+    CHECK(same);
+    NAME(polyover_free)(&result);
+    TEST(let_go)(&subject);
+}
+
+/* The edges of the squares, each with the side that is filled: of a column first those that begin on its left. */
+static void TEST(many_edges)(polyover_solver solver) {
+    TEST(made) subject = TEST(none)();
+    const CONTOURS empty = {NULL, 0, NULL, 0};
+    TEST(squares)(&subject, SIDE, 4, 0, 2);
+    const TEST(question) of = {POLYOVER_SUBJECT, POLYOVER_NON_ZERO, solver, TEST(given)(&subject), empty};
+    RESULT result = TEST(answered)(&of, TEST(edges), TEST(edges_in_arrays));
+    int same = result.fill_count == 4 * SIDE * SIDE && result.coordinate_count == 16 * SIDE * SIDE;
+    for (size_t at = 0; same && at < 4 * SIDE * SIDE; at++) {
+        size_t i = at / (4 * SIDE), in_column = at % (4 * SIDE);
+        int is_left = in_column < 3 * SIDE;
+        NUMBER x = (NUMBER)(4 * i), y = (NUMBER)(4 * (is_left ? in_column / 3 : in_column - 3 * SIDE));
+        const NUMBER edges[][4] = {
+            {x, y, x, y + 2}, {x, y, x + 2, y}, {x, y + 2, x + 2, y + 2}, {x + 2, y, x + 2, y + 2}};
+        const uint8_t fills[] = {POLYOVER_SUBJECT_RIGHT, POLYOVER_SUBJECT_LEFT, POLYOVER_SUBJECT_RIGHT,
+                                 POLYOVER_SUBJECT_LEFT};
+        size_t which = is_left ? in_column % 3 : 3;
+        same = memcmp(result.coordinates + 4 * at, edges[which], sizeof edges[which]) == 0 &&
+               result.fills[at] == fills[which];
+    }
+    CHECK(same);
+    NAME(polyover_free)(&result);
+    TEST(let_go)(&subject);
+}
+
+/* Each square is cut in two by a line through its column, and leaves a part of a line through its row. */
+static void TEST(many_lines)(polyover_solver solver) {
+    TEST(made) shape = TEST(none)(), columns = TEST(none)(), rows = TEST(none)();
+    TEST(squares)(&shape, SIDE, 4, 1, 3);
+    for (size_t at = 0; at < SIDE; at++) {
+        TEST(point)(&columns, 4 * at + 2, 0);
+        TEST(point)(&columns, 4 * at + 2, 4 * SIDE);
+        TEST(end)(&columns);
+        TEST(point)(&rows, 0, 4 * at + 2);
+        TEST(point)(&rows, 4 * SIDE, 4 * at + 2);
+        TEST(end)(&rows);
+    }
+    TEST(question) of = {0, POLYOVER_NON_ZERO, solver, TEST(given)(&shape), TEST(given)(&columns)};
+    RESULT result = TEST(answered)(&of, TEST(slice), TEST(slice_in_arrays));
+    int same = result.shape_count == 2 * SIDE * SIDE && result.contour_count == result.shape_count;
+    for (size_t at = 0; same && at < result.contour_count; at++) {
+        const NUMBER *it = result.coordinates + 8 * at;
+        same = result.contour_ends[at] == 4 * (at + 1) && result.shape_ends[at] == at + 1 &&
+               (it[4] - it[0]) * (it[7] - it[3]) - (it[6] - it[2]) * (it[5] - it[1]) == 4;
+    }
+    CHECK(same);
+    NAME(polyover_free)(&result);
+    of.clip = TEST(given)(&rows);
+    result = TEST(answered)(&of, TEST(clip), TEST(clip_in_arrays));
+    same = result.contour_count == SIDE * SIDE && result.coordinate_count == 4 * SIDE * SIDE;
+    for (size_t at = 0; same && at < result.contour_count; at++) {
+        NUMBER x = (NUMBER)(4 * (at / SIDE)), y = (NUMBER)(4 * (at % SIDE));
+        const NUMBER part[] = {x + 1, y + 2, x + 3, y + 2};
+        same = result.contour_ends[at] == 2 * (at + 1) && memcmp(result.coordinates + 4 * at, part, sizeof part) == 0;
+    }
+    CHECK(same);
+    NAME(polyover_free)(&result);
+    TEST(let_go)(&shape);
+    TEST(let_go)(&columns);
+    TEST(let_go)(&rows);
+}
+
+/* One contour of 50,000 points, counter-clockwise: a level edge, and teeth above it. */
+static void TEST(one_contour)(polyover_solver solver) {
+    const size_t count = 49998;
+    TEST(made) teeth = TEST(none)();
+    TEST(point)(&teeth, 0, 0);
+    TEST(point)(&teeth, count - 1, 0);
+    for (size_t at = count; at-- > 0;) {
+        TEST(point)(&teeth, at, 10 + at % 2);
+    }
+    TEST(end)(&teeth);
+    const CONTOURS empty = {NULL, 0, NULL, 0};
+    const TEST(question) of = {0, POLYOVER_NON_ZERO, solver, TEST(given)(&teeth), empty};
+    RESULT result = TEST(answered)(&of, TEST(simplify), TEST(simplify_in_arrays));
+    CHECK(result.shape_count == 1 && result.contour_count == 1 && result.coordinate_count == teeth.count);
+    CHECK(memcmp(result.coordinates, teeth.coordinates, teeth.count * sizeof(NUMBER)) == 0);
+    NAME(polyover_free)(&result);
+    CHECK(NAME(polyover_resolved)(&of.subject) == POLYOVER_OK);
+    /* (the last tooth reaches through the level edge) */
+    teeth.coordinates[teeth.count - 3] = -1;
+    CHECK(NAME(polyover_resolved)(&of.subject) == POLYOVER_NOT_RESOLVED);
+    CHECK(NAME(polyover_in_range)(teeth.coordinates, teeth.count) == 1);
+    teeth.coordinates[teeth.count - 1] = -LIMIT - 1;
+    CHECK(NAME(polyover_in_range)(teeth.coordinates, teeth.count) == 0);
+    TEST(let_go)(&teeth);
+}
+
+/* Three points of each cell: inside its square, on an edge of it and beside it. */
+static void TEST(many_points)(void) {
+    const size_t count = 3 * SIDE * SIDE;
+    TEST(made) shape = TEST(none)(), points = TEST(none)();
+    TEST(squares)(&shape, SIDE, 4, 0, 2);
+    for (size_t at = 0; at < SIDE * SIDE; at++) {
+        for (size_t place = 1; place <= 3; place++) {
+            TEST(point)(&points, 4 * (at / SIDE) + place, 4 * (at % SIDE) + 1);
+        }
+    }
+    const CONTOURS given = TEST(given)(&shape);
+    const uint8_t wanted[] = {POLYOVER_INSIDE, POLYOVER_BOUNDARY, POLYOVER_OUTSIDE};
+    size_t unresolved = 77;
+    CHECK(NAME(polyover_resolved)(&given) == POLYOVER_OK);
+    CHECK(NAME(polyover_locate)(&given, points.coordinates, points.count, TEST(fills), count, &unresolved) ==
+          POLYOVER_OK);
+    int same = unresolved == 77;
+    for (size_t at = 0; same && at < count; at++) {
+        same = TEST(fills)[at] == wanted[at % 3];
+    }
+    CHECK(same);
+    TEST(let_go)(&shape);
+    TEST(let_go)(&points);
+}
+
+/* How many times the rectangle of `heavy` comes, and how many upright steps cross each copy: 2 * (COPIES + 2)^2 is
+ * 2^31. */
+#define COPIES 32766
+
+/* So many copies of a rectangle, a contour of so many edges beside them, and a contour, or a line, whose upright steps
+ * cross the long sides in whole points. Once cut, the rectangles weigh 2 * COPIES * (COPIES + 1) + 2 * COPIES, the
+ * upright steps 3 * COPIES, and what joins them COPIES, or one less in a line: with the contour of 8 edges, or of 9, it
+ * is 2^31 just. */
+static void TEST(heavy)(TEST(made) *copies, TEST(made) *steps, size_t beside) {
+    const size_t low[] = {100, 2}, high[] = {100 + COPIES + 1, 3};
+    for (size_t at = 0; at < COPIES; at++) {
+        TEST(rectangle)(copies, low, high);
+    }
+    for (size_t at = 0; at < beside; at++) {
+        TEST(point)(copies, at, at * at);
+    }
+    TEST(end)(copies);
+    for (size_t at = 1; at <= COPIES; at++) {
+        size_t foot = at == 1 || at == COPIES ? 0 : 1;
+        TEST(point)(steps, 100 + at, at % 2 == 1 ? foot : 4);
+        TEST(point)(steps, 100 + at, at % 2 == 1 ? 4 : foot);
+    }
+    TEST(end)(steps);
+}
+
+/* That a call answers below the limit, and not at it. */
+static void TEST(limit_of)(TEST(call) call, polyover_solver solver, int takes_lines, int is_one) {
+    for (size_t beside = 7; beside <= 8; beside++) {
+        TEST(made) copies = TEST(none)(), steps = TEST(none)();
+        TEST(heavy)(&copies, is_one ? &copies : &steps, beside + (takes_lines ? 1 : 0));
+        const TEST(question) of = {POLYOVER_XOR, POLYOVER_NON_ZERO, solver, TEST(given)(&copies), TEST(given)(&steps)};
+        RESULT result;
+        polyover_status status = call(&of, &result);
+        CHECK(status == (beside == 7 ? POLYOVER_OK : POLYOVER_TOO_MANY_EDGES));
+        CHECK(status == POLYOVER_OK || (result.coordinate_count == 0 && result.contour_count == 0));
+        NAME(polyover_free)(&result);
+        TEST(let_go)(&copies);
+        TEST(let_go)(&steps);
+    }
+}
+
+/* The same of a call with arrays that have no room. */
+static void TEST(limit_in_arrays)(TEST(call) call, polyover_solver solver, int takes_lines, int is_one) {
+    for (size_t beside = 7; beside <= 8; beside++) {
+        TEST(made) copies = TEST(none)(), steps = TEST(none)();
+        TEST(heavy)(&copies, is_one ? &copies : &steps, beside + (takes_lines ? 1 : 0));
+        const TEST(question) of = {POLYOVER_XOR, POLYOVER_NON_ZERO, solver, TEST(given)(&copies), TEST(given)(&steps)};
+        RESULT no_room;
+        memset(&no_room, 0, sizeof no_room);
+        CHECK(call(&of, &no_room) == (beside == 7 ? POLYOVER_TOO_SMALL : POLYOVER_TOO_MANY_EDGES));
+        TEST(let_go)(&copies);
+        TEST(let_go)(&steps);
+    }
+}
+
+static void TEST(limits)(polyover_solver solver) {
+    TEST(limit_of)(TEST(overlay), solver, 0, 0);
+    TEST(limit_of)(TEST(hierarchy), solver, 0, 0);
+    TEST(limit_of)(TEST(simplify), solver, 0, 1);
+    TEST(limit_of)(TEST(edges), solver, 0, 0);
+    TEST(limit_of)(TEST(relate), solver, 0, 0);
+    TEST(limit_of)(TEST(slice), solver, 1, 0);
+    TEST(limit_of)(TEST(clip), solver, 1, 0);
+    TEST(limit_in_arrays)(TEST(overlay_in_arrays), solver, 0, 0);
+    TEST(limit_in_arrays)(TEST(hierarchy_in_arrays), solver, 0, 0);
+    TEST(limit_in_arrays)(TEST(simplify_in_arrays), solver, 0, 1);
+    TEST(limit_in_arrays)(TEST(edges_in_arrays), solver, 0, 0);
+    TEST(limit_in_arrays)(TEST(slice_in_arrays), solver, 1, 0);
+    TEST(limit_in_arrays)(TEST(clip_in_arrays), solver, 1, 0);
+}
+
+static void TEST(sizes)(void) {
+    TEST(many_points)();
+    for (polyover_solver solver = POLYOVER_SNAPPED; solver <= POLYOVER_ROUNDS; solver++) {
+        TEST(many_squares)(solver);
+        TEST(many_islands)(solver);
+        TEST(many_edges)(solver);
+        TEST(many_lines)(solver);
+        TEST(one_contour)(solver);
+        TEST(limits)(solver);
+    }
+}
+
+#undef SIDE
+#undef COPIES
