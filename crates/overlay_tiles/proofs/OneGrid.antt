@@ -1,4 +1,4 @@
--- The multiples of a step in one span are one ascending list, and points have one box; tiles are slices along its lines.
+-- The multiples of a step in one span are one ascending list, and points have one box; tiles are slices along lines.
 use Rattle.std.proofs.Common.{◌≡◌, inl, inr, ℤ, ◌<ℤ◌, List, [], ◌++◌, map, sym, ap₂, subst, ◌∙◌}
 use Rattle.std.specs.List.{Contains}
 use Rattle.std.proofs.lemmas.List.Elements.{All-weaker}
