@@ -1,6 +1,6 @@
 -- The first contour that is not resolved is one, and so is the number of the line in which the command stands.
-use Rattle.std.proofs.Common.{◌≡◌, ℕ, suc, ◌+◌, List, [], ◌∷◌, ◌++◌, length, drop, get_or, Contains, All, refl, sym, ap, subst}
-use Rattle.std.proofs.Common.{◌∙◌}
+use Rattle.std.proofs.Common.{◌≡◌, ℕ, suc, ◌+◌, List, [], ◌∷◌, ◌++◌, length, drop, get_or, Contains, All, refl, sym, ap}
+use Rattle.std.proofs.Common.{subst, ◌∙◌}
 use Rattle.std.proofs.lemmas.List.Elements.{All-head, All-contains, Contains-append_right}
 use Rattle.overlay_geom.specs.Resolved.{IsResolved}
 use Rattle.overlay_geom.proofs.Entries.{Contains-head}
