@@ -2,6 +2,7 @@ mod Rows
 pub mod Builders
 pub mod HeldAlone
 pub mod OneShots
+pub mod OneSimplified
 pub mod Queries
 pub mod Relations
 pub mod SimplifiedContours

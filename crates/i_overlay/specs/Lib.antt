@@ -1,5 +1,6 @@
 pub mod Adding
 pub mod Builder
+pub mod Determined
 pub mod OneShot
 pub mod Queries
 pub mod Relations

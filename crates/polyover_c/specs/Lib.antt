@@ -1,5 +1,6 @@
 pub mod Asked
 pub mod Clipped
+pub mod Determined
 pub mod Given
 pub mod Held
 pub mod Holding

@@ -18,6 +18,7 @@ mod linked_answer;
 pub mod links;
 mod locate;
 mod numbers;
+pub mod only_puts;
 pub mod options;
 mod overlay;
 mod path_answer;

@@ -2,6 +2,8 @@ pub mod Builders
 pub mod Clips
 pub mod Endings
 pub mod Located
+pub mod OneExit
+pub mod OneUnresolved
 pub mod Queries
 pub mod Refusals
 pub mod Slices

@@ -17,7 +17,8 @@ never_failed fs (Hierarchy query) h = h
 never_failed fs (Relate fill) h = h
 never_failed fs (ClipLines query) h = h
 never_failed fs (Slice fill) h = h
-never_failed fs (Tiles query) h = h
+never_failed fs (Tiles query) (inl h) = cc
+never_failed fs (Tiles query) (inr (fits, h)) = h
 never_failed fs Contains h = cc
 never_failed fs Locate h = cc
 

@@ -21,6 +21,7 @@ use Rattle.i_overlay.specs.Relations.{AreRelationsOfPaths}
 use Rattle.overlay_plane.specs.Islands.{ChildLink}
 use Rattle.polyover_engine.specs.Builders.{asked_by}
 use Rattle.polyover_text.specs.declared.query.Query.{Query}
+use Rattle.polyover_text.specs.declared.query.TilesQuery.{TilesQuery}
 use Rattle.polyover_text.specs.declared.query.Query.TheVariants.{Edges, Overlay, Hierarchy, Relate, ClipLines}
 use Rattle.polyover_text.specs.declared.query.Query.TheVariants.{Slice, Tiles, Contains, Locate}
 use Rattle.polyover_text.specs.Grammar.{GivenFigures, paths_of, Asks, input_lines}
@@ -54,6 +55,10 @@ pub record TellWhere (fs : GivenFigures) (answers : List PointLocation) : Type 0
   pub resolved : All IsResolved (subject_of fs.contours)
   pub located : AnswersWhere (IsLocatedAmong (subject_of fs.contours ∷ [])) fs.points answers
 
+-- the grid that is asked for fits the subject
+abbrev pub FitsSubject : GivenFigures → TilesQuery → Type 0
+FitsSubject fs query = FitsGrid greatest_of_64_bits query.width query.height (points_of_paths (subject_of fs.contours))
+
 -- ---- the answer
 
 -- the text answers the query on the figures
@@ -73,7 +78,7 @@ Answers fs (ClipLines query) text = (paths : List (List Point))
     × (text ≡ lines_of_paths paths)
 Answers fs (Slice fill) text = (shapes : List (List (List Point)))
     × AreSlicedOfPaths Rounds w128 fill (shape_and_lines fs) shapes × (text ≡ lines_of_shapes shapes)
-Answers fs (Tiles query) text = (shapes : List (List (List Point)))
+Answers fs (Tiles query) text = (shapes : List (List (List Point))) × FitsSubject fs query
     × AreTiles Rounds w128 query.fill_rule query.width query.height (subject_of fs.contours) shapes
     × (text ≡ lines_of_shapes shapes)
 Answers fs Contains text = (answers : List Bool) × TellInside fs answers × (text ≡ flat_map truth_line answers)
@@ -87,7 +92,8 @@ MayRefuseQuery fs (Hierarchy query) e = MayRefusePaths Rounds (paths_of fs) e
 MayRefuseQuery fs (Relate fill) e = MayRefusePaths Rounds (paths_of fs) e
 MayRefuseQuery fs (ClipLines query) e = MayRefuseStrings Rounds (shape_and_lines fs) e
 MayRefuseQuery fs (Slice fill) e = MayRefuseStrings Rounds (shape_and_lines fs) e
-MayRefuseQuery fs (Tiles query) e = MayRefuseTiles Rounds query.width query.height (subject_of fs.contours) e
+MayRefuseQuery fs (Tiles query) e = (e ≡ Memory)
+    ⊎ (FitsSubject fs query × MayRefuseTiles Rounds query.width query.height (subject_of fs.contours) e)
 MayRefuseQuery fs Contains e = e ≡ Memory
 MayRefuseQuery fs Locate e = e ≡ Memory
 
@@ -111,8 +117,7 @@ AsksForMisfit fs (Hierarchy query) = ⊥
 AsksForMisfit fs (Relate fill) = ⊥
 AsksForMisfit fs (ClipLines query) = ⊥
 AsksForMisfit fs (Slice fill) = ⊥
-AsksForMisfit fs (Tiles query) =
-    ¬ (FitsGrid greatest_of_64_bits query.width query.height (points_of_paths (subject_of fs.contours)))
+AsksForMisfit fs (Tiles query) = ¬ (FitsSubject fs query)
 AsksForMisfit fs Contains = ⊥
 AsksForMisfit fs Locate = ⊥
 

@@ -2,6 +2,7 @@ pub mod Answers
 pub mod Borrowed
 pub mod Builders
 pub mod Clips
+pub mod Determined
 pub mod Engine
 pub mod Exits
 pub mod ReadAll

@@ -1,5 +1,5 @@
 -- What turns of writing do, and how writing ends.
-use Rattle.std.specs.Prelude.{◌≡◌, ◌≢◌, ◌⊎◌, ◌<◌, ◌≤◌, ℕ, List, length, take, Option, Result}
+use Rattle.std.specs.Prelude.{◌≡◌, ◌≢◌, ◌⊎◌, ◌<◌, ◌≤◌, ℕ, List, length, take, Option, Result, Ok, Err}
 use Rattle.std.specs.Io.KnownBytes.{Appends, Keeps, WriteAppends}
 use Rattle.std.specs.declared.io.Error.{Error}
 use Rattle.polyover_engine.specs.Turns.{IsTurnOf, GoesWell, EndsBy, IsWornOut}
@@ -22,11 +22,16 @@ pub record IsWriteTurn {W : Type 0} (contents : W → Option (List ℕ)) (old : 
   pub called : WriteAppends (contents old) (contents new) answer text
   pub turn_is : IsTurnOf answer turn
 
+-- a success counts no byte
+abbrev pub counts_none : Result (Unit {0}) Error → Result ℕ Error
+counts_none (Ok v) = Ok 0
+counts_none (Err e) = Err e
+
 -- likewise of one call of `flush`, whose success counts no byte
 pub record IsFlushTurn {W : Type 0} (contents : W → Option (List ℕ)) (old : W) (turn : Turn) (new : W) : Type 0 where
-  pub answer : Result ℕ Error
+  pub answer : Result (Unit {0}) Error
   pub called : Keeps (contents old) (contents new)
-  pub turn_is : IsTurnOf answer turn
+  pub turn_is : IsTurnOf (counts_none answer) turn
 
 module _ {W : Type 0} (contents : W → Option (List ℕ)) (writes : W → ℕ → Turn → W → Type 0)
     (flushes : W → Turn → W → Type 0) where

@@ -9,6 +9,7 @@ mod edges;
 pub mod engine;
 pub mod exit;
 mod hierarchy;
+pub mod only_exits;
 mod overlay;
 mod points;
 mod predicate_builder;

@@ -43,6 +43,9 @@ impl<W: Write> WriteTurns for W {
     }
 
     fn flush_turn(&mut self) -> Turn {
-        turn_of(&self.flush().map(|()| 0))
+        match self.flush() {
+            Ok(()) => Turn::Done(0),
+            Err(error) => turn_of(&Err(error)),
+        }
     }
 }

@@ -30,7 +30,7 @@ impl<I: OverlayInt, A: Allocator + Clone> Overlay<I, A> {
     /// in the buffer the contours that they are simplified to.
     ///
     /// One contour that is simple, as `simplify_contour` says, whatever `options.min_output_area` is, stays as
-    /// it is given, is reversed where it stands, or is dropped. Otherwise the contours are those that
+    /// it is given, is reversed where it stands, or is dropped with its points. Otherwise the contours are those that
     /// `overlay_into` gives with the rule `Subject`. The points are in the coordinate range; a range that is
     /// not inside the points of the buffer is an empty path. After an answer the builder holds the arrangement
     /// of the contours alone, and there is a buffer, `boolean_buffer`.
@@ -65,6 +65,7 @@ impl<I: OverlayInt, A: Allocator + Clone> Overlay<I, A> {
         ensures packed { AreCut self.old.options.preserve_input_collinear
             (paths_in I.whole flat_buffer.old.points.items flat_buffer.old.ranges.items) self.new.edges
             → OnOk result (IsPacked flat_buffer.new.points.items flat_buffer.new.ranges.items) }
+        ensures no_points { OnOk result (flat_buffer.new.ranges.items ≡ [] → flat_buffer.new.points.items ≡ []) }
         ensures refused { OnErr result (StayOrAreGone flat_buffer.old.points.items flat_buffer.new.points.items
             flat_buffer.old.ranges.items flat_buffer.new.ranges.items) }
         ensures kept { self.new ≡ record self.old {
@@ -124,6 +125,7 @@ impl<I: OverlayInt, A: Allocator + Clone> Overlay<I, A> {
             → OnOk result (contours.new.ranges.items ≡ contours.old.ranges.items) }
         ensures packed { outcome ≡ Outcome.NotSimple
             → OnOk result (IsPacked contours.new.points.items contours.new.ranges.items) }
+        ensures no_points { OnOk result (contours.new.ranges.items ≡ [] → contours.new.points.items ≡ []) }
         ensures refused { OnErr result (StayOrAreGone contours.old.points.items contours.new.points.items
             contours.old.ranges.items contours.new.ranges.items) }
         ensures kept { self.new ≡ record self.old { boolean_buffer = self.new.boolean_buffer } }

@@ -48,16 +48,26 @@ returns-in_err-tiles g c =
     let shape = c.in_ok-subject.ensures.ok ∙ ap (λ l. subject_of (contours_at l)) c.deref.ensures.value in
     let p = err_from_is_err_and c.from_residual-in_err-tiles.result c.from_residual-in_err-tiles.ensures.1 in
     rw (p.1, p.2)
-    (subst (λ paths. MayRefuseTiles Rounds c.args.query.width c.args.query.height paths c.in_err-tiles.field-0.0) shape
-    (subst (λ cells. MayRefuseTiles Rounds cells.width cells.height
-    (points_of_each c.in_ok-subject.subject.contours.items) c.in_err-tiles.field-0.0) c.grid_of-grid.ensures
-    c.in_err-tiles.ensures.err))
+    (inr (
+      subst (λ paths. FitsGrid greatest_of_64_bits c.args.query.width c.args.query.height (points_of_paths paths))
+          shape (subst (λ cells. FitsGrid greatest_of_64_bits cells.width cells.height (points_of_paths
+          (points_of_each c.in_ok-subject.subject.contours.items))) c.grid_of-grid.ensures
+          (c.grid_fits.ensures.0 c.if-not-grid_fits.false)),
+      subst (λ paths. MayRefuseTiles Rounds c.args.query.width c.args.query.height paths c.in_err-tiles.field-0.0) shape
+          (subst (λ cells. MayRefuseTiles Rounds cells.width cells.height
+          (points_of_each c.in_ok-subject.subject.contours.items) c.in_err-tiles.field-0.0) c.grid_of-grid.ensures
+          c.in_err-tiles.ensures.err),
+    ))
 
 pub returns : goal.returns
 returns g c =
     let shape = c.in_ok-subject.ensures.ok ∙ ap (λ l. subject_of (contours_at l)) c.deref.ensures.value in
     let tiles = plain_shapes (λ z. z) c.in_ok-tiles.tiles.items in (
       tiles,
+      subst (λ paths. FitsGrid greatest_of_64_bits c.args.query.width c.args.query.height (points_of_paths paths)) shape
+          (subst (λ cells. FitsGrid greatest_of_64_bits cells.width cells.height (points_of_paths
+          (points_of_each c.in_ok-subject.subject.contours.items))) c.grid_of-grid.ensures
+          (c.grid_fits.ensures.0 c.if-not-grid_fits.false)),
       subst (λ paths. AreTiles Rounds w128 c.args.query.fill_rule c.args.query.width c.args.query.height paths tiles)
           shape
           (subst (λ cells. AreTiles Rounds w128 c.args.query.fill_rule cells.width cells.height
