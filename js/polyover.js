@@ -17,10 +17,13 @@ export * from "./errors.js";
 export { Flat, FlatShapes } from "./flat.js";
 export { RemotePolyover } from "./remote.js";
 
+// (what bundlers for browsers leave alone)
+const FILES = "node:fs/promises";
+
 /** The bytes of a file, where the system of files is there, or of what a URL answers. */
 async function bytesAt(url) {
   if (url.protocol === "file:" && typeof process !== "undefined" && process.versions?.node) {
-    const { readFile } = await import(/* webpackIgnore: true */ "node:fs/promises");
+    const { readFile } = await import(/* webpackIgnore: true */ /* @vite-ignore */ FILES);
     return readFile(url);
   }
   const answer = await fetch(url);

@@ -3,6 +3,8 @@
 import { BadInput, ERRORS, PolyoverError, WorkerEnded } from "./errors.js";
 import { packed, unpacked } from "./packing.js";
 
+// (what bundlers for browsers leave alone)
+const THREADS = "node:worker_threads";
 const CALLS = ["overlay", "hierarchy", "simplify", "relate", "clip", "slice", "locate", "edges", "isResolved"];
 
 /** A worker of the browser, or one of Node with its ways. (Bundlers take the address where it stands like this.) */
@@ -10,7 +12,7 @@ async function newWorker() {
   if (typeof Worker !== "undefined") {
     return new Worker(new URL("./worker.js", import.meta.url), { type: "module" });
   }
-  const { Worker: NodeWorker } = await import(/* webpackIgnore: true */ "node:worker_threads");
+  const { Worker: NodeWorker } = await import(/* webpackIgnore: true */ /* @vite-ignore */ THREADS);
   const worker = new NodeWorker(new URL("./worker.js", import.meta.url));
   worker.on("message", (data) => worker.onmessage?.({ data }));
   worker.on("error", (fault) => worker.onerror?.(fault));

@@ -17,6 +17,33 @@ RINGS = """
     state.step({ figures: { ...state.figures, subject, clip } });
     polyover.board.fit();
 """
+# the engine over workers that are told when to answer: the numbers of the drawings that were answered, and of each
+# worker whether it was ended, and the numbers of the drawings that it was sent
+ASKED = """
+    const [done] = arguments, real = globalThis.Worker, workers = [], answered = [];
+    globalThis.Worker = class {
+        sent = [];
+        isEnded = false;
+        constructor() { workers.push(this); }
+        postMessage({ asked }) { if (asked) this.sent.push(asked.number); }
+        terminate() { this.isEnded = true; }
+        answer() { this.onmessage({ data: { kind: "locations", locations: [], time: 0 } }); }
+    };
+    const drawing = (number) => ({ ...polyover.state.drawing, asked: { ...polyover.state.asked, number } });
+    const until = async (holds) => { while (!holds()) await new Promise((later) => setTimeout(later, 20)); };
+    import("./engine.js").then(async ({ Engine }) => {
+        const engine = new Engine((answer) => answered.push(answer.drawing.asked.number));
+        workers[0].onmessage({ data: "ready" });
+        [1, 2, 3].forEach((number) => engine.ask(drawing(number)));
+        workers[0].answer();
+        engine.ask(drawing(4));
+        await until(() => workers.length > 1);
+        workers[0].answer();
+        workers[1].answer();
+        globalThis.Worker = real;
+        done([answered, workers.map(({ isEnded, sent }) => [isEnded, sent])]);
+    });
+"""
 PAINTED = "const now = performance.now(); polyover.board.paint(); return performance.now() - now"
 
 
@@ -134,6 +161,12 @@ class Hand(unittest.TestCase):
         # (the least of some: what else the machine does takes none of it)
         took = min(self.page.run(PAINTED) for _ in range(9))
         self.assertLess(took, 500)
+
+    def test_the_latest_drawing_wins(self):
+        answered, workers = self.page.driver.execute_async_script(ASKED)
+        # (the second gave way to the third, and that one after a while to the fourth: its answer came too late)
+        self.assertEqual(answered, [1, 4])
+        self.assertEqual(workers, [[True, [1, 3]], [False, [4]]])
 
     def test_more_points_are_answered_by_a_button(self):
         self.page.run(RINGS, 10001)
