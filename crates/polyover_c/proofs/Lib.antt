@@ -9,3 +9,4 @@ pub mod Related
 pub mod ShapesRead
 pub mod Simplified
 pub mod Sliced
+pub mod SnappedCalls
