@@ -66,7 +66,7 @@ def area_in(shapes):
 # ---- the checks
 
 
-def check_arrangement(text, fills, given, fill_rule, figures, random):
+def check_arrangement(text, fills, given, fill_rule, figures, random, halves):
     """Edges in order that meet in ends alone; fills that fit one another and, far from steps, the contours given."""
     edges = list(fills)
     must(edges == sorted(edges) and len(edges) == len(text.splitlines()), "edges are not in order")
@@ -78,22 +78,35 @@ def check_arrangement(text, fills, given, fill_rule, figures, random):
         must((bool(fills[a, b] & 2), bool(fills[a, b] & 8)) == (subject, clip), f"the fill below {a} {b}")
     subject, clip = given
     for point in samples(random, subject + clip, 12) if subject + clip else []:
-        if figures.is_exact or is_far(subject + clip, point):
+        if figures.is_exact or is_far(subject + clip, point, halves):
             wanted = tuple(FILLED[fill_rule](winding(it, point)) for it in given)
             must(sides_at(fills, point) == wanted, f"the sides at {point}")
 
 
-def is_far(steps, point):
-    """Whether the point is more than 64 away from each step's line, or from its box: no round moves a chain so far."""
+def is_far(steps, point, reach):
+    """Whether the point is further away than the reach from each step's line, or from its box."""
     x, y, d = point
     for (ax, ay), (bx, by) in steps:
         beside = max(min(ax, bx) * d - x, x - max(ax, bx) * d, min(ay, by) * d - y, y - max(ay, by) * d)
-        if beside > 64 * d:
+        if beside > reach * d:
             continue
         cross = (bx - ax) * (y - ay * d) - (by - ay) * (x - ax * d)
-        if cross * cross <= (64 * d) ** 2 * ((bx - ax) ** 2 + (by - ay) ** 2):
+        if cross * cross <= (reach * d) ** 2 * ((bx - ax) ** 2 + (by - ay) ** 2):
             return False
     return True
+
+
+def check_area(area, fine, scale, steps, halves):
+    """An area, doubled, is near that of the same contours on a grid so many times as fine, by snap rounding.
+
+    A chain stays within so many halves of a unit of its edge, in x and in y. Off these strips no winding changes."""
+
+    def strips(side, times):
+        """The area of all points so near a step, on a grid so many times as fine."""
+        return sum(side * times * (abs(bx - ax) + abs(by - ay)) + side * side for (ax, ay), (bx, by) in steps)
+
+    most = 2 * (strips(halves, 1) * scale**2 + strips(1, scale))
+    must(abs(area * scale**2 - fine) <= most, f"the area {area} / 2, and not {fine / scale**2} / 2")
 
 
 def check_shapes(shapes, fills, rule, sign, random):

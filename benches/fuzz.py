@@ -1,10 +1,12 @@
 #!/usr/bin/env python3
 """Feeds the program polyover with inputs by families, and checks its answers by properties (`checks.py`).
 
-    fuzz.py --program PROGRAM --minutes N [--seed N] [--family NAME ..] [--findings FOLDER]
+    fuzz.py --program PROGRAM --minutes N [--solvers] [--seed N] [--family NAME ..] [--findings FOLDER]
 
-Each case is a number: `--case N` runs the one alone. A run has SECONDS and MEMORY. What fails is printed with the
-number of its case, and its input is left in FOLDER. The status is 1 where anything failed.
+With --solvers the library for C answers each input of a geometry too, by either solver (`solved.py`): all that holds of
+the program's answers must hold of these, snap rounding must settle, and areas are held against those of the input on a
+finer grid. Each case is a number: `--case N` runs the one alone. A run has SECONDS and MEMORY. What fails is printed
+with the number of its case, and its input is left in FOLDER. The status is 1 where anything failed.
 """
 
 import argparse
@@ -22,6 +24,7 @@ from checks import (
     area_in,
     area_of,
     begun_anew,
+    check_area,
     check_arrangement,
     check_in_cells,
     check_links,
@@ -42,24 +45,32 @@ from checks import (
 )
 from families import GEOMETRY, Figures, grid_lines, sides_of_cells
 from plane import FILL_RULES, LARGEST, OVERLAY_RULES
+from solved import HALVES, Solved
 
 SECONDS = 20
 MEMORY = 2**30
+# areas are held against those on a grid so many times as fine
+SCALE = 2**20
 UNSETTLED = (1, b"refused E2\n")
 
 
 class Program:
     """The program, which is run on inputs; it counts the runs and keeps the last input."""
 
+    name = "program"
+    halves = 64
+
     def __init__(self, path):
         self.path = path
         self.runs = 0
         self.slowest = 0.0
         self.last = b""
+        self.asked_at = 0.0
 
     def end_of(self, data):
         """Status, output and words of a run, which ends in time and never by a signal."""
         self.runs, self.last, begun = self.runs + 1, data, time.monotonic()
+        self.asked_at = begun
         try:
             ran = subprocess.run([self.path], input=data, capture_output=True, timeout=SECONDS, check=False)
         except subprocess.TimeoutExpired as late:
@@ -77,6 +88,11 @@ class Program:
             return None
         must(status == 0, f"status {status}, {said[:80]!r}")
         return written.decode()
+
+    def must_misfit(self, lines, query):
+        """The query's grid does not fit, which is a bad line."""
+        status, _, said = self.end_of("\n".join([*lines, f"run {query}", ""]).encode())
+        must((status, said) == (2, f"line {len(lines) + 1}: bad input\n".encode()), f"{query} fits")
 
 
 # ---- geometry
@@ -174,8 +190,7 @@ def check_tiles(program, figures, lines, fill_rule, area, random):
     query = f"tiles {fill_rule} {sides[0]} {sides[1]}"
     cuts = grid_lines(figures.subject, *sides)
     if cuts is None:
-        status, _, said = program.end_of("\n".join([*lines, f"run {query}", ""]).encode())
-        must((status, said) == (2, f"line {len(lines) + 1}: bad input\n".encode()), f"{query} fits")
+        program.must_misfit(lines, query)
         return
     text = program.answer(lines, query)
     must(text == program.answer(Figures(figures.subject, lines=cuts).texts(), f"slice {fill_rule}"), f"{query}, slices")
@@ -201,24 +216,58 @@ def check_points(program, figures, lines):
             must(all((one == "true") == (other == "inside") for one, other in pairs), f"contained {told}")
 
 
-def check_geometry(program, family, random):
-    """All commands on the figures of a family; whether splitting settled."""
-    figures = GEOMETRY[family](random)
-    lines, fill_rule = figures.texts(), random.choice(FILL_RULES)
-    check_points(program, figures, lines)
+def check_answers(program, figures, fill_rule, random):
+    """All commands on figures but those of points; the text of the edges, or none where splitting does not settle."""
+    lines = figures.texts()
     text = program.answer(lines, f"edges {fill_rule}")
     if text is None:
         must(not figures.is_exact, "edges that meet in whole points do not settle")
-        return False
-    fills = fills_of(text)
-    check_arrangement(text, fills, (steps_in(figures.subject), steps_in(figures.clip)), fill_rule, figures, random)
+        return None
+    fills, given = fills_of(text), (steps_in(figures.subject), steps_in(figures.clip))
+    check_arrangement(text, fills, given, fill_rule, figures, random, program.halves)
     must(program.answer(shuffled(figures, random), f"edges {fill_rule}") == text, "other edges of shuffled contours")
     areas = check_overlays(program, lines, fills, fill_rule, random)
     check_options(program, lines, fills, fill_rule, random)
     check_relate(program, figures, lines, fills, fill_rule, areas)
     check_strings(program, figures, lines, fill_rule, areas["Subject"], random)
     check_tiles(program, figures, lines, fill_rule, areas["Subject"], random)
-    return True
+    return text, areas
+
+
+def check_solvers(solvers, figures, fill_rule, random):
+    """All answers of the library by each solver; which of them settled."""
+    answers = {it.name: check_answers(it, figures, fill_rule, random) for it in solvers}
+    finer = finer_than(figures, SCALE)
+    if finer and solvers:
+        rule = random.choice(OVERLAY_RULES)
+        fine = area_in(shapes_of(solvers[0].answer(finer.texts(), f"overlay {rule} {fill_rule}")))
+        for it in solvers:
+            if answers[it.name]:
+                check_area(answers[it.name][1][rule], fine, SCALE, steps_in(figures.subject + figures.clip), it.halves)
+    texts = {answer[0] for answer in answers.values() if answer}
+    must(not figures.is_exact or len(texts) <= 1, "two arrangements of edges that meet in whole points")
+    return {name: answer is not None for name, answer in answers.items()}
+
+
+def finer_than(figures, scale):
+    """The contours on a grid so many times as fine; none where that leaves the range."""
+    paths = figures.subject + figures.clip
+    if any(abs(number) * scale > LARGEST for path in paths for point in path for number in point):
+        return None
+
+    def finer(paths):
+        return [[(x * scale, y * scale) for x, y in path] for path in paths]
+
+    return Figures(finer(figures.subject), finer(figures.clip))
+
+
+def check_geometry(program, solvers, family, random):
+    """All commands on the figures of a family; whether splitting settled, by the program and by each solver."""
+    figures = GEOMETRY[family](random)
+    fill_rule = random.choice(FILL_RULES)
+    check_points(program, figures, figures.texts())
+    settled = {program.name: check_answers(program, figures, fill_rule, random) is not None}
+    return settled | check_solvers(solvers, figures, fill_rule, random)
 
 
 # ---- lines
@@ -300,13 +349,13 @@ LINES = {"malformed": check_malformed, "huge": check_huge}
 CASES = [*GEOMETRY] * 20 + ["malformed"] * 60 + ["huge"]
 
 
-def run_case(program, seed, number, families):
-    """Runs one case, and answers its family and whether it settled."""
+def run_case(program, solvers, seed, number, families):
+    """Runs one case, and answers its family, and who answered it and whether splitting settled there."""
     random = Random(f"{seed}/{number}")
     family = random.choice([it for it in CASES if it in families])
     if family in LINES:
-        return family, LINES[family](program, random)
-    return family, check_geometry(program, family, random)
+        return family, {program.name: LINES[family](program, random)}
+    return family, check_geometry(program, solvers, family, random)
 
 
 def main():
@@ -314,6 +363,7 @@ def main():
     parser = argparse.ArgumentParser(description=__doc__, formatter_class=argparse.RawDescriptionHelpFormatter)
     add_program_option(parser)
     parser.add_argument("--minutes", type=float, default=1, help="how long")
+    parser.add_argument("--solvers", action="store_true", help="ask the library too, by either solver")
     parser.add_argument("--seed", type=int, default=1)
     parser.add_argument("--family", nargs="+", default=sorted(set(CASES)), choices=sorted(set(CASES)))
     parser.add_argument("--case", type=int, help="one case alone")
@@ -323,20 +373,25 @@ def main():
     # (a limit on this process is one on each program that it runs)
     resource.setrlimit(resource.RLIMIT_AS, (MEMORY, MEMORY))
     program, counts, failed = Program(program_of(parser, given)), Counter(), 0
+    solvers = [Solved(name) for name in HALVES] if given.solvers else []
     ends, number = time.monotonic() + 60 * given.minutes, given.case or 0
     while time.monotonic() < ends:
         try:
-            family, settled = run_case(program, given.seed, number, given.family)
-            counts[family if settled else f"{family} unsettled"] += 1
+            family, settled = run_case(program, solvers, given.seed, number, given.family)
+            for name, is_settled in settled.items():
+                counts[f"{family}, {name}{'' if is_settled else ', unsettled'}"] += 1
         except Exception as error:
             failed += 1
             given.findings.mkdir(parents=True, exist_ok=True)
-            (given.findings / f"{given.seed}_{number}.txt").write_bytes(program.last)
+            asked = max([program, *solvers], key=lambda it: it.asked_at)
+            (given.findings / f"{given.seed}_{number}.txt").write_bytes(asked.last)
             print(f"case {number}: {type(error).__name__} {error}", flush=True)
         if given.case is not None:
             break
         number += 1
     print(f"{number} cases, {program.runs} runs, the slowest {program.slowest:.1f} seconds, {failed} failed")
+    for it in solvers:
+        print(f"{it.runs} calls of the library, {it.name}")
     print("\n".join(f"  {name}: {count}" for name, count in sorted(counts.items())))
     return 1 if failed else 0
 

@@ -10,3 +10,4 @@ pub mod Related
 pub mod ShapesRead
 pub mod Simplified
 pub mod Sliced
+pub mod SnappedCalls

@@ -5,6 +5,7 @@ pub mod Given
 pub mod Held
 pub mod Holding
 pub mod Hierarchies
+pub mod Laws
 pub mod Lines
 pub mod Linked
 pub mod Listed

@@ -14,6 +14,7 @@ mod given;
 pub mod held;
 mod hierarchy;
 mod holding;
+pub mod laws;
 mod linked_answer;
 pub mod links;
 mod locate;
