@@ -1,13 +1,12 @@
 //! An allocator that grants a number of requests and refuses the later ones.
 
-ghost use Rattle.std.specs.Prelude.{◌≡◌, ◌↔◌, ◌+◌, None, IfSome};
-
 use std::alloc::{AllocError, Allocator};
 use std::cell::Cell;
 
 /// Passes requests on to another allocator until the granted number is spent, and then refuses each.
 ///
-/// It gives blocks back at all times. A test lends it as `&refusing`.
+/// It gives blocks back at all times. A block that grows is a new block, so growing takes one request. A test lends it
+/// as `&memory`.
 #[derive(Drop)]
 pub struct Refusing<B: Allocator> {
     inner: B,
@@ -23,7 +22,7 @@ impl<B: Allocator> Refusing<B> {
         }
     }
 
-    /// How many requests are still granted.
+    /// Returns the number of requests still granted.
     pub fn left(&self) -> u64 {
         self.left.get()
     }
@@ -34,17 +33,9 @@ impl<B: Allocator> Refusing<B> {
     }
 }
 
-/// What is left once a request is granted: one less. Where nothing was left, none is granted.
-fn left_after(left: u64) -> Option<u64>
-    ensures none { (result ≡ None) ↔ (left ≡ 0) }
-    ensures one_less { IfSome result (λ rest. rest + 1 ≡ left) }
-{
-    left.checked_sub(1)
-}
-
-/// Takes one off what is left, or answers `false` where nothing is.
+// Spends one of the granted requests, or returns `false` where none is left.
 fn takes_turn(left: &Cell<u64>) -> bool {
-    let Some(rest) = left_after(left.get()) else {
+    let Some(rest) = left.get().checked_sub(1) else {
         return false;
     };
     left.set(rest);
@@ -66,21 +57,16 @@ unsafe impl<B: Allocator> Allocator for Refusing<B> {
     }
 }
 
-#[cfg(test)]
-mod tests {
-    use super::*;
-
-    #[test]
-    fn what_is_granted_is_granted_once(rt: HostRuntime) {
-        let memory = Refusing::new(rt.alloc(), 2);
-        let first = Box::new(&memory, 1u8);
-        let second = Box::new(&memory, 2u8);
-        assert!(rt; first.is_ok() && second.is_ok());
-        assert!(rt; Box::new(&memory, 3u8).is_err());
-        drop(first);
-        assert!(rt; Box::new(&memory, 4u8).is_err());
-        memory.grant(1);
-        assert!(rt; Box::new(&memory, 5u8).is_ok());
-        assert_eq!(rt; memory.left(), 0);
-    }
+#[test]
+fn what_is_granted_is_granted_once(rt: HostRuntime) {
+    let memory = Refusing::new(rt.alloc(), 2);
+    let first = Box::new(&memory, 1u8);
+    let second = Box::new(&memory, 2u8);
+    assert!(rt; first.is_ok() && second.is_ok());
+    assert!(rt; Box::new(&memory, 3u8).is_err());
+    drop(first);
+    assert!(rt; Box::new(&memory, 4u8).is_err());
+    memory.grant(1);
+    assert!(rt; Box::new(&memory, 5u8).is_ok());
+    assert_eq!(rt; memory.left(), 0);
 }

@@ -1,4 +1,0 @@
-//! Memory that is refused, for tests.
-#![tactic(auto)]
-
-pub mod refusing;

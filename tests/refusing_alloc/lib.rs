@@ -1,0 +1,3 @@
+//! Memory that is refused, for the tests in other folders.
+
+pub mod refusing;
