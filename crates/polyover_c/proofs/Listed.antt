@@ -13,7 +13,7 @@ use Rattle.overlay_geom.specs.Plane.{Point}
 use Rattle.overlay_geom.specs.declared.error.OverlayError.{OverlayError}
 use Rattle.overlay_geom.specs.declared.solver.Solver.{Solver}
 use Rattle.i_overlay.specs.OneShot.{AreEdgesOfPaths, MayRefusePaths}
-use Rattle.polyover_arrays.specs.declared.fault.Fault.{Fault}
+use Rattle.polyover_c.specs.declared.fault.Fault.{Fault}
 use Rattle.polyover_c.proofs.Refusals.{unread, without_memory, unanswered}
 use Rattle.polyover_c.specs.Asked.{fill_of, solver_of}
 use Rattle.polyover_c.specs.Given.{Contours, paths_of, paths_given, AreGiven, AreUnread}

@@ -5,10 +5,10 @@ use Rattle.overlay_geom.specs.Plane.{Point}
 use Rattle.overlay_geom.specs.Points.{plain_point, plain_points}
 use Rattle.overlay_geom.specs.Resolved.{IsResolved}
 use Rattle.overlay_geom.specs.declared.point.IntPoint.{IntPoint}
-use Rattle.polyover_arrays.specs.Arrays.{points_of, written_over}
-use Rattle.polyover_arrays.specs.Reading.{ArePoints, PointsHaveOwnFault}
-use Rattle.polyover_arrays.specs.declared.fault.Fault.{Fault}
-use Rattle.polyover_arrays.specs.declared.fault.Fault.TheVariants as fault
+use Rattle.polyover_c.specs.Arrays.{points_of, written_over}
+use Rattle.polyover_c.specs.Reading.{ArePoints, PointsHaveOwnFault}
+use Rattle.polyover_c.specs.declared.fault.Fault.{Fault}
+use Rattle.polyover_c.specs.declared.fault.Fault.TheVariants as fault
 use Rattle.polyover_c.specs.Given.{Contours, paths_of, AreGiven, IsFaulty}
 use Rattle.polyover_c.specs.Located.{number_of, Places, AreNumbers, IsFirstUnresolved, LocatingEnds}
 use Rattle.polyover_c.specs.Statuses.{status_of_fault}

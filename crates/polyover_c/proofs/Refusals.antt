@@ -2,8 +2,8 @@
 use Rattle.std.proofs.Common.{◌≡◌, ℕ, ℤ, sym, subst}
 use Rattle.overlay_geom.specs.declared.error.OverlayError.{OverlayError}
 use Rattle.overlay_geom.specs.declared.error.OverlayError.TheVariants as error
-use Rattle.polyover_arrays.specs.declared.fault.Fault.{Fault}
-use Rattle.polyover_arrays.specs.declared.fault.Fault.TheVariants as fault
+use Rattle.polyover_c.specs.declared.fault.Fault.{Fault}
+use Rattle.polyover_c.specs.declared.fault.Fault.TheVariants as fault
 use Rattle.polyover_c.specs.Given.{Contours, AreGiven, AreUnread}
 use Rattle.polyover_c.specs.Refusals.{AreBothRefused}
 use Rattle.polyover_c.specs.Statuses.{status_of_fault, status_of_error}

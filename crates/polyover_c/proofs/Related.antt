@@ -9,7 +9,7 @@ use Rattle.overlay_geom.specs.declared.solver.Solver.{Solver}
 use Rattle.overlay_relate.specs.declared.relations.Relations.{Relations}
 use Rattle.i_overlay.specs.OneShot.{MayRefusePaths}
 use Rattle.i_overlay.specs.Relations.{AreRelationsOfPaths}
-use Rattle.polyover_arrays.specs.declared.fault.Fault.{Fault}
+use Rattle.polyover_c.specs.declared.fault.Fault.{Fault}
 use Rattle.polyover_c.proofs.Refusals.{unread, unanswered}
 use Rattle.polyover_c.specs.Asked.{fill_of, solver_of}
 use Rattle.polyover_c.specs.Given.{Contours, paths_of, paths_given, AreGiven, AreUnread}

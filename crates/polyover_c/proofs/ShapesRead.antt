@@ -9,9 +9,9 @@ use Rattle.overlay_geom.specs.Plane.{Point}
 use Rattle.overlay_geom.specs.Points.{plain_points}
 use Rattle.overlay_geom.specs.Resolved.{IsResolved}
 use Rattle.overlay_geom.specs.declared.point.IntPoint.{IntPoint}
-use Rattle.polyover_arrays.specs.Reading.{AreContours, contours_at, HaveFault}
-use Rattle.polyover_arrays.specs.declared.fault.Fault.{Fault}
-use Rattle.polyover_arrays.specs.declared.fault.Fault.TheVariants as fault
+use Rattle.polyover_c.specs.Reading.{AreContours, contours_at, HaveFault}
+use Rattle.polyover_c.specs.declared.fault.Fault.{Fault}
+use Rattle.polyover_c.specs.declared.fault.Fault.TheVariants as fault
 use Rattle.polyover_c.specs.Located.{IsFirstUnresolved}
 use Rattle.polyover_c.specs.Statuses.{ReadsAs, status_of_fault}
 use Rattle.polyover_c.specs.declared.status.Status.{Status}

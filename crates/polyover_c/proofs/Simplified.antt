@@ -13,9 +13,9 @@ use Rattle.overlay_geom.specs.declared.error.OverlayError.TheVariants as error
 use Rattle.overlay_geom.specs.declared.solver.Solver.{Solver}
 use Rattle.overlay_simplify.specs.Alone.{MayRefuseAlone}
 use Rattle.i_overlay.specs.Simplified.{IsSimplifiedAlone}
-use Rattle.polyover_arrays.specs.Reading.{HaveFault}
-use Rattle.polyover_arrays.specs.declared.fault.Fault.{Fault}
-use Rattle.polyover_arrays.specs.declared.fault.Fault.TheVariants as fault
+use Rattle.polyover_c.specs.Reading.{HaveFault}
+use Rattle.polyover_c.specs.declared.fault.Fault.{Fault}
+use Rattle.polyover_c.specs.declared.fault.Fault.TheVariants as fault
 use Rattle.polyover_c.specs.Asked.{fill_of, solver_of, options_of, AreChoices}
 use Rattle.polyover_c.specs.Given.{Contours, paths_of, AreGiven}
 use Rattle.polyover_c.specs.Simplified.{IsSimplification, IsSimplifyingRefused}

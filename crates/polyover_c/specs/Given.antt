@@ -2,9 +2,9 @@
 use Rattle.std.specs.Prelude.{◌⊎◌, ℕ, ℤ, List}
 use Rattle.overlay_geom.specs.Plane.{Point}
 use Rattle.overlay_builder.specs.GivenPaths.{GivenPath, subject_and_clip}
-use Rattle.polyover_arrays.specs.Reading.{AreContours, contours_at, HaveOwnFault}
-use Rattle.polyover_arrays.specs.declared.fault.Fault.{Fault}
-use Rattle.polyover_arrays.specs.declared.fault.Fault.TheVariants.{Memory, Ends, Range}
+use Rattle.polyover_c.specs.Reading.{AreContours, contours_at, HaveOwnFault}
+use Rattle.polyover_c.specs.declared.fault.Fault.{Fault}
+use Rattle.polyover_c.specs.declared.fault.Fault.TheVariants.{Memory, Ends, Range}
 
 -- contours as arrays have them
 pub record Contours (I : Type 0) : Type 0 where

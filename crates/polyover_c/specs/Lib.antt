@@ -1,10 +1,12 @@
+pub mod ArrayLaws
+pub mod Arrays
 pub mod Asked
 pub mod Clipped
 pub mod Determined
 pub mod Given
 pub mod Held
-pub mod Holding
 pub mod Hierarchies
+pub mod Holding
 pub mod Laws
 pub mod Lines
 pub mod Linked
@@ -13,6 +15,7 @@ pub mod Located
 pub mod Options
 pub mod Overlays
 pub mod Put
+pub mod Reading
 pub mod Refusals
 pub mod Related
 pub mod Simplified

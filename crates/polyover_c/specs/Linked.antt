@@ -3,7 +3,7 @@ use Rattle.std.specs.Prelude.{◌≤◌, ℕ, ℤ, List, map, length}
 use Rattle.overlay_extract.specs.declared.child_link.ChildLink.{ChildLink as LinkTaken}
 use Rattle.overlay_geom.specs.Plane.{Point}
 use Rattle.overlay_plane.specs.Islands.{ChildLink}
-use Rattle.polyover_arrays.specs.Arrays.{written_over}
+use Rattle.polyover_c.specs.Arrays.{written_over}
 use Rattle.polyover_c.specs.Put.{IsPutSo, EndsInto}
 use Rattle.polyover_c.specs.Written.{Flat, Room, AreFlattened, HasRoom, flat_shapes, shape_room, counts_of}
 use Rattle.polyover_c.specs.Written.{written_into}

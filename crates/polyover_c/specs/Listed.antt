@@ -3,7 +3,7 @@ use Rattle.std.specs.Prelude.{◌≡◌, ◌≤◌, ℕ, ℤ, List, [], ◌∷�
 use Rattle.std.specs.List.{flat_map}
 use Rattle.overlay_arrange.specs.Vectors.{Vector}
 use Rattle.i_overlay.specs.OneShot.{AreEdgesOfPaths, MayRefusePaths}
-use Rattle.polyover_arrays.specs.Arrays.{written_over}
+use Rattle.polyover_c.specs.Arrays.{written_over}
 use Rattle.polyover_c.specs.Asked.{fill_of, solver_of}
 use Rattle.polyover_c.specs.Given.{Contours, paths_given, AreGiven}
 use Rattle.polyover_c.specs.Put.{IsPutSo, EndsInto}

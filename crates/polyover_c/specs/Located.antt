@@ -8,10 +8,10 @@ use Rattle.overlay_relate.specs.Answers.{AnswersWhere}
 use Rattle.overlay_relate.specs.Locations.{IsLocatedAmong}
 use Rattle.overlay_relate.specs.declared.location.PointLocation.{PointLocation}
 use Rattle.overlay_relate.specs.declared.location.PointLocation.TheVariants.{Inside, Boundary, Outside}
-use Rattle.polyover_arrays.specs.Arrays.{points_of, written_over}
-use Rattle.polyover_arrays.specs.Reading.{ArePoints, PointsHaveOwnFault}
-use Rattle.polyover_arrays.specs.declared.fault.Fault.{Fault}
-use Rattle.polyover_arrays.specs.declared.fault.Fault.TheVariants as fault
+use Rattle.polyover_c.specs.Arrays.{points_of, written_over}
+use Rattle.polyover_c.specs.Reading.{ArePoints, PointsHaveOwnFault}
+use Rattle.polyover_c.specs.declared.fault.Fault.{Fault}
+use Rattle.polyover_c.specs.declared.fault.Fault.TheVariants as fault
 use Rattle.polyover_c.specs.Given.{Contours, paths_of, AreGiven, IsFaulty}
 use Rattle.polyover_c.specs.declared.status.Status.{Status}
 use Rattle.polyover_c.specs.declared.status.Status.TheVariants.{Done, Memory, BadEnds, OutOfRange}

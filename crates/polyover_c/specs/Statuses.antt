@@ -3,9 +3,9 @@ use Rattle.std.specs.Prelude.{ℕ, ℤ, List, All}
 use Rattle.overlay_geom.specs.Resolved.{IsResolved}
 use Rattle.overlay_geom.specs.declared.error.OverlayError.{OverlayError}
 use Rattle.overlay_geom.specs.declared.error.OverlayError.TheVariants as error
-use Rattle.polyover_arrays.specs.Reading.{AreContours, contours_at, HaveFault}
-use Rattle.polyover_arrays.specs.declared.fault.Fault.{Fault}
-use Rattle.polyover_arrays.specs.declared.fault.Fault.TheVariants as fault
+use Rattle.polyover_c.specs.Reading.{AreContours, contours_at, HaveFault}
+use Rattle.polyover_c.specs.declared.fault.Fault.{Fault}
+use Rattle.polyover_c.specs.declared.fault.Fault.TheVariants as fault
 use Rattle.polyover_c.specs.declared.status.Status.{Status}
 use Rattle.polyover_c.specs.declared.status.Status.TheVariants.{Done, Memory, BadEnds, OutOfRange}
 use Rattle.polyover_c.specs.declared.status.Status.TheVariants.{NotResolved, BadRule, BadFill, BadOption}

@@ -5,7 +5,7 @@ use Rattle.overlay_geom.specs.Flat.{paths_in}
 use Rattle.overlay_geom.specs.Packed.{IsPacked}
 use Rattle.overlay_geom.specs.Plane.{Point}
 use Rattle.overlay_geom.specs.declared.point.IntPoint.{IntPoint}
-use Rattle.polyover_arrays.specs.Arrays.{coordinates_of, ends_of, written_over}
+use Rattle.polyover_c.specs.Arrays.{coordinates_of, ends_of, written_over}
 use Rattle.polyover_c.specs.Put.{IsPutSo, EndsInto}
 use Rattle.polyover_c.specs.declared.path_counts.PathCounts.{PathCounts}
 use Rattle.polyover_c.specs.declared.status.Status.{Status}

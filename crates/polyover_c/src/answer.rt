@@ -5,12 +5,12 @@ ghost use Rattle.overlay_geom.specs.Paths.{plain_shapes};
 ghost use Rattle.polyover_c.specs.Written.{AreFlattened, ArePut, flat_shapes, shape_room};
 
 use crate::counts::Counts;
+use crate::flatten::{coordinates_of, ends_of};
 use crate::status::Status;
+use crate::write::write_over;
 use overlay_geom::flat::shapes::FlatShapesBuffer;
 use overlay_geom::number::IntNumber;
 use overlay_geom::path::IntShape;
-use polyover_arrays::flatten::{coordinates_of, ends_of};
-use polyover_arrays::write::write_over;
 use std::alloc::Global;
 
 /// Shapes as arrays: the coordinates, the ends of contours among the points, and those of shapes among the contours.

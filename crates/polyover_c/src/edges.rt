@@ -13,6 +13,7 @@ ghost use Rattle.polyover_c.specs.Listed.{IsListingRefused, ListingEnds};
 use crate::given::{Contours, read_both};
 use crate::numbers::{fill_of, solver_of};
 use crate::status::Status;
+use crate::write::write_over;
 use i_overlay::fill_rule::FillRule;
 use i_overlay::overlay::{IntOverlayOptions, Overlay};
 use i_overlay::solver::Solver;
@@ -21,7 +22,6 @@ use overlay_geom::error::OverlayError;
 use overlay_geom::flat::contours::FlatContoursBuffer;
 use overlay_geom::integer::OverlayInt;
 use overlay_geom::number::IntNumber;
-use polyover_arrays::write::write_over;
 use std::alloc::Global;
 
 // Edges as arrays: of each the coordinates of both ends, and its fill bits.

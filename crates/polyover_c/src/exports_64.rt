@@ -1,7 +1,7 @@
 //! The calls of C at 64 bits.
 
 ghost use Rattle.std.specs.Prelude.{◌≡◌, ◌↔◌, ◌≤◌};
-ghost use Rattle.polyover_arrays.specs.Reading.{AreWithin};
+ghost use Rattle.polyover_c.specs.Reading.{AreWithin};
 ghost use Rattle.std.specs.Int.{w128};
 ghost use Rattle.polyover_c.specs.Given.{contours_of};
 ghost use Rattle.polyover_c.specs.Options.{options_64};
@@ -19,7 +19,7 @@ use crate::options::{Options64, area_of};
 use crate::overlay::overlay_arrays;
 use crate::shape::status_read;
 use crate::simplify::simplify_arrays;
-use polyover_arrays::test::are_within;
+use crate::test::are_within;
 use std::alloc::Global;
 
 /// Whether each coordinate is in the coordinate range: 1, or 0.

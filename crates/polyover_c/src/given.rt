@@ -5,11 +5,11 @@ ghost use Rattle.overlay_geom.specs.Flat.{paths_in};
 ghost use Rattle.overlay_geom.specs.Points.{AllInRange};
 ghost use Rattle.polyover_c.specs.Given.{AreGiven, AreUnread, contours_of, paths_of};
 
+use crate::fault::Fault;
+use crate::read::tested_contours;
+use crate::test::test_contours;
 use overlay_geom::flat::contours::FlatContoursBuffer;
 use overlay_geom::number::IntNumber;
-use polyover_arrays::fault::Fault;
-use polyover_arrays::read::tested_contours;
-use polyover_arrays::test::test_contours;
 use std::alloc::Global;
 
 /// Contours as arrays have them.

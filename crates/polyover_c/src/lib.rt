@@ -2,6 +2,7 @@
 #![tactic(auto)]
 
 mod answer;
+pub mod array_laws;
 pub mod arrays;
 mod clip;
 pub mod clip_options;
@@ -10,6 +11,8 @@ mod edges;
 pub mod exports;
 pub mod exports_32;
 pub mod exports_64;
+mod fault;
+mod flatten;
 mod given;
 pub mod held;
 mod hierarchy;
@@ -24,8 +27,11 @@ pub mod options;
 mod overlay;
 mod path_answer;
 pub mod path_counts;
+mod read;
 mod relate;
 mod shape;
 mod simplify;
 mod slice;
 mod status;
+mod test;
+mod write;

@@ -8,12 +8,12 @@ ghost use Rattle.polyover_c.specs.Written.{AreFlattened, flat_shapes};
 
 use crate::answer::Answer;
 use crate::counts::Counts;
+use crate::flatten::{coordinates_of, ends_of};
 use crate::links::{Link, links_of};
 use crate::status::Status;
+use crate::write::write_over;
 use i_overlay::hierarchy::FlatShapeHierarchy;
 use overlay_geom::number::IntNumber;
-use polyover_arrays::flatten::{coordinates_of, ends_of};
-use polyover_arrays::write::write_over;
 use std::alloc::Global;
 
 /// Shapes as arrays, and the links between them.

@@ -9,17 +9,17 @@ ghost use Rattle.polyover_c.specs.Located.{AreNumbers, LocatingEnds, number_of};
 ghost use Rattle.polyover_c.specs.declared.status.Status.TheVariants.{Done};
 
 use crate::given::Contours;
+use crate::read::{tested_contours, tested_points};
 use crate::shape::{first_unresolved, shape_of};
 use crate::status::Status;
+use crate::test::{count_points, test_contours, test_points};
+use crate::write::write_over;
 use overlay_geom::error::OverlayError;
 use overlay_geom::flat::contours::FlatContoursBuffer;
 use overlay_geom::integer::OverlayInt;
 use overlay_geom::point::IntPoint;
 use overlay_relate::containment::IntPointContainment;
 use overlay_relate::location::PointLocation;
-use polyover_arrays::read::{tested_contours, tested_points};
-use polyover_arrays::test::{count_points, test_contours, test_points};
-use polyover_arrays::write::write_over;
 use std::alloc::Global;
 
 /// Where each point lies in the contours, as one shape, written as a number for each; or, where a contour is not

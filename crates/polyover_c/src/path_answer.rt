@@ -4,13 +4,13 @@ ghost use Rattle.std.specs.Prelude.{IfOk, IsOkUnless};
 ghost use Rattle.overlay_geom.specs.Paths.{paths_of_shape};
 ghost use Rattle.polyover_c.specs.WrittenPaths.{ArePathsFlattened, ArePathsPut, flat_paths, path_room};
 
+use crate::flatten::{coordinates_of, ends_of};
 use crate::path_counts::PathCounts;
 use crate::status::Status;
+use crate::write::write_over;
 use overlay_geom::flat::contours::FlatContoursBuffer;
 use overlay_geom::number::IntNumber;
 use overlay_geom::path::IntPath;
-use polyover_arrays::flatten::{coordinates_of, ends_of};
-use polyover_arrays::write::write_over;
 use std::alloc::Global;
 
 /// Paths as arrays: the coordinates, and the ends of paths among the points.

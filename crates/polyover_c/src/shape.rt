@@ -10,6 +10,7 @@ ghost use Rattle.polyover_c.specs.Located.{IsFirstUnresolved};
 ghost use Rattle.polyover_c.specs.Statuses.{ReadsAs};
 ghost use Rattle.polyover_c.specs.declared.status.Status.TheVariants.{Done};
 
+use crate::read::read_contours;
 use crate::status::Status;
 use overlay_geom::error::OverlayError;
 use overlay_geom::flat::contours::FlatContoursBuffer;
@@ -17,7 +18,6 @@ use overlay_geom::number::IntNumber;
 use overlay_geom::path::IntShape;
 use overlay_geom::resource::IntShapeResource;
 use overlay_relate::resolved::is_resolved_in;
-use polyover_arrays::read::read_contours;
 use std::alloc::Global;
 
 /// The status with which contours are read as a shape.

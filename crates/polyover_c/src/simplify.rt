@@ -17,6 +17,7 @@ use crate::answer::{Answer, flattened, put};
 use crate::counts::Counts;
 use crate::given::Contours;
 use crate::numbers::{OptionNumbers, fill_of, known_solver, options_of};
+use crate::read::read_contours;
 use crate::status::Status;
 use i_overlay::fill_rule::FillRule;
 use i_overlay::overlay::{IntOverlayOptions, Overlay};
@@ -26,7 +27,6 @@ use overlay_geom::error::OverlayError;
 use overlay_geom::flat::contours::FlatContoursBuffer;
 use overlay_geom::integer::OverlayInt;
 use overlay_geom::path::IntShapes;
-use polyover_arrays::read::read_contours;
 use std::alloc::Global;
 
 /// The shapes that the contours are simplified to, put into the arrays.

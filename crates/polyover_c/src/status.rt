@@ -4,8 +4,8 @@ ghost use Rattle.std.specs.Prelude.{◌≡◌};
 ghost use Rattle.polyover_c.specs.Statuses.{code_of, status_of_error, status_of_fault};
 ghost use Rattle.polyover_c.specs.declared.status.Status.TheVariants.{Memory};
 
+use crate::fault::Fault;
 use overlay_geom::error::OverlayError;
-use polyover_arrays::fault::Fault;
 use std::alloc::{AllocError, AllocFailed};
 
 /// How a call ends.

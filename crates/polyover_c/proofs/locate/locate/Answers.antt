@@ -2,7 +2,7 @@
 use Rattle.std.proofs.Common.{ap, subst, ◌∙◌, arith}
 use Rattle.overlay_geom.specs.Flat.{paths_in}
 use Rattle.overlay_geom.specs.Points.{plain_points}
-use Rattle.polyover_arrays.specs.Arrays.{written_over}
+use Rattle.polyover_c.specs.Arrays.{written_over}
 use Rattle.polyover_c.proofs.Located.{located_ends}
 use Rattle.polyover_c.specs.Given.{contours_of}
 use Rattle.polyover_c.specs.Located.{AreNumbers}

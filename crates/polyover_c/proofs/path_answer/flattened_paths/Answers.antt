@@ -5,7 +5,7 @@ use Rattle.overlay_geom.specs.Packed.{IsPacked}
 use Rattle.overlay_geom.specs.Points.{plain_points}
 use Rattle.overlay_geom.proofs.Mapped.{mapped_more, mapped_whole}
 use Rattle.overlay_geom.proofs.PackedPaths.{packed_none, packed_inside, packed_more}
-use Rattle.polyover_arrays.specs.Arrays.{coordinates_of, ends_of}
+use Rattle.polyover_c.specs.Arrays.{coordinates_of, ends_of}
 use Rattle.polyover_c.proofs.path_answer.flattened_paths.Goals as goal
 
 pub loop-path-init : goal.loop-path-init

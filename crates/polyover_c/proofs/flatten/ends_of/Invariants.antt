@@ -1,0 +1,7 @@
+use Rattle.std.proofs.Common.{◌≡◌, ◌++◌, drop}
+use Rattle.polyover_c.specs.Arrays.{ends_of}
+use Rattle.polyover_c.proofs.flatten.ends_of.Given as goal
+
+-- with the ends so far, those that are left are all ends
+abbrev pub invariant-loop-range : goal.invariant-loop-range
+invariant-loop-range g l = l.ends.items ++ ends_of (drop l.range-index l.ranges) ≡ ends_of l.ranges

@@ -1,0 +1,41 @@
+//! Points and ranges as plain numbers.
+
+ghost use Rattle.std.specs.Prelude.{◌≡◌, IfOk, IsOkUnless};
+ghost use Rattle.polyover_c.specs.Arrays.{coordinates_of, ends_of};
+
+use overlay_geom::error::OverlayError;
+use overlay_geom::number::IntNumber;
+use overlay_geom::point::IntPoint;
+use std::alloc::Allocator;
+use std::ops::Range;
+
+/// The coordinates of the points, of each x before y. The only refusal is `Memory`.
+pub fn coordinates_of<I: IntNumber, A: Allocator>(
+    alloc: A,
+    points: &[IntPoint<I>],
+) -> Result<Vec<I, A>, OverlayError>
+    ensures coordinates { IfOk result (λ v. v.items ≡ coordinates_of points.now) }
+    ensures only { IsOkUnless result OverlayError.Memory }
+{
+    let mut coordinates = Vec::new(alloc);
+    for point in points {
+        coordinates.push(point.x)?;
+        coordinates.push(point.y)?;
+    }
+    Ok(coordinates)
+}
+
+/// The end of each range. The only refusal is `Memory`.
+pub fn ends_of<A: Allocator>(
+    alloc: A,
+    ranges: &[Range<usize>],
+) -> Result<Vec<usize, A>, OverlayError>
+    ensures ends { IfOk result (λ v. v.items ≡ ends_of ranges.now) }
+    ensures only { IsOkUnless result OverlayError.Memory }
+{
+    let mut ends = Vec::new(alloc);
+    for range in ranges {
+        ends.push(range.end)?;
+    }
+    Ok(ends)
+}
