@@ -9,10 +9,11 @@ use i_overlay::i_shape::int::path::PathRef;
 use i_overlay::i_shape::int::shape::IntContour;
 use i_overlay::overlay::IntOverlayOptions;
 use i_overlay::overlay_rule::OverlayRule;
-use i_overlay::point_location::{IntPointContainment, PointLocation};
+use i_overlay::point_location::{IntPointContainment, PointLocation, PreparedShape};
 use i_overlay::relate::IntRelate;
 use i_overlay::simplify::Simplify;
 use i_overlay::single::SingleIntOverlay;
+use i_overlay::solver::Solver;
 use i_overlay::string::clip::{ClipRule, IntClip};
 use i_overlay::string::slice::IntSlice;
 use i_overlay::vector::edge::{DataVectorEdge, DataVectorPath, ToPath};
@@ -186,6 +187,22 @@ fn check_points<I: Width>(trial: &Trial<'_, impl Abort>) -> Result<(), Fail> {
         "IntShapes::locate_points",
     ];
     locates(trial, names, &lone_squares::<I>(memory)?)
+}
+
+fn check_prepared<I: Width>(trial: &Trial<'_, impl Abort>) -> Result<(), Fail> {
+    let memory = trial.memory;
+    let shape = squares::<I>(memory, PATHS)?;
+    let prepared = trial.refuse_call("PreparedShape::new", || {
+        PreparedShape::new(memory, &shape, RULE, Solver::SNAPPED)
+    })?;
+    assert!(trial.rt; prepared.locate(point(11, 11)) == PointLocation::Inside);
+    assert!(trial.rt; prepared.locate(point(9, 9)) == PointLocation::Outside);
+    Ok(())
+}
+
+#[test]
+fn prepared_shapes(rt: HostRuntime) -> Result<(), Fail> {
+    at_a_width!(rt, check_prepared)
 }
 
 #[test]

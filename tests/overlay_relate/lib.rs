@@ -6,6 +6,7 @@ mod borders;
 mod built;
 mod many;
 mod predicates;
+mod prepared;
 mod relations;
 mod resolved;
 mod rows;

@@ -5,7 +5,12 @@ pub mod ApartInOrder
 pub mod Asked
 pub mod Beside
 pub mod BitsTell
+pub mod Bounding
+pub mod BoundingBits
+pub mod ByEdge
 pub mod ByStart
+pub mod ClearEdges
+pub mod CountedBelow
 pub mod CoversByEdges
 pub mod ExchangedMeetings
 pub mod ExchangedMerges
@@ -27,6 +32,7 @@ pub mod OnWalls
 pub mod Parities
 pub mod PredicateBuilders
 pub mod PredicatesTogether
+pub mod PreparedOf
 pub mod Pushed
 pub mod QueryAtHand
 pub mod RunsOver

@@ -5,8 +5,11 @@ use Rattle.std.proofs.Common.{ap₂, ◌∙◌, subst, arith}
 use Rattle.std.specs.List.{All, Any}
 use Rattle.std.proofs.lemmas.Bool.{both_ways}
 use Rattle.overlay_geom.specs.Plane.{Point, PlanePoint, Edge, in_plane, IsOn}
+use Rattle.overlay_geom.specs.Edges.{subj_of}
+use Rattle.overlay_plane.specs.Predicates.{fills_at}
 use Rattle.overlay_relate.specs.Answers.{AnswersEach}
-use Rattle.overlay_relate.specs.Determined.{OneLocationIn, OneLocationAmong}
+use Rattle.overlay_relate.specs.Bounded.{boundary_of}
+use Rattle.overlay_relate.specs.Determined.{OneLocationIn, OneLocationAmong, OneLocationUnder}
 use Rattle.overlay_relate.specs.Locations.{IsLocated, IsLocatedIn, IsLocatedAmong, shape_edges, is_in_shape}
 use Rattle.overlay_relate.specs.declared.location.PointLocation.{PointLocation}
 use Rattle.overlay_relate.specs.declared.location.PointLocation.TheVariants.{Inside, Boundary, Outside}
@@ -98,3 +101,8 @@ one_location_in shape queries first second = one_list_of_answers (λ q l. IsLoca
 pub one_location_among : OneLocationAmong
 one_location_among shapes queries first second = one_list_of_answers (λ q l. IsLocatedAmong shapes (in_plane q) l)
     (λ q. one_among shapes (in_plane q)) queries first second
+
+-- ---- in the shape of an arrangement
+
+pub one_location_under : OneLocationUnder
+one_location_under filled es p l m = one_located (boundary_of filled es) (fills_at filled es subj_of p) p l m

@@ -1,8 +1,9 @@
 -- Locations and relations are the only ones.
 use Rattle.std.specs.Prelude.{◌≡◌, ℤ, Bool, List}
-use Rattle.overlay_geom.specs.Plane.{Point}
+use Rattle.overlay_geom.specs.Plane.{Point, PlanePoint}
 use Rattle.overlay_geom.specs.Edges.{CountedEdge}
 use Rattle.overlay_relate.specs.Answers.{AnswersWhere}
+use Rattle.overlay_relate.specs.Bounded.{IsLocatedUnder}
 use Rattle.overlay_relate.specs.Locations.{IsLocatedIn, IsLocatedAmong}
 use Rattle.overlay_relate.specs.PredicateQueries.{AreRelations}
 use Rattle.overlay_relate.specs.declared.location.PointLocation.{PointLocation}
@@ -18,6 +19,11 @@ abbrev pub OneLocationAmong : Type 0
 OneLocationAmong = (shapes : List (List (List Point))) (queries : List Point) (first second : List PointLocation) →
     AnswersWhere (IsLocatedAmong shapes) queries first → AnswersWhere (IsLocatedAmong shapes) queries second →
     first ≡ second
+
+-- and two locations of a point in the shape of an arrangement
+abbrev pub OneLocationUnder : Type 0
+OneLocationUnder = (filled : ℤ → Bool) (es : List CountedEdge) (p : PlanePoint) (l m : PointLocation) →
+    IsLocatedUnder filled es p l → IsLocatedUnder filled es p m → l ≡ m
 
 -- two answers that tell of one arrangement are one
 abbrev pub OneAnswerOfRelations : Type 0

@@ -1,4 +1,7 @@
 pub mod Answers
+pub mod Blocks
+pub mod Boundaries
+pub mod Bounded
 pub mod Determined
 pub mod EdgeTests
 pub mod Exchanged
@@ -9,6 +12,7 @@ pub mod Locations
 pub mod PredicateBuilder
 pub mod PredicateLaws
 pub mod PredicateQueries
+pub mod Prepared
 pub mod Queries
 pub mod Resolved
 pub mod Runs

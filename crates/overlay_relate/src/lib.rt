@@ -1,7 +1,10 @@
 //! Where points lie: inside contours and shapes, on their edges, or outside; and how two shapes lie to each other.
 #![tactic(auto)]
 
+mod blocks;
 mod border_end;
+mod boundary;
+mod by_edge;
 pub mod containment;
 mod contour_edges;
 mod edge_answers;
@@ -13,9 +16,11 @@ mod joined;
 pub mod laws;
 pub mod location;
 pub mod only_relations;
+mod order;
 mod predicate;
 pub mod predicate_laws;
 pub mod predicate_overlay;
+pub mod prepared;
 mod queries;
 pub mod relations;
 pub mod resolved;

@@ -1,11 +1,14 @@
 //! Locations and relations are the only ones that their contracts allow.
 
-ghost use Rattle.overlay_relate.specs.Determined.{OneLocationIn, OneLocationAmong, OneAnswerOfRelations};
+ghost use Rattle.overlay_relate.specs.Determined.{OneLocationIn, OneLocationAmong, OneLocationUnder};
+ghost use Rattle.overlay_relate.specs.Determined.{OneAnswerOfRelations};
 
-/// Two lists of locations of the same points, in one shape or among the same shapes, are equal.
+/// Two lists of locations of the same points, in one shape or among the same shapes, are equal; so are two locations
+/// of a point in the shape of one arrangement.
 pub fn one_location()
     ensures shape { OneLocationIn }
     ensures shapes { OneLocationAmong }
+    ensures under { OneLocationUnder }
 {}
 
 /// Two answers that tell of the relations of one arrangement are equal.

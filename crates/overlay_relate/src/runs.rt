@@ -1,10 +1,11 @@
 //! Runs of points, sorted by x, that may lie in contours.
 
-ghost use Rattle.std.specs.Prelude.{◌≤◌, ◌≤ℤ◌, [], ◌∷◌};
+ghost use Rattle.std.specs.Prelude.{◌≤◌, [], ◌∷◌};
 ghost use Rattle.overlay_geom.specs.Points.{plain_points};
 ghost use Rattle.overlay_geom.specs.Paths.{paths_of_shape};
 ghost use Rattle.overlay_relate.specs.Runs.{AreByX, IsSpan, IsRunOver, IsHull};
 
+use crate::order::{greater, lesser};
 use overlay_geom::number::IntNumber;
 use overlay_geom::path::IntContour;
 use overlay_geom::point::IntPoint;
@@ -75,20 +76,4 @@ fn span_of<I: IntNumber>(x: I, points: &[IntPoint<I>]) -> (I, I)
         high = greater(high, p.x);
     }
     (low, high)
-}
-
-/// The lesser of two numbers.
-fn lesser<I: IntNumber>(x: I, y: I) -> I
-    ensures first { I.whole result ≤ℤ I.whole x }
-    ensures second { I.whole result ≤ℤ I.whole y }
-{
-    if y.compare(x).is_lt() { y } else { x }
-}
-
-/// The greater of two numbers.
-fn greater<I: IntNumber>(x: I, y: I) -> I
-    ensures first { I.whole x ≤ℤ I.whole result }
-    ensures second { I.whole y ≤ℤ I.whole result }
-{
-    if x.compare(y).is_lt() { y } else { x }
 }

@@ -71,8 +71,8 @@ impl<I: OverlayInt, A: Allocator + Clone> PredicateOverlay<I, A> {
         Ok(overlay)
     }
 
-    // An empty builder with room for so many edges, and these settings.
-    fn with_settings(
+    /// An empty builder with room for so many edges, and these settings.
+    pub(crate) fn with_settings(
         alloc: A,
         capacity: usize,
         fill_rule: FillRule,

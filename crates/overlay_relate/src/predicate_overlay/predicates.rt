@@ -4,6 +4,8 @@ ghost use Rattle.std.specs.Prelude.{◌≡◌, false, IfOk, IfSome, IsErrOf, IsO
 ghost use Rattle.overlay_plane.specs.Predicates.{Intersects, InteriorsIntersect, Touches, PointIntersects};
 ghost use Rattle.overlay_plane.specs.Predicates.{IsWithin, Covers};
 ghost use Rattle.overlay_arrange.specs.Arranged.{WasArranged};
+ghost use Rattle.overlay_arrange.specs.Graphs.{graph_edges};
+ghost use Rattle.overlay_plane.specs.Balance.{HasBalancedCounts};
 ghost use Rattle.overlay_builder.specs.Held.{AnswersQuery};
 ghost use Rattle.overlay_relate.specs.Found.{IsFoundUnder};
 ghost use Rattle.overlay_relate.specs.PredicateBuilder.{held_by};
@@ -14,6 +16,8 @@ use crate::found::Found;
 use crate::predicate::Predicate;
 use crate::predicate_overlay::PredicateOverlay;
 use crate::relations::Relations;
+use overlay_arrange::count::ShapeCountBoolean;
+use overlay_arrange::graph::Graph;
 use overlay_geom::error::OverlayError;
 use overlay_geom::integer::OverlayInt;
 use std::alloc::Allocator;
@@ -105,8 +109,8 @@ impl<I: OverlayInt, A: Allocator + Clone> PredicateOverlay<I, A> {
         Ok(found.answer(predicate))
     }
 
-    // Splits the edges where they meet. Where something was found of them they are an arrangement.
-    fn arrange(&mut self) -> Result<(), OverlayError>
+    /// Splits the edges where they meet. Where something was found of them they are an arrangement.
+    pub(crate) fn arrange(&mut self) -> Result<(), OverlayError>
         ensures query { AnswersQuery I.limit self.old.solver (held_by self.old) (held_by self.new) result }
         ensures kept { self.new ≡ record self.old { edges = self.new.edges; failed = self.new.failed } }
         ensures untouched { IsErrOf result OverlayError.Failed → self.new ≡ self.old }
@@ -161,7 +165,19 @@ impl<I: OverlayInt, A: Allocator + Clone> PredicateOverlay<I, A> {
         ensures rule { IfOk result (λ f. f.fill_rule ≡ self.now.fill_rule) }
         ensures err { IsOkUnless result OverlayError.Memory }
     {
-        let graph = self.core.content().graph_of_balanced(self.fill_rule)?;
+        let graph = self.graph()?;
         found_in(&graph, self.fill_rule)
+    }
+
+    /// The graph of the arranged edges under the fill rule. The only refusal is `Memory`.
+    pub(crate) fn graph(&self) -> Result<Graph<I, ShapeCountBoolean, A>, OverlayError>
+        requires usable { self.now.failed ≡ false }
+        requires arranged { WasArranged self.now.edges }
+        ensures edges { IfOk result (λ g. graph_edges g ≡ self.now.edges) }
+        ensures rule { IfOk result (λ g. g.fill_rule ≡ self.now.fill_rule) }
+        ensures balanced { HasBalancedCounts self.now.edges }
+        ensures err { IsOkUnless result OverlayError.Memory }
+    {
+        self.core.content().graph_of_balanced(self.fill_rule)
     }
 }

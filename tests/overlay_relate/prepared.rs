@@ -1,0 +1,268 @@
+//! Prepared shapes: where points lie in holes, in contours that cross, on corners and edges, and past the range.
+
+use crate::asked::points;
+use overlay_arrange::fill_rule::FillRule;
+use overlay_builder::solver::Solver;
+use overlay_geom::integer::OverlayInt;
+use overlay_geom::path::IntShape;
+use overlay_geom::point::{IntPoint, in_range};
+use overlay_relate::location::PointLocation;
+use overlay_relate::location::PointLocation::{Boundary, Inside, Outside};
+use overlay_relate::prepared::PreparedShape;
+use std::alloc::Global;
+use std::process::Abort;
+use std::test::Fail;
+
+// A point, and where it lies.
+type Row = ([i16; 2], PointLocation);
+
+// The contours with these points.
+fn contours<I: OverlayInt + From<i16>>(
+    alloc: Global,
+    all: &[&[[i16; 2]]],
+) -> Result<IntShape<I, Global>, Fail> {
+    let mut shape = Vec::new(alloc);
+    for contour in all {
+        shape.push(points::<I>(alloc, contour)?)?;
+    }
+    Ok(shape)
+}
+
+// Asks the shape of contours in range about each point, by either solver.
+fn ask<I: OverlayInt + From<i16>>(
+    rt: &impl Abort,
+    alloc: Global,
+    all: &[&[[i16; 2]]],
+    fill_rule: FillRule,
+    rows: &[Row],
+) -> Result<(), Fail> {
+    let shape = contours::<I>(alloc, all)?;
+    for contour in &shape {
+        assert!(rt; in_range(contour));
+    }
+    for solver in [Solver::ABSOLUTE, Solver::SNAPPED] {
+        let prepared = PreparedShape::new(alloc, &shape, fill_rule, solver)?;
+        for (at, wanted) in rows {
+            let point = IntPoint::new(I::from(at[0]), I::from(at[1]));
+            assert!(rt; prepared.locate(point) == *wanted);
+        }
+    }
+    Ok(())
+}
+
+// The same at each coordinate type.
+fn ask_each(
+    rt: &impl Abort,
+    alloc: Global,
+    all: &[&[[i16; 2]]],
+    fill_rule: FillRule,
+    rows: &[Row],
+) -> Result<(), Fail> {
+    ask::<i16>(rt, alloc, all, fill_rule, rows)?;
+    ask::<i32>(rt, alloc, all, fill_rule, rows)?;
+    ask::<i64>(rt, alloc, all, fill_rule, rows)
+}
+
+const OUTER: [[i16; 2]; 4] = [[0, 0], [10, 0], [10, 10], [0, 10]];
+
+const HOLE: [[i16; 2]; 4] = [[3, 3], [3, 6], [6, 6], [6, 3]];
+
+#[test]
+fn a_hole(rt: HostRuntime) -> Result<(), Fail> {
+    let rows = [
+        ([1, 1], Inside),
+        ([4, 4], Outside),
+        ([3, 4], Boundary),
+        ([4, 3], Boundary),
+        ([4, 6], Boundary),
+        ([0, 0], Boundary),
+        ([10, 0], Boundary),
+        ([10, 10], Boundary),
+        ([6, 6], Boundary),
+        ([6, 2], Inside),
+        ([6, 7], Inside),
+        ([10, 5], Boundary),
+        ([-1, 5], Outside),
+        ([11, 5], Outside),
+        ([5, 11], Outside),
+        ([5, -1], Outside),
+        ([10, 11], Outside),
+        ([0, 11], Outside),
+        ([0, -1], Outside),
+    ];
+    for fill_rule in [FillRule::EvenOdd, FillRule::NonZero, FillRule::Positive] {
+        ask_each(&rt, rt.alloc(), &[&OUTER, &HOLE], fill_rule, &rows)?;
+    }
+    Ok(())
+}
+
+// It winds once round its left half, and once the other way round its right half.
+const CROSSED: [[i16; 2]; 4] = [[0, 0], [4, 4], [4, 0], [0, 4]];
+
+#[test]
+fn a_contour_that_crosses_itself(rt: HostRuntime) -> Result<(), Fail> {
+    let both = [
+        ([1, 2], Inside),
+        ([3, 2], Inside),
+        ([2, 2], Boundary),
+        ([0, 2], Boundary),
+        ([4, 2], Boundary),
+        ([3, 3], Boundary),
+        ([2, 1], Outside),
+        ([2, 3], Outside),
+    ];
+    let left = [
+        ([1, 2], Inside),
+        ([3, 2], Outside),
+        ([2, 2], Boundary),
+        ([0, 2], Boundary),
+        ([1, 1], Boundary),
+        ([4, 2], Outside),
+        ([3, 3], Outside),
+        ([4, 4], Outside),
+    ];
+    let right = [
+        ([1, 2], Outside),
+        ([3, 2], Inside),
+        ([2, 2], Boundary),
+        ([0, 2], Outside),
+        ([1, 1], Outside),
+        ([0, 0], Outside),
+        ([4, 2], Boundary),
+        ([3, 3], Boundary),
+    ];
+    let alloc = rt.alloc();
+    ask_each(&rt, alloc, &[&CROSSED], FillRule::EvenOdd, &both)?;
+    ask_each(&rt, alloc, &[&CROSSED], FillRule::NonZero, &both)?;
+    ask_each(&rt, alloc, &[&CROSSED], FillRule::Positive, &left)?;
+    ask_each(&rt, alloc, &[&CROSSED], FillRule::Negative, &right)
+}
+
+const LARGE: [[i16; 2]; 4] = [[0, 0], [4, 0], [4, 4], [0, 4]];
+
+const BESIDE: [[i16; 2]; 4] = [[2, 1], [6, 1], [6, 3], [2, 3]];
+
+// Two contours overlap: of their edges in the overlap both sides are filled by NonZero, and one by EvenOdd.
+#[test]
+fn edges_with_both_sides_filled(rt: HostRuntime) -> Result<(), Fail> {
+    let filled = [
+        ([2, 2], Inside),
+        ([2, 1], Inside),
+        ([3, 1], Inside),
+        ([4, 2], Inside),
+        ([3, 2], Inside),
+        ([4, 1], Boundary),
+        ([4, 3], Boundary),
+        ([5, 1], Boundary),
+        ([2, 0], Boundary),
+        ([5, 2], Inside),
+        ([5, 4], Outside),
+    ];
+    let by_turns = [
+        ([2, 2], Boundary),
+        ([2, 1], Boundary),
+        ([3, 1], Boundary),
+        ([4, 2], Boundary),
+        ([3, 2], Outside),
+        ([4, 1], Boundary),
+        ([1, 2], Inside),
+        ([5, 2], Inside),
+    ];
+    let alloc = rt.alloc();
+    ask_each(&rt, alloc, &[&LARGE, &BESIDE], FillRule::NonZero, &filled)?;
+    ask_each(&rt, alloc, &[&LARGE, &BESIDE], FillRule::EvenOdd, &by_turns)
+}
+
+// Of no edge is a side filled, or there is no edge.
+#[test]
+fn nothing_filled(rt: HostRuntime) -> Result<(), Fail> {
+    let rows = [([0, 0], Outside), ([2, 2], Outside), ([2, 0], Outside)];
+    let alloc = rt.alloc();
+    ask_each(&rt, alloc, &[&LARGE], FillRule::Negative, &rows)?;
+    ask_each(&rt, alloc, &[], FillRule::NonZero, &rows)?;
+    ask_each(&rt, alloc, &[&[[0, 0], [4, 0]]], FillRule::NonZero, &rows)
+}
+
+// A triangle over half the range, whose long edge passes through (0, 0), by the greatest coordinate.
+fn at_the_ends<I: OverlayInt + From<i16>>(
+    rt: &impl Abort,
+    alloc: Global,
+    low: I,
+    high: I,
+    past: [I; 2],
+    least: I,
+    greatest: I,
+) -> Result<(), Fail> {
+    let corners = [
+        IntPoint::new(low, low),
+        IntPoint::new(high, low),
+        IntPoint::new(high, high),
+    ];
+    assert!(rt; in_range(&corners));
+    let mut shape: IntShape<I, Global> = Vec::new(alloc);
+    shape.push(Vec::from_array(alloc, corners)?)?;
+    let prepared = PreparedShape::new(alloc, &shape, FillRule::NonZero, Solver::ABSOLUTE)?;
+    let [zero, one, less] = [I::from(0), I::from(1), I::from(-1)];
+    let rows = [
+        (low, low, Boundary),
+        (high, high, Boundary),
+        (zero, zero, Boundary),
+        (one, zero, Inside),
+        (less, zero, Outside),
+        (zero, low, Boundary),
+        (high, one, Boundary),
+        (zero, past[0], Outside),
+        (zero, past[1], Outside),
+        (past[0], low, Outside),
+        (past[1], one, Outside),
+        (high, past[1], Outside),
+        (greatest, greatest, Outside),
+        (least, least, Outside),
+        (one, greatest, Outside),
+        (one, least, Outside),
+        (greatest, zero, Outside),
+        (least, zero, Outside),
+    ];
+    for (x, y, wanted) in rows {
+        assert!(rt; prepared.locate(IntPoint::new(x, y)) == wanted);
+    }
+    Ok(())
+}
+
+#[test]
+fn ends_of_the_range(rt: HostRuntime) -> Result<(), Fail> {
+    let alloc = rt.alloc();
+    let past: [i16; 2] = [-16384, 16384];
+    at_the_ends::<i16>(&rt, alloc, -16383, 16383, past, i16::MIN, i16::MAX)?;
+    let past: [i32; 2] = [-1073741824, 1073741824];
+    let high = 1073741823;
+    at_the_ends::<i32>(&rt, alloc, -high, high, past, i32::MIN, i32::MAX)?;
+    let past: [i64; 2] = [-4611686018427387904, 4611686018427387904];
+    let high = 4611686018427387903;
+    at_the_ends::<i64>(&rt, alloc, -high, high, past, i64::MIN, i64::MAX)
+}
+
+// Squares in a row, 1500 of them: their edges are in many blocks and in two groups.
+#[test]
+fn many_squares_in_a_row(rt: HostRuntime) -> Result<(), Fail> {
+    let alloc = rt.alloc();
+    let mut shape: IntShape<i32, Global> = Vec::new(alloc);
+    for n in 0..1500 {
+        let x = 4 * n;
+        let square = [[x, 0], [x + 2, 0], [x + 2, 2], [x, 2]];
+        shape.push(Vec::from_array(alloc, square.map(|at| IntPoint::new(at[0], at[1])))?)?;
+    }
+    for contour in &shape {
+        assert!(&rt; in_range(contour));
+    }
+    let prepared = PreparedShape::new(alloc, &shape, FillRule::EvenOdd, Solver::ABSOLUTE)?;
+    for n in 0..1500 {
+        let x = 4 * n;
+        assert!(&rt; prepared.locate(IntPoint::new(x + 1, 1)) == Inside);
+        assert!(&rt; prepared.locate(IntPoint::new(x + 3, 1)) == Outside);
+        assert!(&rt; prepared.locate(IntPoint::new(x, 1)) == Boundary);
+        assert!(&rt; prepared.locate(IntPoint::new(x + 2, 2)) == Boundary);
+        assert!(&rt; prepared.locate(IntPoint::new(x + 1, 3)) == Outside);
+    }
+    Ok(())
+}
