@@ -3,6 +3,7 @@ pub mod Endings
 pub mod Hierarchies
 pub mod Listed
 pub mod Located
+pub mod OneFault
 pub mod OnePut
 pub mod Overlays
 pub mod Refusals
