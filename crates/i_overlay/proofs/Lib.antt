@@ -1,6 +1,7 @@
 mod Rows
 pub mod Builders
 pub mod HeldAlone
+pub mod OneQuery
 pub mod OneShots
 pub mod OneSimplified
 pub mod Queries

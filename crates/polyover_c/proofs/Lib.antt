@@ -4,6 +4,7 @@ pub mod Endings
 pub mod Hierarchies
 pub mod Listed
 pub mod Located
+pub mod OneFault
 pub mod OnePacking
 pub mod OnePut
 pub mod OneTest

@@ -9,12 +9,12 @@ use Rattle.polyover_c.specs.declared.fault.Fault.TheVariants.{Memory, Ends, Rang
 
 module _ {I : Type 0} (whole : I → ℤ) (limit : ℕ) (cs : List I) where
   module _ (ends : List ℕ) where
-    no_fault : AreContours whole limit cs ends → (f : Fault) → ¬ (HaveOwnFault whole limit cs ends f)
+    pub no_fault : AreContours whole limit cs ends → (f : Fault) → ¬ (HaveOwnFault whole limit cs ends f)
     no_fault are Memory fault = fault
     no_fault are Ends fault = both_ways (are_ends ends (length cs)) fault are.fit
     no_fault are Range fault = fault.1 are.within
 
-    one_fault : (f g : Fault) → HaveOwnFault whole limit cs ends f → HaveOwnFault whole limit cs ends g → f ≡ g
+    pub one_fault : (f g : Fault) → HaveOwnFault whole limit cs ends f → HaveOwnFault whole limit cs ends g → f ≡ g
     one_fault Memory g a b = absurd a
     one_fault Ends Memory a b = absurd b
     one_fault Ends Ends a b = refl
