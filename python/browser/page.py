@@ -253,6 +253,29 @@ class Browser:
         self.mouse("mouseReleased", x, y, button)
         self.wait()
 
+    def double_click(self, x, y):
+        """Clicks twice at a point."""
+        for clicks in (1, 2):
+            self.mouse("mousePressed", x, y, clicks=clicks)
+            self.mouse("mouseReleased", x, y, clicks=clicks)
+        self.wait()
+
+    def wheel(self, x, y, down):
+        """Turns the wheel over a point, by some pixels."""
+        left, top = self.run(PLACE, x, y)
+        event = {"type": "mouseWheel", "x": left, "y": top, "deltaX": 0, "deltaY": down}
+        self.driver.execute_cdp_cmd("Input.dispatchMouseEvent", event)
+        self.wait()
+
+    def touch(self, *places):
+        """Moves fingers, each by a list of points, and lifts them."""
+        ways = [[dict(zip("xy", self.run(PLACE, *point))) for point in points] for points in places]
+        for at, points in enumerate(zip(*ways)):
+            event = {"type": "touchMove" if at else "touchStart", "touchPoints": list(points)}
+            self.driver.execute_cdp_cmd("Input.dispatchTouchEvent", event)
+        self.driver.execute_cdp_cmd("Input.dispatchTouchEvent", {"type": "touchEnd", "touchPoints": []})
+        self.wait()
+
     def hover(self, x, y):
         """Moves the pointer to a point."""
         left, top = self.run(PLACE, x, y)

@@ -134,6 +134,35 @@ class Hand(unittest.TestCase):
         self.page.press("#zoom-fit")
         self.assertAlmostEqual(self.page.run("return polyover.board.view.scale"), before)
 
+    def test_wheel_zooms_where_the_pointer_is(self):
+        place = "return [polyover.board.view.scale, ...polyover.board.view.toPixels(6, 6)]"
+        before = self.page.run(place)
+        self.page.wheel(6, 6, -200)
+        after = self.page.run(place)
+        self.assertGreater(after[0], 1.3 * before[0])
+        for wanted, found in zip(before[1:], after[1:]):
+            self.assertAlmostEqual(found, wanted, delta=1)
+
+    def test_fingers(self):
+        scale = "return polyover.board.view.scale"
+        before = self.page.run(scale)
+        self.page.touch([(2, 3), (1.5, 3), (1, 3)], [(4, 3), (4.5, 3), (5, 3)])
+        self.assertAlmostEqual(self.page.run(scale), 2 * before, delta=before / 10)
+        self.assertEqual(self.page.figures()["subject"], [SQUARE])
+        self.page.press("#zoom-fit")
+        # (a finger takes points from further than a mouse does)
+        self.page.touch([(4, 0), (4.5, 0.5), (5, 1)])
+        self.assertEqual(self.page.figures()["subject"], [[[0, 0], [5, 1], [4, 4], [0, 4]]])
+
+    def test_double_click_adds_a_point(self):
+        self.page.double_click(3, 0)
+        self.assertEqual(self.page.figures()["subject"], [[[0, 0], [3, 0], [4, 0], [4, 4], [0, 4]]])
+        self.page.press('[data-kind="line"]')
+        self.page.click(-1, 1)
+        self.page.click(3, 1)
+        self.page.double_click(5, 1)
+        self.assertEqual(self.page.figures()["line"], [[[-1, 1], [3, 1], [5, 1]]])
+
     def test_all_stays_in_sight_when_the_window_changes(self):
         view = "return [polyover.board.view.scale, polyover.board.view.x, polyover.board.view.y]"
         before = self.page.run(view)

@@ -172,6 +172,15 @@ class Alone(unittest.TestCase):
             self.assertEqual({each.partition("#")[0] for each in asked}, {file.as_uri()})
             self.assertEqual(page.messages(), [])
 
+    def test_ports_that_cannot_be_served(self):
+        taken = browser().server.server_address[1]
+        for port, status, said in ((taken, 1, "in use"), (65536, 2, "invalid port"), (-1, 2, "invalid port")):
+            words = [sys.executable, "-m", "polyover", "play", "--port", str(port)]
+            ran = subprocess.run(words, cwd=ROOT / "python", capture_output=True, text=True, check=False)
+            self.assertEqual((ran.returncode, ran.stdout), (status, ""))
+            self.assertIn(said, ran.stderr)
+            self.assertNotIn("Traceback", ran.stderr)
+
     def test_the_server_answers_for_the_page_alone(self):
         host, port = browser().server.server_address
         self.assertEqual(host, "127.0.0.1")

@@ -51,6 +51,14 @@ def digits_in(word: str) -> int:
     return digits
 
 
+def port_in(word: str) -> int:
+    """A port, or 0."""
+    port = int(word)
+    if not 0 <= port <= 65535:
+        raise ValueError
+    return port
+
+
 def number_in(word: str) -> Fraction:
     """A number that is not below 0."""
     number = Fraction(word)
@@ -61,6 +69,7 @@ def number_in(word: str) -> Fraction:
 
 width_in.__name__ = f"width, which is from {LEAST_WIDTH} to 100000,"
 digits_in.__name__ = "count of digits, which is from -300 to 300,"
+port_in.__name__ = "port, which is from 0 to 65535,"
 number_in.__name__ = "number from 0 on"
 
 
@@ -127,7 +136,7 @@ def add_play(commands: Any) -> None:
     command = commands.add_parser("play", **about)
     command.add_argument("--out", metavar="FILE", help="where the page goes, in one file that needs no server")
     port = "where it is served; 0 for any port that is free (0)"
-    command.add_argument("--port", type=int, default=0, metavar="N", help=port)
+    command.add_argument("--port", type=port_in, default=0, metavar="N", help=port)
     command.set_defaults(run=run_play)
 
 
