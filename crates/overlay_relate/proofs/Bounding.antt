@@ -9,7 +9,7 @@ use Rattle.overlay_geom.specs.Edges.{CountedEdge, ends_of, all_ends, subj_of}
 use Rattle.overlay_plane.specs.Predicates.{fills_at, fills_above, fills_below, IsFillable}
 use Rattle.overlay_plane.specs.Regions.{one_if}
 use Rattle.overlay_plane.proofs.RegionBelow.{region_from_selected_signs}
-use Rattle.overlay_relate.specs.Bounded.{boundary_of, Bounds, LiesSo}
+use Rattle.overlay_relate.specs.Bounded.{boundary_of, LiesSo}
 use Rattle.overlay_relate.specs.Locations.{differ, is_odd, odd_below, IsLocated, IsLocatedBy}
 use Rattle.overlay_relate.specs.declared.location.PointLocation.{PointLocation}
 

@@ -1,11 +1,9 @@
 -- The edges of the block that begins at the place.
-use Rattle.std.proofs.Common.{◌≡◌, sym, ◌∙◌, subst, List}
-use Rattle.std.specs.List.{All}
+use Rattle.std.proofs.Common.{sym, ◌∙◌, subst, List}
 use Rattle.overlay_geom.specs.Plane.{Edge}
 use Rattle.overlay_geom.specs.Points.{plain_point}
-use Rattle.overlay_geom.specs.Resolved.{IsLongEdge}
 use Rattle.overlay_geom.proofs.Mapped.{All-mapped_at}
-use Rattle.overlay_relate.specs.Blocks.{plain_block, plain_blocks, IsBlockOf, AreClear}
+use Rattle.overlay_relate.specs.Blocks.{plain_block, IsBlockOf, AreClear}
 use Rattle.overlay_relate.proofs.ClearEdges.{clear_edges}
 use Rattle.overlay_relate.proofs.blocks.passed.Goals as goal
 

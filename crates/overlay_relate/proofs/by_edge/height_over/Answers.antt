@@ -1,7 +1,6 @@
 -- Over or under both ends the heights tell, and between them the cross product.
-use Rattle.std.proofs.Common.{◌≡◌, int_lt, sym, ◌∙◌}
+use Rattle.std.proofs.Common.{int_lt, sym, ◌∙◌}
 use Rattle.std.proofs.lemmas.Bool.{and_parts, false≢true}
-use Rattle.overlay_geom.specs.Plane.{in_plane, side}
 use Rattle.overlay_geom.specs.Points.{plain_point}
 use Rattle.overlay_geom.specs.Resolved.{plain_edge}
 use Rattle.overlay_plane.proofs.Tests.{lt_from_test}
