@@ -1,5 +1,5 @@
--- The edges that bound the shape of an arrangement tell where points lie in it: an odd number of them are strictly below
--- a point exactly where the shape fills the winding there.
+-- The edges that bound the shape of an arrangement tell where points lie in it: an odd number of them are strictly
+-- below a point exactly where the shape fills the winding there.
 use Rattle.std.proofs.Common.{◌≡◌, Bool, true, false, cond, ℤ, pos, negsuc, ◌+ℤ◌, ◌-ℤ◌, List, [], ◌∷◌, refl, sym, ap}
 use Rattle.std.proofs.Common.{◌∙◌, subst, arith}
 use Rattle.std.specs.List.{filter}

@@ -5,7 +5,8 @@ use Rattle.std.specs.Ordering.{int_cmp, is_eq, is_gt}
 use Rattle.std.proofs.lemmas.Bool.{and_parts, and_from, false_from_ne_true, false≢true}
 use Rattle.std.proofs.lemmas.Int.{ints, by_lt_z}
 use Rattle.std.proofs.lemmas.List.Elements.{All-nil, All-cons}
-use Rattle.overlay_geom.specs.Plane.{Point, PlanePoint, Edge, IsBetween, IsOn, in_plane, is_strictly_below, side, point_lt}
+use Rattle.overlay_geom.specs.Plane.{Point, PlanePoint, Edge, IsBetween, IsOn, in_plane, is_strictly_below, side}
+use Rattle.overlay_geom.specs.Plane.{point_lt}
 use Rattle.overlay_geom.specs.Points.{InRange}
 use Rattle.overlay_geom.proofs.AlongEdge.{sideE}
 use Rattle.overlay_geom.proofs.Comparisons.{is_gt-int_cmp}
@@ -154,13 +155,15 @@ module _ (e : Edge) (v : Point) (from : e.a.x ≤ℤ v.x) (to : v.x ≤ℤ e.b.x
       (λ over_a. inl (
         omega (arith, ints),
         by_lt_z e.b.y v.y (λ over_b. absurd (both_fail
-            (and_from (int_lt e.a.y v.y) (int_lt e.b.y v.y) (test_from_lt e.a.y v.y over_a) (test_from_lt e.b.y v.y over_b))
+            (and_from (int_lt e.a.y v.y) (int_lt e.b.y v.y) (test_from_lt e.a.y v.y over_a)
+            (test_from_lt e.b.y v.y over_b))
             not_above)) (λ le. le),
       ))
       (λ not_over_a. by_lt_z v.y e.a.y
       (λ under_a. inr (
         by_lt_z v.y e.b.y (λ under_b. absurd (both_fail
-            (and_from (int_lt v.y e.a.y) (int_lt v.y e.b.y) (test_from_lt v.y e.a.y under_a) (test_from_lt v.y e.b.y under_b))
+            (and_from (int_lt v.y e.a.y) (int_lt v.y e.b.y) (test_from_lt v.y e.a.y under_a)
+            (test_from_lt v.y e.b.y under_b))
             not_below)) (λ le. le),
         omega (arith, ints),
       ))

@@ -13,6 +13,7 @@ loop-start-preserved g c =
     let es = plain_edges whole c.args.edges.now in
     let blocks = c.loop-start.blocks.items in
     subst (All (IsBlockOf es))
-    (sym (ap (plain_blocks whole) c.in_ok-push.ensures.items ∙ map-append (plain_block whole) blocks (c.block_over.result ∷ [])))
+    (sym (ap (plain_blocks whole) c.in_ok-push.ensures.items
+    ∙ map-append (plain_block whole) blocks (c.block_over.result ∷ [])))
     (All-push (IsBlockOf es) (plain_blocks whole blocks) (plain_block whole c.block_over.result) c.loop-start.invariant
     c.block_over.ensures)

@@ -14,5 +14,6 @@ returns-then-is_clear g c = λ (es : List Edge) long of.
     let q = plain_point whole c.args.p in
     subst (λ n. AreClear es q n block.end) c.if-block-at.true
     (clear_edges g.I.IntNumber.limit es (plain_block whole block) q long
-    (All-mapped_at (IsBlockOf es) (plain_block whole) c.args.blocks.now _ block c.if-place-blocks.false c.index-blocks-place.is of)
+    (All-mapped_at (IsBlockOf es) (plain_block whole) c.args.blocks.now _ block c.if-place-blocks.false
+    c.index-blocks-place.is of)
     (sym c.is_clear.ensures ∙ c.if-is_clear.true))
