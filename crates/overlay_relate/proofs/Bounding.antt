@@ -1,4 +1,4 @@
--- The edges that bound the shape of an arrangement tell where points lie in it: an odd number of them lie strictly
+-- The edges that bound the shape of an arrangement tell where points lie in it: an odd number of them are strictly
 -- below a point exactly where the shape fills the winding there.
 use Rattle.std.proofs.Common.{◌≡◌, Bool, true, false, cond, ℤ, pos, negsuc, ◌+ℤ◌, ◌-ℤ◌, List, [], ◌∷◌, refl, sym, ap}
 use Rattle.std.proofs.Common.{◌∙◌, subst, arith}
@@ -9,7 +9,7 @@ use Rattle.overlay_geom.specs.Edges.{CountedEdge, ends_of, all_ends, subj_of}
 use Rattle.overlay_plane.specs.Predicates.{fills_at, fills_above, fills_below, IsFillable}
 use Rattle.overlay_plane.specs.Regions.{one_if}
 use Rattle.overlay_plane.proofs.RegionBelow.{region_from_selected_signs}
-use Rattle.overlay_relate.specs.Bounded.{boundary_of, Bounds, LiesSo}
+use Rattle.overlay_relate.specs.Bounded.{boundary_of, LiesSo}
 use Rattle.overlay_relate.specs.Locations.{differ, is_odd, odd_below, IsLocated, IsLocatedBy}
 use Rattle.overlay_relate.specs.declared.location.PointLocation.{PointLocation}
 

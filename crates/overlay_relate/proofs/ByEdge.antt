@@ -1,23 +1,21 @@
 -- Where a whole point lies by one edge: on it, above it, or neither.
 use Rattle.std.proofs.Common.{◌≡◌, ◌⊎◌, ⊎_elim, inl, inr, ◌↔◌, ℕ, Bool, true, false, ◌&&◌, ℤ, pos, ◌+ℤ◌, ◌-ℤ◌, ◌*ℤ◌}
-use Rattle.std.proofs.Common.{◌<ℤ◌, ◌≤ℤ◌, int_lt, int_le, List, [], ◌∷◌, refl, sym, ap, ◌∙◌, arith}
+use Rattle.std.proofs.Common.{◌<ℤ◌, ◌≤ℤ◌, int_lt, int_le, [], ◌∷◌, refl, sym, ap, ◌∙◌, arith}
 use Rattle.std.specs.Ordering.{int_cmp, is_eq, is_gt}
 use Rattle.std.proofs.lemmas.Bool.{and_parts, and_from, false_from_ne_true, false≢true}
 use Rattle.std.proofs.lemmas.Int.{ints, by_lt_z}
 use Rattle.std.proofs.lemmas.List.Elements.{All-nil, All-cons}
-use Rattle.overlay_geom.specs.Numbers.{Within}
-use Rattle.overlay_geom.specs.Plane.{Point, PlanePoint, Edge, IsBetween, IsOn, in_plane}
-use Rattle.overlay_geom.specs.Plane.{is_strictly_below, side, point_lt}
+use Rattle.overlay_geom.specs.Plane.{Point, PlanePoint, Edge, IsBetween, IsOn, in_plane, is_strictly_below, side}
+use Rattle.overlay_geom.specs.Plane.{point_lt}
 use Rattle.overlay_geom.specs.Points.{InRange}
-use Rattle.overlay_geom.specs.Resolved.{IsLongEdge}
 use Rattle.overlay_geom.proofs.AlongEdge.{sideE}
 use Rattle.overlay_geom.proofs.Comparisons.{is_gt-int_cmp}
 use Rattle.overlay_geom.proofs.Identities.{solve, number, ◌⊕◌, ◌⊗◌, ◌⊖◌, ◌≗◌}
 use Rattle.overlay_geom.proofs.PointOrder.{Decides-point_lt}
 use Rattle.overlay_geom.proofs.Signs.{linear, mul-pos, mul-neg, mul-nonneg, mul-nonpos}
 use Rattle.overlay_plane.proofs.Entries.{any_of_entry}
-use Rattle.overlay_plane.proofs.Tests.{lt_from_test, ge_from_test, test_from_lt, test_from_le, test_from_ge, same_tests}
-use Rattle.overlay_relate.specs.Locations.{IsLocatedBy, IsOnSome}
+use Rattle.overlay_plane.proofs.Tests.{lt_from_test, test_from_lt, test_from_le, same_tests}
+use Rattle.overlay_relate.specs.Locations.{IsLocatedBy}
 use Rattle.overlay_relate.specs.declared.location.PointLocation.TheVariants.{Inside, Boundary, Outside}
 use Rattle.overlay_relate.proofs.OnEdges.{level_from_test, test_from_level}
 use Rattle.overlay_relate.proofs.Parities.{differ-false}
@@ -157,15 +155,15 @@ module _ (e : Edge) (v : Point) (from : e.a.x ≤ℤ v.x) (to : v.x ≤ℤ e.b.x
       (λ over_a. inl (
         omega (arith, ints),
         by_lt_z e.b.y v.y (λ over_b. absurd (both_fail
-            (and_from (int_lt e.a.y v.y) (int_lt e.b.y v.y)
-            (test_from_lt e.a.y v.y over_a) (test_from_lt e.b.y v.y over_b))
+            (and_from (int_lt e.a.y v.y) (int_lt e.b.y v.y) (test_from_lt e.a.y v.y over_a)
+            (test_from_lt e.b.y v.y over_b))
             not_above)) (λ le. le),
       ))
       (λ not_over_a. by_lt_z v.y e.a.y
       (λ under_a. inr (
         by_lt_z v.y e.b.y (λ under_b. absurd (both_fail
-            (and_from (int_lt v.y e.a.y) (int_lt v.y e.b.y)
-            (test_from_lt v.y e.a.y under_a) (test_from_lt v.y e.b.y under_b))
+            (and_from (int_lt v.y e.a.y) (int_lt v.y e.b.y) (test_from_lt v.y e.a.y under_a)
+            (test_from_lt v.y e.b.y under_b))
             not_below)) (λ le. le),
         omega (arith, ints),
       ))

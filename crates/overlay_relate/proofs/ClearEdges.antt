@@ -1,8 +1,8 @@
 -- Edges of a block that a point lies left of, right of or below.
-use Rattle.std.proofs.Common.{◌≡◌, ⊎_elim, ℕ, Bool, true, ◌||◌, ℤ, ◌≤ℤ◌, int_lt, List, [], ◌∷◌, get_or, sym, ap, ◌∙◌}
-use Rattle.std.proofs.Common.{subst, arith}
+use Rattle.std.proofs.Common.{◌≡◌, ⊎_elim, ℕ, true, ◌||◌, ℤ, ◌≤ℤ◌, int_lt, List, [], ◌∷◌, get_or}
+use Rattle.std.proofs.Common.{arith}
 use Rattle.std.specs.List.{All}
-use Rattle.std.proofs.lemmas.Bool.{or_cases, false_from_ne_true}
+use Rattle.std.proofs.lemmas.Bool.{or_cases}
 use Rattle.std.proofs.lemmas.Int.{ints}
 use Rattle.overlay_geom.specs.Plane.{Point, Edge, in_plane, point_lt}
 use Rattle.overlay_geom.specs.Resolved.{IsLongEdge}

@@ -1,5 +1,5 @@
 -- A shape that is prepared of paths: what the builder holds on the way, and when that is refused.
-use Rattle.std.proofs.Common.{◌≡◌, ◌⊎◌, inl, inr, ℕ, Bool, true, false, sym, ap, subst, ◌∙◌, List, []}
+use Rattle.std.proofs.Common.{◌≡◌, ◌⊎◌, inl, inr, ℕ, true, false, sym, ap, subst, ◌∙◌, List, []}
 use Rattle.std.proofs.lemmas.Bool.{false≢true}
 use Rattle.std.specs.Prelude.{Result, Ok, Err}
 use Rattle.overlay_geom.specs.Plane.{Edge}

@@ -1,5 +1,5 @@
 -- Blocks of edges that stand in a row, each with numbers between which its edges lie.
-use Rattle.std.specs.Prelude.{◌≡◌, ℕ, ◌<◌, ◌≤◌, Bool, ◌||◌, ℤ, ◌≤ℤ◌, int_lt, List, [], ◌∷◌, map, length}
+use Rattle.std.specs.Prelude.{ℕ, ◌<◌, ◌≤◌, Bool, ◌||◌, ℤ, ◌≤ℤ◌, int_lt, List, [], ◌∷◌, map, length}
 use Rattle.std.specs.Prelude.{slice_index_or}
 use Rattle.overlay_geom.specs.Plane.{Point, Edge, in_plane}
 use Rattle.overlay_relate.specs.Locations.{IsLocatedBy}

@@ -1,5 +1,5 @@
 -- The edges that bound a shape, by the fill bits of the edges of a graph.
-use Rattle.std.specs.Prelude.{ℤ, cond, List, [], ◌∷◌, flat_map, map}
+use Rattle.std.specs.Prelude.{cond, List, [], ◌∷◌}
 use Rattle.overlay_geom.specs.Plane.{Edge}
 use Rattle.overlay_arrange.specs.Counts.{has_bit}
 use Rattle.overlay_arrange.specs.Vectors.{Vector}

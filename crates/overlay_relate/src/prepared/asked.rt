@@ -1,6 +1,5 @@
 //! Where points lie in a prepared shape.
 
-ghost use Rattle.std.specs.Prelude.{◌≡◌};
 ghost use Rattle.overlay_geom.specs.Plane.{in_plane};
 ghost use Rattle.overlay_geom.specs.Points.{plain_point};
 ghost use Rattle.overlay_relate.specs.Blocks.{AreClear};

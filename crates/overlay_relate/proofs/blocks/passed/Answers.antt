@@ -1,11 +1,9 @@
 -- The edges of the block that begins at the place.
-use Rattle.std.proofs.Common.{◌≡◌, sym, ◌∙◌, subst, List}
-use Rattle.std.specs.List.{All}
+use Rattle.std.proofs.Common.{sym, ◌∙◌, subst, List}
 use Rattle.overlay_geom.specs.Plane.{Edge}
 use Rattle.overlay_geom.specs.Points.{plain_point}
-use Rattle.overlay_geom.specs.Resolved.{IsLongEdge}
 use Rattle.overlay_geom.proofs.Mapped.{All-mapped_at}
-use Rattle.overlay_relate.specs.Blocks.{plain_block, plain_blocks, IsBlockOf, AreClear}
+use Rattle.overlay_relate.specs.Blocks.{plain_block, IsBlockOf, AreClear}
 use Rattle.overlay_relate.proofs.ClearEdges.{clear_edges}
 use Rattle.overlay_relate.proofs.blocks.passed.Goals as goal
 
@@ -16,6 +14,6 @@ returns-then-is_clear g c = λ (es : List Edge) long of.
     let q = plain_point whole c.args.p in
     subst (λ n. AreClear es q n block.end) c.if-block-at.true
     (clear_edges g.I.IntNumber.limit es (plain_block whole block) q long
-    (All-mapped_at (IsBlockOf es) (plain_block whole) c.args.blocks.now _ block
-    c.if-place-blocks.false c.index-blocks-place.is of)
+    (All-mapped_at (IsBlockOf es) (plain_block whole) c.args.blocks.now _ block c.if-place-blocks.false
+    c.index-blocks-place.is of)
     (sym c.is_clear.ensures ∙ c.if-is_clear.true))

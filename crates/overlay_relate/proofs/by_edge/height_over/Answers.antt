@@ -1,7 +1,6 @@
 -- Over or under both ends the heights tell, and between them the cross product.
-use Rattle.std.proofs.Common.{◌≡◌, int_lt, sym, ◌∙◌}
+use Rattle.std.proofs.Common.{int_lt, sym, ◌∙◌}
 use Rattle.std.proofs.lemmas.Bool.{and_parts, false≢true}
-use Rattle.overlay_geom.specs.Plane.{in_plane, side}
 use Rattle.overlay_geom.specs.Points.{plain_point}
 use Rattle.overlay_geom.specs.Resolved.{plain_edge}
 use Rattle.overlay_plane.proofs.Tests.{lt_from_test}
@@ -14,8 +13,8 @@ pub returns-then-is_over_both-clause-on : goal.returns-then-is_over_both-clause-
 returns-then-is_over_both-clause-on g c =
     let e = plain_edge g.I.IntNumber.whole c.args.e.now in
     let v = plain_point g.I.IntNumber.whole c.args.p in
-    let over = sym c.is_over_both.ensures ∙ c.if-is_over_both.true in
-    let both = and_parts (int_lt e.a.y v.y) (int_lt e.b.y v.y) over in (
+    let both = and_parts (int_lt e.a.y v.y) (int_lt e.b.y v.y) (sym c.is_over_both.ensures ∙ c.if-is_over_both.true)
+    in (
       λ t. absurd (false≢true t),
       λ on. absurd (off_above e v (lt_from_test e.a.y v.y both.0) (lt_from_test e.b.y v.y both.1) on),
     )

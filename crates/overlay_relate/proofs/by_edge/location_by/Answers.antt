@@ -1,6 +1,5 @@
 -- Beside the edge nothing is below the point; at its x-coordinates the height tells.
-use Rattle.std.proofs.Common.{◌≡◌, ⊎_elim, int_lt, refl, sym, ap, ◌∙◌}
-use Rattle.std.specs.Ordering.{is_eq}
+use Rattle.std.proofs.Common.{⊎_elim, int_lt, refl, sym, ◌∙◌}
 use Rattle.std.proofs.lemmas.Bool.{or_cases}
 use Rattle.overlay_geom.specs.Plane.{in_plane}
 use Rattle.overlay_geom.specs.Points.{plain_point}

@@ -1,5 +1,5 @@
 -- The paths are added, arranged and bounded, or one of these is refused.
-use Rattle.std.proofs.Common.{sym, ap, ◌∙◌, subst}
+use Rattle.std.proofs.Common.{sym, subst}
 use Rattle.std.proofs.lemmas.Result.{err_from_is_err_and}
 use Rattle.overlay_geom.specs.Resolved.{plain_edges}
 use Rattle.overlay_arrange.specs.Rules.{is_filled}
