@@ -12,6 +12,8 @@ use i_overlay::i_float::int::point::IntPoint;
 use i_overlay::overlay::ShapeType;
 use i_overlay::overlay_rule::OverlayRule;
 use i_overlay::segm::boolean::ShapeCountBoolean;
+use i_overlay::string::line::IntLine;
+use i_overlay::vector::edge::DataVectorEdge;
 use std::process::Abort;
 use std::test::Fail;
 
@@ -40,34 +42,47 @@ impl OverlayEdgeData for Street {
 
     fn reversed(self, store: &mut usize) -> Street {
         *store = store.saturating_add(1);
-        self
+        Street(100 - self.0)
     }
 }
 
 type Built<'m, I> = EdgeOverlay<I, Street, Memory<'m>>;
 
-// Number of held edges, and number of times that an edge was reversed.
-impl<'m, I: Width> Seen for EdgeOverlay<I, Street, Memory<'m>> {
-    type Content = (usize, usize);
+// State of a builder: number of times that an edge was reversed, the held edges, and these edges with their data. The
+// union leaves out none.
+#[derive(PartialEq, Drop)]
+struct Held<'m, I: Width> {
+    turned: usize,
+    lines: Vec<IntLine<I>, Memory<'m>>,
+    edges: Vec<DataVectorEdge<I, Street>, Memory<'m>>,
+}
 
-    fn content(&mut self) -> Answer<(usize, usize)> {
-        let mut count: usize = 0;
-        for _ in self.edges() {
-            count = count.saturating_add(1);
+impl<'m, I: Width> Seen for EdgeOverlay<I, Street, Memory<'m>> {
+    type Content = Held<'m, I>;
+
+    fn content(&mut self) -> Answer<Held<'m, I>> {
+        let (edges, turned) = (self.build_vectors(UNION, RULE)?, *self.data_store());
+        let mut lines = Vec::new(*edges.allocator());
+        for line in self.edges() {
+            lines.push(line)?;
         }
-        Ok((count, *self.data_store()))
+        Ok(Held {
+            turned,
+            lines,
+            edges,
+        })
     }
 }
 
 // The four edges of a contour: two of them run from their larger ends.
 fn edges_of<I: Width>(contour: [IntPoint<I>; 4]) -> [InputEdge<I, Street>; 4] {
     let [a, b, c, d] = contour;
-    let edge = |a, b| InputEdge {
+    let edge = |a, b, number| InputEdge {
         a,
         b,
-        edge_data: Street(7),
+        edge_data: Street(number),
     };
-    [edge(a, b), edge(b, c), edge(c, d), edge(d, a)]
+    [edge(a, b, 1), edge(b, c, 2), edge(c, d, 3), edge(d, a, 4)]
 }
 
 // A builder with the square of a subject, the first edges of another square, and no room for more.
@@ -108,7 +123,8 @@ fn check_adders<I: Width>(trial: &Trial<'_, impl Abort>) -> Result<(), Fail> {
     let mut made: Built<'_, I> = trial.refuse_call("EdgeOverlay::new", || {
         EdgeOverlay::new(memory, 4)
     })?;
-    assert!(trial.rt; made.content()? == (0, 0));
+    let held = made.content()?;
+    assert!(trial.rt; held.turned == 0 && held.lines.is_empty() && held.edges.is_empty());
     Ok(())
 }
 

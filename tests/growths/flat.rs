@@ -2,8 +2,9 @@
 
 use crate::figures::{Width, flat_squares, lone_squares, square_at};
 use crate::overlay_queries::{is_empty, overlapping};
-use crate::refusals::Trial;
+use crate::refusals::{Memory, Trial};
 use i_overlay::fill_rule::FillRule;
+use i_overlay::i_float::int::point::IntPoint;
 use i_overlay::i_shape::flat::buffer::{FlatContoursBuffer, FlatShapesBuffer};
 use i_overlay::overlay_rule::OverlayRule;
 use std::process::Abort;
@@ -33,8 +34,22 @@ fn check_contours<I: Width>(trial: &Trial<'_, impl Abort>) -> Result<(), Fail> {
             }
             Ok(())
         },
-        |it| Ok(it.points.len() == 4 * it.ranges.len() && it.ranges.len() > 0),
+        |it| Ok(are_copies(it, &more)),
     )
+}
+
+// Whether the buffer has contours of these points, one after another, and nothing else.
+fn are_copies<I: Width>(
+    buffer: &FlatContoursBuffer<I, Memory<'_>>,
+    points: &[IntPoint<I>; 4],
+) -> bool {
+    for (at, range) in buffer.ranges.iter().enumerate() {
+        let (start, end) = (4 * at, 4 * at + 4);
+        if range.start != start || range.end != end || buffer.points[start..end] != points[..] {
+            return false;
+        }
+    }
+    buffer.ranges.len() > 0 && buffer.points.len() == 4 * buffer.ranges.len()
 }
 
 #[test]

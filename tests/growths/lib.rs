@@ -30,6 +30,8 @@ mod by_solver;
 mod edges;
 mod figures;
 mod flat;
+mod free_arranged;
+mod free_extracted;
 mod one_call;
 mod overlay_adders;
 mod overlay_queries;

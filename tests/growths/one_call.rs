@@ -172,20 +172,11 @@ fn locates<I: Width, T: IntPointContainment<I>>(
 fn check_points<I: Width>(trial: &Trial<'_, impl Abort>) -> Result<(), Fail> {
     let memory = trial.memory;
     let contour: IntContour<I, Memory<'_>> = Vec::from_array(memory, square_at(0))?;
-    let names = [
-        "IntPointContainment::contains_points",
-        "IntContour::locate_points",
-    ];
+    let names = ["IntContour::contains_points", "IntContour::locate_points"];
     locates(trial, names, &contour)?;
-    let names = [
-        "IntPointContainment::contains_points",
-        "IntShape::locate_points",
-    ];
+    let names = ["IntShape::contains_points", "IntShape::locate_points"];
     locates(trial, names, &squares::<I>(memory, PATHS)?)?;
-    let names = [
-        "IntPointContainment::contains_points",
-        "IntShapes::locate_points",
-    ];
+    let names = ["IntShapes::contains_points", "IntShapes::locate_points"];
     locates(trial, names, &lone_squares::<I>(memory)?)
 }
 

@@ -1,9 +1,10 @@
 //! Constructors and adders of `Overlay`.
 
-use crate::figures::{PATHS, Width, flat_squares, lone_squares, square, square_at, squares};
+use crate::figures::{PATHS, Width, flat_squares, lone_squares, point, square, square_at, squares};
 use crate::refusals::{Answer, Memory, Trial};
 use crate::seen::Seen;
 use i_overlay::fill_rule::FillRule;
+use i_overlay::i_float::int::point::IntPoint;
 use i_overlay::overlay::{IntOverlayOptions, Overlay, ShapeType};
 use i_overlay::solver::Solver;
 use i_overlay::vector::edge::DataVectorEdge;
@@ -97,6 +98,50 @@ fn check_adders<I: Width>(trial: &Trial<'_, impl Abort>) -> Result<(), Fail> {
 #[test]
 fn adders_of_overlay(rt: HostRuntime) -> Result<(), Fail> {
     at_a_width!(rt, check_adders)
+}
+
+// A builder that keeps all points, with a square and the first ones of the resources.
+fn keeping<I: Width>(memory: Memory<'_>, count: usize) -> Answer<Overlay<I, Memory<'_>>> {
+    let mut overlay = builder(memory, count)?;
+    overlay.options = IntOverlayOptions::keep_all_points();
+    Ok(overlay)
+}
+
+fn check_keeping<I: Width>(trial: &Trial<'_, impl Abort>) -> Result<(), Fail> {
+    let memory = trial.memory;
+    let more: [IntPoint<I>; 5] = [
+        point(10, 10),
+        point(11, 10),
+        point(12, 10),
+        point(12, 12),
+        point(10, 12),
+    ];
+    let (new, clip) = (|| keeping::<I>(memory, 0), ShapeType::Clip);
+    trial.adds_or_keeps(
+        "Overlay::add_contour",
+        new,
+        |it| it.add_contour(&more, clip),
+    )?;
+    trial.adds_or_keeps("Overlay::add_path_iter", new, |it| {
+        it.add_path_iter(more.iter().copied(), clip)
+    })?;
+    let mut added = new()?;
+    added.add_contour(&more, clip)?;
+    assert!(trial.rt; added.content()?.len() == 4 + 5);
+    let shape = squares::<I>(memory, PATHS)?;
+    let first = |count| keeping::<I>(memory, count);
+    trial.adds_those_before(
+        "Overlay::add_source",
+        new,
+        |it| it.add_source(&shape, clip),
+        PATHS,
+        first,
+    )
+}
+
+#[test]
+fn adders_that_keep_all_points(rt: HostRuntime) -> Result<(), Fail> {
+    at_a_width!(rt, check_keeping)
 }
 
 fn check_reinit<I: Width>(trial: &Trial<'_, impl Abort>) -> Result<(), Fail> {

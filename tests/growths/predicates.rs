@@ -237,7 +237,25 @@ fn check_predicates<'m, I: Width>(trial: &Trial<'m, impl Abort>) -> Result<(), F
     refuses::<I, _, _, _>(trial, "PredicateOverlay::covers", new, |it| it.covers())?;
     refuses::<I, _, _, _>(trial, "PredicateOverlay::relations", new, |it| {
         it.relations()
-    })
+    })?;
+    check_mended::<I>(trial)
+}
+
+// What mends the failed builder is the call that puts other contours in the place of those that it held.
+fn check_mended<'m, I: Width>(trial: &Trial<'m, impl Abort>) -> Result<(), Fail> {
+    let memory = trial.memory;
+    let (subj, shape, shapes) = (
+        subjects::<I>(memory)?,
+        clips::<I>(memory)?,
+        lone_clips::<I>(memory)?,
+    );
+    trial.answers_or_fails(
+        "PredicateOverlay::relations",
+        || builder::<I>(memory, PATHS),
+        |it| it.relations(),
+        |it| has_failed(it, &shape, &shapes),
+        |it| it.reinit_with_subj_and_clip(&subj, &shape),
+    )
 }
 
 #[test]

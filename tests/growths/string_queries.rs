@@ -1,11 +1,11 @@
 //! Queries of `StringOverlay`, and what is extracted from its views.
 
-use crate::figures::{PATHS, Width, square_at, squares};
+use crate::figures::{PATHS, Width, lone_squares, square_at, squares};
 use crate::refusals::{Answer, Memory, PLENTY, Trial};
 use crate::seen::is_failed;
 use crate::strings::{Built, bar_at, builder, lines};
 use i_overlay::fill_rule::FillRule;
-use i_overlay::i_shape::int::shape::IntShape;
+use i_overlay::i_shape::int::shape::{IntShape, IntShapes};
 use i_overlay::overlay::IntOverlayOptions;
 use i_overlay::solver::Solver;
 use i_overlay::string::clip::ClipRule;
@@ -22,12 +22,17 @@ const INSIDE: ClipRule = ClipRule {
 };
 
 // Returns whether each adder answers that the builder has failed.
-fn adders_fail<'m, I: Width>(it: &mut Built<'m, I>, shape: &IntShape<I, Memory<'m>>) -> bool {
+fn adders_fail<'m, I: Width>(
+    it: &mut Built<'m, I>,
+    shape: &IntShape<I, Memory<'m>>,
+    shapes: &IntShapes<I, Memory<'m>>,
+) -> bool {
     let line = bar_at(0);
     is_failed(it.add_shape_contour(&square_at(0)))
         && is_failed(it.add_shape_contour_iter(square_at(0).iter().copied()))
         && is_failed(it.add_shape_source(shape))
         && is_failed(it.add_shape_contours(shape))
+        && is_failed(it.add_shapes(shapes))
         && is_failed(it.add_string_line(line))
         && is_failed(it.add_string_lines(&lines()))
         && is_failed(it.add_string_path(&line))
@@ -45,7 +50,7 @@ fn views<'m, I: Width, Q: Fn(&mut Built<'m, I>) -> Answer<bool> + Drop>(
     query: Q,
 ) -> Result<(), Fail> {
     let memory = trial.memory;
-    let shape = squares::<I>(memory, PATHS)?;
+    let (shape, shapes) = (squares::<I>(memory, PATHS)?, lone_squares::<I>(memory)?);
     let is_there = trial.refuse_each(
         name,
         || builder::<I>(memory, 1, PATHS),
@@ -53,7 +58,7 @@ fn views<'m, I: Width, Q: Fn(&mut Built<'m, I>) -> Answer<bool> + Drop>(
         |it| {
             let is_asked_again = is_failed(query(it));
             memory.grant(0);
-            let has_failed = adders_fail(it, &shape) && is_failed(query(it));
+            let has_failed = adders_fail(it, &shape, &shapes) && is_failed(query(it));
             memory.grant(PLENTY);
             Ok(is_asked_again && has_failed)
         },
@@ -103,11 +108,24 @@ fn check_clips<I: Width>(trial: &Trial<'_, impl Abort>) -> Result<(), Fail> {
         |_| Ok(true),
     )?;
     assert!(trial.rt; paths.len() == PATHS);
-    let mut overlay = builder::<I>(memory, 1, PATHS)?;
-    memory.grant(0);
-    let is_refused = overlay.build_graph_view(RULE).is_err();
-    assert!(trial.rt; is_refused && is_failed(overlay.clip_string_lines(RULE, INSIDE)));
+    let failed = failed_builder::<I>(trial)?;
+    assert!(trial.rt; is_failed(trial.without_memory(|| failed.clip_string_lines(RULE, INSIDE))));
+    for solver in [Solver::ABSOLUTE, Solver::SNAPPED] {
+        let failed = failed_builder::<I>(trial)?;
+        let clipped = trial.without_memory(|| {
+            failed.clip_string_lines_with_solver(RULE, INSIDE, solver)
+        });
+        assert!(trial.rt; is_failed(clipped));
+    }
     Ok(())
+}
+
+// A builder of which a view was refused.
+fn failed_builder<'m, I: Width>(trial: &Trial<'m, impl Abort>) -> Answer<Built<'m, I>> {
+    let mut overlay = builder::<I>(trial.memory, 1, PATHS)?;
+    let is_refused = trial.without_memory(|| overlay.build_graph_view(RULE).is_err());
+    assert!(trial.rt; is_refused);
+    Ok(overlay)
 }
 
 #[test]

@@ -128,8 +128,11 @@ fn looks_up<I: Width, S: Scan<I, i16> + Drop>(
 }
 
 fn check_scans<I: Width>(trial: &Trial<'_, impl Abort>) -> Result<(), Fail> {
-    looks_up::<I, ScanList<I, i16, Memory<'_>>>(trial, ScanList::default(trial.memory))?;
-    looks_up::<I, ScanTree<I, i16, Memory<'_>>>(trial, ScanTree::default(trial.memory))?;
+    let memory = trial.memory;
+    let list = trial.without_memory(|| ScanList::<I, i16, _>::default(memory));
+    looks_up::<I, _>(trial, list)?;
+    let tree = trial.without_memory(|| ScanTree::<I, i16, _>::default(memory));
+    looks_up::<I, _>(trial, tree)?;
     Ok(())
 }
 

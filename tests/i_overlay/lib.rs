@@ -41,5 +41,6 @@ mod simplify;
 mod snapped;
 mod squares;
 mod trees;
+mod unsettled;
 mod views;
 mod wide;

@@ -82,6 +82,13 @@ pub(crate) fn check<I: OverlayInt + PartialEq + From<i16>>(
     Ok(())
 }
 
+/// Checks the row with the default options at each coordinate type.
+pub(crate) fn check_wide(rt: &impl Abort, alloc: Global, row: &Row<'_>) -> Result<(), Fail> {
+    check::<i16>(rt, alloc, row)?;
+    check::<i32>(rt, alloc, row)?;
+    check::<i64>(rt, alloc, row)
+}
+
 /// Checks the row with clockwise output.
 pub(crate) fn check_clockwise<I: OverlayInt + PartialEq + From<i16>>(
     rt: &impl Abort,

@@ -1,7 +1,7 @@
 //! The shapes of overlays, at each coordinate type.
 
 use crate::contours::Points;
-use crate::rows::{Row, check, check_clockwise, check_kept};
+use crate::rows::{Row, check, check_clockwise, check_kept, check_wide};
 use i_overlay::fill_rule::FillRule;
 use i_overlay::overlay_rule::OverlayRule;
 use std::test::Fail;
@@ -116,13 +116,13 @@ fn of_subject<'a>(
 fn bow_under_each_rule(rt: HostRuntime) -> Result<(), Fail> {
     let alloc = rt.alloc();
     let both: [&[Points<'_>]; 2] = [&[LEFT_HALF], &[RIGHT_HALF]];
-    check::<i32>(&rt, alloc, &of_subject(BOW, FillRule::NonZero, &both))?;
-    check::<i32>(
+    check_wide(&rt, alloc, &of_subject(BOW, FillRule::NonZero, &both))?;
+    check_wide(
         &rt,
         alloc,
         &of_subject(BOW, FillRule::Positive, &[&[LEFT_HALF]]),
     )?;
-    check::<i32>(
+    check_wide(
         &rt,
         alloc,
         &of_subject(BOW, FillRule::Negative, &[&[RIGHT_HALF]]),
@@ -140,7 +140,7 @@ const ROUNDED_CROSSING: Row<'static> = Row {
 
 #[test]
 fn rounded_crossing(rt: HostRuntime) -> Result<(), Fail> {
-    check::<i32>(&rt, rt.alloc(), &ROUNDED_CROSSING)
+    check_wide(&rt, rt.alloc(), &ROUNDED_CROSSING)
 }
 
 const TOUCHING_HOLE: Row<'static> = Row {
@@ -162,7 +162,7 @@ const TOUCHING_HOLE: Row<'static> = Row {
 
 #[test]
 fn hole_that_touches_its_outline(rt: HostRuntime) -> Result<(), Fail> {
-    check::<i32>(&rt, rt.alloc(), &TOUCHING_HOLE)
+    check_wide(&rt, rt.alloc(), &TOUCHING_HOLE)
 }
 
 // Two squares that share an edge.
@@ -190,13 +190,15 @@ const SIDE_BY_SIDE_KEPT: Row<'static> = Row {
 
 #[test]
 fn squares_side_by_side(rt: HostRuntime) -> Result<(), Fail> {
-    check::<i32>(&rt, rt.alloc(), &SIDE_BY_SIDE)?;
-    check_kept::<i32>(&rt, rt.alloc(), &SIDE_BY_SIDE_KEPT)
+    check_wide(&rt, rt.alloc(), &SIDE_BY_SIDE)?;
+    check_kept::<i16>(&rt, rt.alloc(), &SIDE_BY_SIDE_KEPT)?;
+    check_kept::<i32>(&rt, rt.alloc(), &SIDE_BY_SIDE_KEPT)?;
+    check_kept::<i64>(&rt, rt.alloc(), &SIDE_BY_SIDE_KEPT)
 }
 
 #[test]
 fn no_edges(rt: HostRuntime) -> Result<(), Fail> {
-    check::<i32>(&rt, rt.alloc(), &of_subject(&[], FillRule::NonZero, &[]))
+    check_wide(&rt, rt.alloc(), &of_subject(&[], FillRule::NonZero, &[]))
 }
 
 const WHOLE_RANGE: Row<'static> = Row {
@@ -246,7 +248,7 @@ const FRAMES: Row<'static> = Row {
 
 #[test]
 fn holes_of_two_shapes(rt: HostRuntime) -> Result<(), Fail> {
-    check::<i32>(&rt, rt.alloc(), &FRAMES)
+    check_wide(&rt, rt.alloc(), &FRAMES)
 }
 
 // Two holes that touch each other in (3, 3). The first hole is found at (3, 1). The next filled-above edge below it is
@@ -277,5 +279,5 @@ const TOUCHING_HOLES: Row<'static> = Row {
 
 #[test]
 fn holes_that_touch_one_another(rt: HostRuntime) -> Result<(), Fail> {
-    check::<i32>(&rt, rt.alloc(), &TOUCHING_HOLES)
+    check_wide(&rt, rt.alloc(), &TOUCHING_HOLES)
 }

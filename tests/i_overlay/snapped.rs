@@ -14,14 +14,15 @@ use std::alloc::Global;
 use std::process::Abort;
 use std::test::Fail;
 
-// Two needles, whose long sides cross so flatly that each round moves their crossing on by one unit: 66 rounds would
-// settle them.
-const FIRST: [(i16, i16); 3] = [(2, 0), (0, 66), (2, -66)];
+/// Two needles, whose long sides cross so flatly that each round moves their crossing on by one unit: 66 rounds would
+/// settle them.
+pub(crate) const FIRST: [(i16, i16); 3] = [(2, 0), (0, 66), (2, -66)];
 
-const SECOND: [(i16, i16); 3] = [(1, 0), (0, 67), (-1, 0)];
+/// The second of them.
+pub(crate) const SECOND: [(i16, i16); 3] = [(1, 0), (0, 67), (-1, 0)];
 
-// One contour that runs round both needles, and between them twice along one edge, which cancels out.
-const AROUND_BOTH: [(i16, i16); 8] = [
+/// One contour that runs round both needles, and between them twice along one edge, which cancels out.
+pub(crate) const AROUND_BOTH: [(i16, i16); 8] = [
     (2, 0),
     (0, 66),
     (2, -66),
@@ -32,8 +33,8 @@ const AROUND_BOTH: [(i16, i16); 8] = [
     (2, -66),
 ];
 
-// A builder of the needles by a solver: the first is the subject, and the second the clip.
-fn needles<I: OverlayInt + From<i16> + PartialEq>(
+/// A builder of the needles by a solver: the first is the subject, and the second the clip.
+pub(crate) fn needles<I: OverlayInt + From<i16> + PartialEq>(
     rt: &impl Abort,
     alloc: Global,
     solver: Solver,

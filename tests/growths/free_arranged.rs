@@ -1,0 +1,208 @@
+//! Free functions of crates below `i_overlay`: of contours and points, and of builders.
+
+use crate::figures::{PATHS, Width, lone_squares, point, square, square_at, squares};
+use crate::refusals::{Answer, Memory, Trial};
+use i_overlay::fill_rule::FillRule;
+use i_overlay::i_float::int::point::IntPoint;
+use i_overlay::i_shape::int::path::PathRef;
+use i_overlay::i_shape::int::shape::IntContour;
+use i_overlay::overlay::{ContourDirection, ShapeType};
+use i_overlay::point_location::PointLocation;
+use i_overlay::segm::boolean::ShapeCountBoolean;
+use i_overlay::solver::Solver;
+use overlay_arrange::balance::is_balanced;
+use overlay_arrange::content::Content;
+use overlay_arrange::data::CountWithData;
+use overlay_arrange::fill::{fills_of_balanced, fills_with_trees_from};
+use overlay_arrange::settle::is_settled;
+use overlay_builder::boolean::passing;
+use overlay_builder::builder_core::BuilderCore;
+use overlay_builder::path::{PathKind, add_path};
+use overlay_builder::points::gathered;
+use overlay_geom::error::OverlayError;
+use overlay_geom::flat::copied;
+use overlay_geom::thin::thinned;
+use overlay_relate::in_contour::locate_in_contour;
+use overlay_relate::in_shapes::{locate_in_shape, locate_in_shapes};
+use overlay_relate::resolved::is_resolved_in;
+use overlay_simplify::arranged_alone::arrange_alone;
+use overlay_simplify::outcome::Outcome;
+use overlay_simplify::points_once::has_each_point_once;
+use overlay_simplify::shapes::shapes_left;
+use overlay_simplify::simple::outcome_of_contour;
+use std::process::Abort;
+use std::test::Fail;
+
+const RULE: FillRule = FillRule::EvenOdd;
+
+type Counted<'m, I> = Content<I, ShapeCountBoolean, Memory<'m>>;
+
+type Core<'m, I> = BuilderCore<I, CountWithData<()>, Memory<'m>>;
+
+// The steps of the first squares, and room for two more.
+fn content<I: Width>(memory: Memory<'_>) -> Answer<Counted<'_, I>> {
+    let mut content = Content::with_capacity(memory, 4 * PATHS + 2)?;
+    for place in 0..PATHS {
+        let kind = PathKind::Closed;
+        add_path(
+            &mut content,
+            &square_at(place),
+            kind,
+            passing(ShapeType::Subject),
+        )?;
+    }
+    Ok(content)
+}
+
+fn check_edges<I: Width>(trial: &Trial<'_, impl Abort>) -> Result<(), Fail> {
+    let memory = trial.memory;
+    let mut held = content::<I>(memory)?;
+    held.merge(&mut ())?;
+    let edges = held.edges();
+    let told = [
+        trial.refuse_call(
+            "overlay_arrange::is_balanced",
+            || is_balanced(memory, edges),
+        )?,
+        trial.refuse_call("overlay_arrange::is_settled", || is_settled(memory, edges))?,
+    ];
+    assert!(trial.rt; told == [true, true]);
+    for tree_from in [0, usize::MAX] {
+        let fills = trial.refuse_call("overlay_arrange::fills_with_trees_from", || {
+            fills_with_trees_from(memory, edges, RULE, tree_from)
+        })?;
+        assert!(trial.rt; &fills[..4] == &[2, 1, 2, 1][..] && fills.len() == 4 * PATHS);
+        let again = trial.refuse_call("overlay_arrange::fills_of_balanced", || {
+            fills_of_balanced(memory, edges, RULE, tree_from)
+        })?;
+        assert!(trial.rt; again == fills);
+    }
+    Ok(())
+}
+
+#[test]
+fn functions_of_edges(rt: HostRuntime) -> Result<(), Fail> {
+    at_a_width!(rt, check_edges)
+}
+
+fn check_paths<I: Width>(trial: &Trial<'_, impl Abort>) -> Result<(), Fail> {
+    let memory = trial.memory;
+    let more = square::<I>(0, 2);
+    let kept = content::<I>(memory)?;
+    for kind in [PathKind::Closed, PathKind::Thinned] {
+        trial.refuse_each(
+            "overlay_builder::add_path",
+            || content::<I>(memory),
+            |it| add_path(it, &more, kind, passing(ShapeType::Clip)),
+            |it| Ok(it.edges() == kept.edges()),
+        )?;
+    }
+    let points = trial.refuse_call("overlay_builder::gathered", || {
+        gathered(memory, more.iter().copied())
+    })?;
+    assert!(trial.rt; &points[..] == &more[..]);
+    let points = trial.refuse_call("overlay_geom::copied", || copied(memory, &more))?;
+    assert!(trial.rt; &points[..] == &more[..]);
+    let longer: [IntPoint<I>; 5] = [
+        point(0, 0),
+        point(1, 0),
+        point(2, 0),
+        point(2, 2),
+        point(0, 2),
+    ];
+    let points = trial.refuse_call("overlay_geom::thinned", || thinned(memory, &longer))?;
+    assert!(trial.rt; &points[..] == &more[..]);
+    Ok(())
+}
+
+#[test]
+fn functions_of_paths(rt: HostRuntime) -> Result<(), Fail> {
+    at_a_width!(rt, check_paths)
+}
+
+fn check_points<I: Width>(trial: &Trial<'_, impl Abort>) -> Result<(), Fail> {
+    let memory = trial.memory;
+    let points: [IntPoint<I>; 3] = [point(11, 11), point(9, 9), point(12, 11)];
+    let wanted = [
+        PointLocation::Inside,
+        PointLocation::Outside,
+        PointLocation::Boundary,
+    ];
+    let (contour, shape) = (square_at::<I>(0), squares::<I>(memory, PATHS)?);
+    let shapes = lone_squares::<I>(memory)?;
+    let is_resolved = trial.refuse_call("overlay_relate::is_resolved_in", || {
+        is_resolved_in(memory, &contour)
+    })?;
+    assert!(trial.rt; is_resolved);
+    for tree_from in [0, usize::MAX] {
+        let located = [
+            trial.refuse_call("overlay_relate::locate_in_contour", || {
+                locate_in_contour(memory, &contour, &points, tree_from)
+            })?,
+            trial.refuse_call("overlay_relate::locate_in_shape", || {
+                locate_in_shape(memory, &shape, &points, tree_from)
+            })?,
+            trial.refuse_call("overlay_relate::locate_in_shapes", || {
+                locate_in_shapes(memory, &shapes, &points, tree_from)
+            })?,
+        ];
+        for each in &located {
+            assert!(trial.rt; &each[..] == &wanted[..]);
+        }
+    }
+    Ok(())
+}
+
+#[test]
+fn functions_of_points(rt: HostRuntime) -> Result<(), Fail> {
+    at_a_width!(rt, check_points)
+}
+
+// Refuses the growths of a function that arranges contours alone: the builder has failed.
+fn arranges<'m, I: Width, T: PartialEq + Drop, C: Fn(&mut Core<'m, I>) -> Answer<T> + Drop>(
+    trial: &Trial<'m, impl Abort>,
+    name: &str,
+    call: C,
+) -> Result<T, Fail> {
+    let memory = trial.memory;
+    trial.refuse_each(
+        name,
+        || BuilderCore::with_capacity(memory, 0),
+        call,
+        |it| Ok(it.check_usable() == Err(OverlayError::Failed)),
+    )
+}
+
+fn check_simplifying<I: Width>(trial: &Trial<'_, impl Abort>) -> Result<(), Fail> {
+    let memory = trial.memory;
+    let (contour, shape) = (square::<I>(0, 2), squares::<I>(memory, PATHS)?);
+    let is_once = trial.refuse_call("overlay_simplify::has_each_point_once", || {
+        has_each_point_once(memory, &contour)
+    })?;
+    assert!(trial.rt; is_once);
+    for outcome in [Outcome::AsGiven, Outcome::Reversed] {
+        let shapes = trial.refuse_call("overlay_simplify::shapes_left", || {
+            shapes_left(memory, &contour, outcome)
+        })?;
+        assert!(trial.rt; shapes.len() == 1);
+    }
+    for solver in [Solver::ABSOLUTE, Solver::SNAPPED] {
+        arranges::<I, _, _>(trial, "overlay_simplify::arrange_alone", |it| {
+            arrange_alone(it, solver, &shape, false)
+        })?;
+        let outcome = arranges::<I, _, _>(trial, "overlay_simplify::outcome_of_contour", |it| {
+            let direction = ContourDirection::CounterClockwise;
+            outcome_of_contour(it, solver, &contour, false, RULE, direction)
+        })?;
+        assert!(trial.rt; outcome == Outcome::AsGiven);
+    }
+    let one: IntContour<I, Memory<'_>> = Vec::from_array(memory, contour)?;
+    arranges::<I, _, _>(trial, "overlay_simplify::arrange_alone", |it| {
+        arrange_alone(it, Solver::ABSOLUTE, &PathRef::new(&one), true)
+    })
+}
+
+#[test]
+fn functions_of_simplifying(rt: HostRuntime) -> Result<(), Fail> {
+    at_a_width!(rt, check_simplifying)
+}

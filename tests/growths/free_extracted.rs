@@ -1,0 +1,395 @@
+//! Free functions of crates below `i_overlay` that walk over a graph, or over what was walked.
+
+use crate::figures::{Width, square};
+use crate::one_call::count_of;
+use crate::refusals::{Answer, Memory, Trial};
+use i_overlay::extract::BooleanExtractionBuffer;
+use i_overlay::fill_rule::FillRule;
+use i_overlay::i_shape::flat::buffer::FlatContoursBuffer;
+use i_overlay::overlay::{ContourDirection, IntOverlayOptions, ShapeType};
+use i_overlay::overlay_rule::OverlayRule;
+use i_overlay::segm::boolean::ShapeCountBoolean;
+use i_overlay::solver::Solver;
+use overlay_arrange::content::Content;
+use overlay_arrange::count::EdgeCount;
+use overlay_arrange::data::CountWithData;
+use overlay_arrange::graph::Graph;
+use overlay_bind::anchor::hole_anchors;
+use overlay_bind::bind::bind_contours;
+use overlay_bind::islands::{hole_places, holes_round};
+use overlay_bind::placed::{bound_places, placed_contours};
+use overlay_bind::places::shape_places;
+use overlay_bind::scans::{scan_for_holes, scan_for_islands};
+use overlay_builder::boolean::{passing, passing_without_data};
+use overlay_builder::path::{PathKind, StepCounts, add_path};
+use overlay_extract::assemble::{assembled, contour};
+use overlay_extract::extract::{extract_contours, extract_shapes, extract_shapes_with_trees_from};
+use overlay_extract::hierarchy::{
+    extract_shape_hierarchy, extract_shape_hierarchy_with_trees_from,
+};
+use overlay_geom::error::OverlayError;
+use overlay_slice::cutter::cut_loops;
+use overlay_slice::loops::filled_loops;
+use overlay_slice::orbits::side_orbits;
+use overlay_slice::roles::contours_of_loops;
+use overlay_slice::sliced_shapes::{sliced_shapes, sliced_shapes_with_trees_from};
+use overlay_slice::slices::{slice_contours, slice_contours_with_trees_from};
+use overlay_slice::tours::tours;
+use overlay_vector::graph_vectors::graph_vectors;
+use overlay_vector::selected_vectors::selected_vectors;
+use overlay_vector::vector_shapes::{vector_shapes, vector_shapes_with_trees_from};
+use overlay_walk::area::large_walks;
+use overlay_walk::contour::{Contour, Role};
+use overlay_walk::contour_cut::cut_into_contours;
+use overlay_walk::groups::cut_in_groups;
+use overlay_walk::hand::HandRule;
+use overlay_walk::kept_contours::kept_contours;
+use overlay_walk::open_steps::OpenSteps;
+use overlay_walk::selected_steps::push_selected;
+use overlay_walk::selected_walks::{selected_contours, selected_walks};
+use overlay_walk::step::Step;
+use std::process::Abort;
+use std::test::Fail;
+
+const SUBJECT: OverlayRule = OverlayRule::Subject;
+
+const DIRECTION: ContourDirection = ContourDirection::CounterClockwise;
+
+// The limits at which a tree, and a list, is taken whatever the number of shapes.
+const LIMITS: [usize; 2] = [0, usize::MAX];
+
+// A square with a hole and an island in it, and a small square: three shapes of four contours.
+const SQUARES: [(i16, i16); 4] = [(0, 20), (2, 18), (4, 16), (30, 34)];
+
+type Walks<'m, I> = Vec<Vec<Step<I>, Memory<'m>>, Memory<'m>>;
+
+type Contours<'m, I> = Vec<Contour<I, Memory<'m>>, Memory<'m>>;
+
+type Buffer<'m, I> = BooleanExtractionBuffer<I, Memory<'m>>;
+
+type Plain<'m, I> = Graph<I, ShapeCountBoolean, Memory<'m>>;
+
+// The graph of the squares.
+fn graph_of<'m, I: Width, C: EdgeCount>(
+    memory: Memory<'m>,
+    passing: StepCounts<C>,
+    store: &mut C::Store,
+) -> Answer<Graph<I, C, Memory<'m>>> {
+    let mut content = Content::with_capacity(memory, 0)?;
+    for (low, high) in SQUARES {
+        add_path(&mut content, &square(low, high), PathKind::Closed, passing)?;
+    }
+    content.arrange(Solver::ABSOLUTE, store)?;
+    content.graph(FillRule::EvenOdd)
+}
+
+fn plain_graph<I: Width>(memory: Memory<'_>) -> Answer<Plain<'_, I>> {
+    graph_of(memory, passing(ShapeType::Subject), &mut ())
+}
+
+// Refuses the growths of a function that is lent room, and gives its answer.
+fn lends<'m, I: Width, T: Drop, C: Fn(&mut Buffer<'m, I>) -> Answer<T> + Drop>(
+    trial: &Trial<'m, impl Abort>,
+    name: &str,
+    call: C,
+) -> Result<T, Fail> {
+    let memory = trial.memory;
+    let new = || Ok(BooleanExtractionBuffer::default(memory));
+    trial.refuse_each(name, new, &call, |it| Ok(call(it).is_ok()))
+}
+
+// All selected steps.
+fn steps<'m, I: Width>(graph: &Plain<'m, I>) -> Answer<Vec<Step<I>, Memory<'m>>> {
+    let mut steps = Vec::new(*graph.allocator());
+    push_selected(&mut steps, graph.edges(), SUBJECT, DIRECTION)?;
+    Ok(steps)
+}
+
+// How many walks, or contours, of all selected steps a function gives.
+fn cuts<'m, I: Width, T: Drop, C: Fn(&mut OpenSteps<I, Memory<'m>>) -> Answer<T> + Drop>(
+    trial: &Trial<'m, impl Abort>,
+    graph: &Plain<'m, I>,
+    name: &str,
+    call: C,
+) -> Result<T, Fail> {
+    let new = || OpenSteps::new(steps(graph)?);
+    trial.refuse_each(name, new, call, |_| Ok(true))
+}
+
+fn check_walks<I: Width>(trial: &Trial<'_, impl Abort>) -> Result<(), Fail> {
+    let memory = trial.memory;
+    let (graph, options) = (plain_graph::<I>(memory)?, IntOverlayOptions::default());
+    let found = trial.refuse_call("overlay_walk::push_selected", || {
+        let mut steps = Vec::new(memory);
+        push_selected(&mut steps, graph.edges(), SUBJECT, DIRECTION)?;
+        Ok(steps)
+    })?;
+    assert!(trial.rt; found.len() == 16);
+    for ogc in [false, true] {
+        let options = IntOverlayOptions { ogc, ..options };
+        let kept = lends(trial, "overlay_walk::kept_contours", |it| {
+            kept_contours(&graph, SUBJECT, options, it)
+        })?;
+        assert!(trial.rt; kept.len() == 4);
+    }
+    let walks = lends(trial, "overlay_walk::selected_walks", |it| {
+        selected_walks(&graph, SUBJECT, DIRECTION, it)
+    })?;
+    let contours = lends(trial, "overlay_walk::selected_contours", |it| {
+        selected_contours(&graph, SUBJECT, DIRECTION, options.min_output_area, it)
+    })?;
+    assert!(trial.rt; walks.len() == 4 && contours.len() == 4);
+    let walks = cuts(trial, &graph, "overlay_walk::cut_into_contours", |it| {
+        cut_into_contours(memory, it, HandRule::OutlineOrHole(DIRECTION))
+    })?;
+    let contours = cuts(trial, &graph, "overlay_walk::cut_in_groups", |it| {
+        cut_in_groups(memory, it, DIRECTION, options.min_output_area)
+    })?;
+    assert!(trial.rt; walks.len() == 4 && contours.len() == 4);
+    let new = || {
+        let mut buffer = BooleanExtractionBuffer::default(memory);
+        Ok(Some(selected_walks(&graph, SUBJECT, DIRECTION, &mut buffer)?))
+    };
+    let large = trial.refuse_each(
+        "overlay_walk::large_walks",
+        new,
+        |it| large_walks(memory, taken::<I>(it)?, options.min_output_area),
+        |_| Ok(true),
+    )?;
+    assert!(trial.rt; large.len() == 4);
+    Ok(())
+}
+
+// The walks that are handed over.
+fn taken<'m, I: Width>(it: &mut Option<Walks<'m, I>>) -> Answer<Walks<'m, I>> {
+    match it.take() {
+        Some(walks) => Ok(walks),
+        None => Err(OverlayError::Failed),
+    }
+}
+
+#[test]
+fn functions_of_walks(rt: HostRuntime) -> Result<(), Fail> {
+    at_a_width!(rt, check_walks)
+}
+
+// The contours that are kept of the squares.
+fn kept<'m, I: Width>(graph: &Plain<'m, I>) -> Answer<Contours<'m, I>> {
+    let mut buffer = BooleanExtractionBuffer::default(*graph.allocator());
+    kept_contours(graph, SUBJECT, IntOverlayOptions::default(), &mut buffer)
+}
+
+// The shapes in which contours stand from the start.
+fn known<'m, I: Width>(
+    memory: Memory<'m>,
+    contours: &[Contour<I, Memory<'m>>],
+) -> Answer<Vec<Option<usize>, Memory<'m>>> {
+    let mut known = Vec::new(memory);
+    for contour in contours {
+        known.push(contour.role.shape())?;
+    }
+    Ok(known)
+}
+
+fn check_binding<I: Width>(trial: &Trial<'_, impl Abort>) -> Result<(), Fail> {
+    let memory = trial.memory;
+    let graph = plain_graph::<I>(memory)?;
+    let contours = kept(&graph)?;
+    let known = known(memory, &contours)?;
+    let anchors = trial.refuse_call("overlay_bind::hole_anchors", || {
+        hole_anchors(memory, &contours, &known)
+    })?;
+    let places = trial.refuse_call("overlay_bind::hole_places", || {
+        hole_places(memory, &contours)
+    })?;
+    assert!(trial.rt; anchors.len() == 1 && places.len() == 4);
+    for tree_from in LIMITS {
+        let new = || Ok(scan_for_holes(memory, &contours, tree_from));
+        let found = trial.refuse_each(
+            "overlay_bind::bind_contours",
+            new,
+            |it| bind_contours(memory, it, &contours, DIRECTION),
+            |_| Ok(true),
+        )?;
+        assert!(trial.rt; found.len() == 4);
+        for (at, contour) in contours.iter().enumerate() {
+            let is_hole = contour.role == Role::FreeHole;
+            assert!(trial.rt; !is_hole || found[at] == Some(0));
+        }
+        let round = trial.refuse_each(
+            "overlay_bind::holes_round",
+            || Ok(scan_for_islands(memory, &contours, tree_from)),
+            |it| holes_round(memory, it, &contours, DIRECTION),
+            |_| Ok(true),
+        )?;
+        assert!(trial.rt; round.len() == 3);
+        let places = trial.refuse_call("overlay_bind::shape_places", || {
+            shape_places(memory, &contours, &found)
+        })?;
+        assert!(trial.rt; places.len() == 3 && places[0].len() == 2);
+    }
+    Ok(())
+}
+
+#[test]
+fn functions_of_binding(rt: HostRuntime) -> Result<(), Fail> {
+    at_a_width!(rt, check_binding)
+}
+
+fn check_shapes<I: Width>(trial: &Trial<'_, impl Abort>) -> Result<(), Fail> {
+    let memory = trial.memory;
+    let (graph, options) = (plain_graph::<I>(memory)?, IntOverlayOptions::default());
+    let contours = kept(&graph)?;
+    for tree_from in LIMITS {
+        let placed = lends(trial, "overlay_bind::placed_contours", |it| {
+            placed_contours(&graph, SUBJECT, options, it, tree_from)
+        })?;
+        let places = trial.refuse_call("overlay_bind::bound_places", || {
+            bound_places(&graph, &contours, DIRECTION, tree_from)
+        })?;
+        assert!(trial.rt; placed.places.len() == 3 && places.len() == 3);
+        let shapes = lends(
+            trial,
+            "overlay_extract::extract_shapes_with_trees_from",
+            |it| extract_shapes_with_trees_from(&graph, SUBJECT, options, it, tree_from),
+        )?;
+        let linked = lends(
+            trial,
+            "overlay_extract::extract_shape_hierarchy_with_trees_from",
+            |it| {
+                extract_shape_hierarchy_with_trees_from(&graph, SUBJECT, options, it, tree_from)
+            },
+        )?;
+        assert!(trial.rt; shapes.len() == 3 && linked.links.len() == 1);
+    }
+    let shapes = lends(trial, "overlay_extract::extract_shapes", |it| {
+        extract_shapes(&graph, SUBJECT, options, it)
+    })?;
+    let linked = lends(trial, "overlay_extract::extract_shape_hierarchy", |it| {
+        extract_shape_hierarchy(&graph, SUBJECT, options, it)
+    })?;
+    assert!(trial.rt; shapes.len() == 3 && linked.links.len() == 1);
+    let places = bound_places(&graph, &contours, DIRECTION, 0)?;
+    for keeps_points in [false, true] {
+        let again = trial.refuse_call("overlay_extract::assembled", || {
+            assembled(memory, &contours, &places, keeps_points)
+        })?;
+        let first = trial.refuse_call("overlay_extract::contour", || {
+            contour(memory, &contours[0].steps, keeps_points)
+        })?;
+        assert!(trial.rt; again == shapes && first == shapes[0][0]);
+    }
+    Ok(())
+}
+
+#[test]
+fn functions_of_shapes(rt: HostRuntime) -> Result<(), Fail> {
+    at_a_width!(rt, check_shapes)
+}
+
+fn check_flat<I: Width>(trial: &Trial<'_, impl Abort>) -> Result<(), Fail> {
+    let memory = trial.memory;
+    let (graph, options) = (plain_graph::<I>(memory)?, IntOverlayOptions::default());
+    let new = || {
+        let mut output = FlatContoursBuffer::default(memory)?;
+        output.add_contour(&square(0, 2))?;
+        Ok((BooleanExtractionBuffer::default(memory), output))
+    };
+    let (mut buffer, mut wanted) = new()?;
+    extract_contours(&graph, SUBJECT, options, &mut buffer, &mut wanted)?;
+    assert!(trial.rt; wanted.ranges.len() == 4);
+    trial.refuse_each(
+        "overlay_extract::extract_contours",
+        new,
+        |it| extract_contours(&graph, SUBJECT, options, &mut it.0, &mut it.1),
+        |it| Ok(it.1.points.is_empty() && it.1.ranges.is_empty()),
+    )
+}
+
+#[test]
+fn functions_of_flat_contours(rt: HostRuntime) -> Result<(), Fail> {
+    at_a_width!(rt, check_flat)
+}
+
+fn check_slices<I: Width>(trial: &Trial<'_, impl Abort>) -> Result<(), Fail> {
+    let memory = trial.memory;
+    let (graph, options) = (plain_graph::<I>(memory)?, IntOverlayOptions::default());
+    let least: I::WideUInt = options.min_output_area;
+    let orbits = trial.refuse_call("overlay_slice::side_orbits", || side_orbits(&graph))?;
+    let counts = [
+        count_of(trial, "overlay_slice::tours", || tours(memory, &orbits))?,
+        count_of(
+            trial,
+            "overlay_slice::filled_loops",
+            || filled_loops(&graph),
+        )?,
+        count_of(trial, "overlay_slice::cut_loops", || {
+            cut_loops(memory, &orbits[0])
+        })?,
+    ];
+    assert!(trial.rt; orbits.len() == 4 && counts == [4, 4, 1]);
+    let contours = trial.refuse_each(
+        "overlay_slice::contours_of_loops",
+        || Ok(Some(filled_loops(&graph)?)),
+        |it| contours_of_loops(memory, taken::<I>(it)?),
+        |_| Ok(true),
+    )?;
+    let found = trial.refuse_call("overlay_slice::slice_contours", || {
+        slice_contours(&graph, least)
+    })?;
+    let shapes = trial.refuse_call("overlay_slice::sliced_shapes", || {
+        sliced_shapes(&graph, DIRECTION, least)
+    })?;
+    assert!(trial.rt; contours.len() == 4 && found.contours.len() == 4 && shapes.len() == 3);
+    for tree_from in LIMITS {
+        let found = trial.refuse_call("overlay_slice::slice_contours_with_trees_from", || {
+            slice_contours_with_trees_from(&graph, least, tree_from)
+        })?;
+        let again = trial.refuse_call("overlay_slice::sliced_shapes_with_trees_from", || {
+            sliced_shapes_with_trees_from(&graph, DIRECTION, least, tree_from)
+        })?;
+        assert!(trial.rt; found.contours.len() == 4 && again == shapes);
+    }
+    Ok(())
+}
+
+#[test]
+fn functions_of_slices(rt: HostRuntime) -> Result<(), Fail> {
+    at_a_width!(rt, check_slices)
+}
+
+fn check_vectors<I: Width>(trial: &Trial<'_, impl Abort>) -> Result<(), Fail> {
+    let memory = trial.memory;
+    let passing = passing_without_data(ShapeType::Subject);
+    let graph: Graph<I, CountWithData<()>, Memory<'_>> = graph_of(memory, passing, &mut ())?;
+    let options = IntOverlayOptions::default();
+    let counts = [
+        count_of(
+            trial,
+            "overlay_vector::graph_vectors",
+            || graph_vectors(&graph),
+        )?,
+        count_of(trial, "overlay_vector::selected_vectors", || {
+            selected_vectors(&graph, SUBJECT)
+        })?,
+    ];
+    assert!(trial.rt; counts == [16, 16]);
+    let shapes = lends(trial, "overlay_vector::vector_shapes", |it| {
+        vector_shapes(&graph, SUBJECT, options, it, &mut ())
+    })?;
+    assert!(trial.rt; shapes.len() == 3);
+    for tree_from in LIMITS {
+        let shapes = lends(
+            trial,
+            "overlay_vector::vector_shapes_with_trees_from",
+            |it| vector_shapes_with_trees_from(&graph, SUBJECT, options, it, &mut (), tree_from),
+        )?;
+        assert!(trial.rt; shapes.len() == 3);
+    }
+    Ok(())
+}
+
+#[test]
+fn functions_of_vectors(rt: HostRuntime) -> Result<(), Fail> {
+    at_a_width!(rt, check_vectors)
+}
