@@ -27,7 +27,7 @@ export function unpacked(value) {
   return value?.shapes?.packed ? { ...value, shapes: unpacked(value.shapes) } : value;
 }
 
-/** The buffers of the arrays in what was packed. */
+/** The buffers of the arrays in a packed value. */
 export function buffersIn(value) {
   if (ArrayBuffer.isView(value)) {
     return [value.buffer];

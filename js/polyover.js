@@ -17,7 +17,7 @@ export * from "./errors.js";
 export { Flat, FlatShapes } from "./flat.js";
 export { RemotePolyover } from "./remote.js";
 
-// (what bundlers for browsers leave alone)
+// (bundlers for browsers leave a name in a variable alone)
 const FILES = "node:fs/promises";
 
 /** The bytes of a file, where the system of files is there, or of what a URL answers. */

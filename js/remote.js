@@ -3,7 +3,7 @@
 import { BadInput, ERRORS, PolyoverError, WorkerEnded } from "./errors.js";
 import { packed, unpacked } from "./packing.js";
 
-// (what bundlers for browsers leave alone)
+// (bundlers for browsers leave a name in a variable alone)
 const THREADS = "node:worker_threads";
 const CALLS = ["overlay", "hierarchy", "simplify", "relate", "clip", "slice", "locate", "edges", "isResolved"];
 

@@ -25,7 +25,7 @@ export class Board {
     state.on("drawing answer looks hand piece", () => this.draw());
   }
 
-  /** Takes the size of the canvas as it is laid out. What was shown whole stays so; else the middle stays. */
+  /** Takes the size of the canvas as it is laid out. A drawing shown whole stays so; else the middle stays. */
   resize() {
     const { width, height } = this.canvas.getBoundingClientRect();
     this.view.width = Math.round(width);

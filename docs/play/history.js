@@ -49,7 +49,7 @@ export class History {
     return this.#go("future", "past");
   }
 
-  /** Takes what is there from the end of a list, and puts what was there on the other. */
+  /** Takes the last state of a list, and puts the present one on another list. */
   #go(/** @type {"past" | "future"} */ from, /** @type {"past" | "future"} */ to) {
     this.settle();
     const next = this[from].pop();

@@ -38,7 +38,7 @@ function take(/** @type {import("./answers.js").Answer | null} */ answer) {
 
 // ---- asking
 
-/** What was asked last: a drawing, and whether with the edges of its arrangement. */
+/** The drawing that was asked last, and whether with the edges of its arrangement. */
 let asked = { drawing: /** @type {import("./state.js").Drawing | null} */ (null), isArranged: false };
 
 /** Asks the library for the answer to what is drawn. */
@@ -54,7 +54,7 @@ function askMore() {
   if (asked.drawing === state.drawing && !asked.isArranged && (nodes || sides)) ask();
 }
 
-/** Asks for the answer to what is new in the drawing, where it follows each move; else a button stands there. */
+/** Asks for the answer to a new drawing, where it follows each move; else a button stands there. */
 function askLive() {
   if (asked.drawing === state.drawing) return;
   if (isLive(state.figures)) return ask();
@@ -66,7 +66,7 @@ function askLive() {
 
 // ---- what is opened
 
-/** Shows another drawing: an example that has a name, or what is opened. */
+/** Shows another drawing: an example that has a name, or one that is opened. */
 function show(/** @type {Partial<import("./state.js").Drawing>} */ drawing, looks = {}, name = "") {
   const select = /** @type {HTMLSelectElement} */ (byId("example"));
   select.value = name;

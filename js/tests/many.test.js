@@ -59,7 +59,7 @@ function byLibrary(subject, clip) {
   }
 }
 
-/** What a call answers, and how many milliseconds of processors it takes: the less of two calls. */
+/** The answer of a call, and its milliseconds of processors: the less of two calls. */
 function timed(call) {
   const both = [0, 1].map(() => {
     const begun = process.cpuUsage();

@@ -1,4 +1,4 @@
-/** The calls in a worker: what they answer, and what comes of calls that wait when it ends, fails or answers late. */
+/** The calls in a worker: their answers, and calls that wait when it ends, fails or answers late. */
 
 import assert from "node:assert/strict";
 import test from "node:test";
@@ -23,7 +23,7 @@ function workerTest(name, run) {
   });
 }
 
-/** A worker that answers when it is told to: after its end too, as Node hands over what was on its way. */
+/** A worker that answers when it is told to: after its end too, as Node hands over answers on their way. */
 class FakeWorker {
   sent = [];
   ends = 0;
@@ -70,7 +70,7 @@ workerTest("arrays go to a worker and come back", async (remote) => {
     const shapes = await remote.overlay(given, flat(kind, OTHER));
     assert.ok(shapes instanceof FlatShapes && shapes.contours.coordinates instanceof kind);
     assert.deepEqual([...shapes], [...polyover.overlay(given, flat(kind, OTHER))]);
-    // (what was given is here still)
+    // (the given arrays are here still)
     assert.equal(given.coordinates.length, 8);
     assert.deepEqual(await remote.edges(given), polyover.edges(given));
     const points = kind.from([2, 2, 9, 9], kind === BigInt64Array ? BigInt : Number);

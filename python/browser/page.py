@@ -90,7 +90,7 @@ def started():
     for word in WORDS:
         options.add_argument(word)
     options.set_capability("goog:loggingPrefs", {"browser": "ALL", "performance": "ALL"})
-    # (what is asked of this machine goes to no proxy)
+    # (requests to this machine go to no proxy)
     options.ignore_local_proxy_environment_variables()
     for start in range(STARTS):
         try:
@@ -130,7 +130,7 @@ class Browser:
         self.frames()
 
     def leave(self):
-        """Leaves the page, with what it keeps and what the console and the requests were."""
+        """Leaves the page, with all that it keeps, and forgets its messages and requests."""
         self.driver.get("about:blank")
         kept = {"origin": self.base.rstrip("/"), "storageTypes": "local_storage"}
         self.driver.execute_cdp_cmd("Storage.clearDataForOrigin", kept)
@@ -199,7 +199,7 @@ class Browser:
         self.frames()
 
     def frames(self):
-        """Waits until what was to be painted is."""
+        """Waits for two frames, so that the page has painted."""
         self.driver.execute_async_script("requestAnimationFrame(() => requestAnimationFrame(arguments[0]))")
 
     def answer(self):

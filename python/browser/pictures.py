@@ -58,7 +58,7 @@ COMPARED = """
 
 
 def shown(page):
-    """Shows each of what there are pictures of, and names it."""
+    """Shows each example, command and look in turn, and names it."""
     for name in EXAMPLES:
         page.example(name)
         yield name

@@ -6,7 +6,7 @@ from .page import browser
 
 SQUARES = "#subject=0+0+4+0+4+4+0+4&clip=2+2+6+2+6+6+2+6&run=overlay+Intersect+NonZero+ogc"
 SQUARE = [[0, 0], [4, 0], [4, 4], [0, 4]]
-# two contours of so many points each
+# two contours, each of a number of points that is given
 RINGS = """
     const { state } = polyover;
     const ring = (count, x) => Array.from({ length: count }, (_, at) => {
@@ -170,7 +170,7 @@ class Hand(unittest.TestCase):
         self.assertLess(self.page.run(view)[0], before[0])
         self.page.size()
         self.assertEqual(self.page.run(view), before)
-        # (what is zoomed stays as it is)
+        # (a zoomed view stays as it is)
         self.page.press("#zoom-in")
         zoomed = self.page.run(view)
         self.page.size(900, 500)
@@ -187,7 +187,7 @@ class Hand(unittest.TestCase):
         self.page.wait()
         self.page.drag((1e6, 0), (1.1e6, 1e5), (1.2e6, 2e5), (1.3e6, 1e5))
         self.assertEqual(self.page.answer()["kind"], "shapes")
-        # (the least of some: what else the machine does takes none of it)
+        # (the least of some, on a machine that may be busy)
         took = min(self.page.run(PAINTED) for _ in range(9))
         self.assertLess(took, 500)
 

@@ -8,11 +8,15 @@ import unittest
 from http.client import HTTPConnection
 from pathlib import Path
 
+from polyover.picture import COLOURS
+
 from .page import ROOT, browser
 
 SQUARES = "#subject=0+0+4+0+4+4+0+4&clip=2+2+6+2+6+6+2+6&run=overlay+Intersect+NonZero+ogc"
 TEXTS = {".js", ".css", ".html"}
 ADDRESS = re.compile(r"https?://[^\s\"'`)]+")
+COLOUR = re.compile(r"^ *--(\w[\w-]*): (#[0-9a-f]{6});$", re.MULTILINE)
+PRINTED = re.compile(r'^ *(\w+): "(#[0-9a-f]{6})",$', re.MULTILINE)
 # (of the language of pictures, which nobody asks for)
 NAMES = {"http://www.w3.org/2000/svg"}
 WIDTHS = ((1600, 1000), (1000, 760), (400, 860))
@@ -156,6 +160,14 @@ class Alone(unittest.TestCase):
             if "node_modules" not in file.parts and "tests" not in file.parts:
                 found = [each for each in ADDRESS.findall(file.read_text()) if each not in NAMES]
                 self.assertEqual(found, [], file)
+
+    def test_colours_of_pictures_are_those_of_the_light_theme(self):
+        play = ROOT / "docs" / "play"
+        theme, dark = (dict(COLOUR.findall((play / f"{name}.css").read_text())) for name in ("theme", "dark"))
+        printed = dict(PRINTED.findall((play / "palette.js").read_text()))
+        self.assertEqual({name: theme[name] for name in printed}, printed)
+        self.assertEqual({name: printed[name] for name in COLOURS}, COLOURS)
+        self.assertEqual(set(dark), set(theme))
 
     def test_one_file(self):
         page = browser()
