@@ -15,6 +15,7 @@ use overlay_arrange::content::Content;
 use overlay_arrange::data::CountWithData;
 use overlay_arrange::fill::{fills_of_balanced, fills_with_trees_from};
 use overlay_arrange::settle::is_settled;
+use overlay_arrange::sort_numbers::order_by_numbers;
 use overlay_builder::boolean::passing;
 use overlay_builder::builder_core::BuilderCore;
 use overlay_builder::path::{PathKind, add_path};
@@ -54,6 +55,15 @@ fn content<I: Width>(memory: Memory<'_>) -> Answer<Counted<'_, I>> {
     Ok(content)
 }
 
+// The places of the squares, the last first.
+fn places_down(memory: Memory<'_>) -> Answer<Vec<usize, Memory<'_>>> {
+    let mut places = Vec::with_capacity(memory, PATHS)?;
+    for place in 0..PATHS {
+        places.push(PATHS - 1 - place)?;
+    }
+    Ok(places)
+}
+
 fn check_edges<I: Width>(trial: &Trial<'_, impl Abort>) -> Result<(), Fail> {
     let memory = trial.memory;
     let mut held = content::<I>(memory)?;
@@ -77,7 +87,12 @@ fn check_edges<I: Width>(trial: &Trial<'_, impl Abort>) -> Result<(), Fail> {
         })?;
         assert!(trial.rt; again == fills);
     }
-    Ok(())
+    trial.refuse_each(
+        "overlay_arrange::order_by_numbers",
+        || places_down(memory),
+        |it| order_by_numbers(it, PATHS, |place| *place),
+        |it| Ok(it[..] == places_down(memory)?[..]),
+    )
 }
 
 #[test]
