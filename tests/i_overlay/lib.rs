@@ -28,7 +28,6 @@ mod ogc;
 mod one_call;
 mod one_list;
 mod paths;
-mod prepared;
 mod reexports;
 mod relations;
 mod rows;

@@ -40,8 +40,8 @@ const RULES: [OverlayRule; 7] = [
     OverlayRule::Xor,
 ];
 
-/// The n-th number that a generator draws: SplitMix64, begun with zero.
-pub(crate) fn drawn(n: u64) -> u64 {
+// The n-th number that a generator draws: SplitMix64, begun with zero.
+fn drawn(n: u64) -> u64 {
     let z = n.wrapping_mul(0x9E37_79B9_7F4A_7C15);
     let z = (z ^ (z >> 30)).wrapping_mul(0xBF58_476D_1CE4_E5B9);
     let z = (z ^ (z >> 27)).wrapping_mul(0x94D0_49BB_1331_11EB);
