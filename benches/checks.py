@@ -97,12 +97,12 @@ def is_far(steps, point, reach):
 
 
 def check_area(area, fine, scale, steps, halves):
-    """An area, doubled, is near that of the same contours on a grid so many times as fine, by snap rounding.
+    """An area, doubled, is near that of the same contours on a grid that is `scale` times as fine, by snap rounding.
 
-    A chain stays within so many halves of a unit of its edge, in x and in y. Off these strips no winding changes."""
+    A chain stays within `halves` half units of its edge, in x and in y. Off these strips no winding changes."""
 
     def strips(side, times):
-        """The area of all points so near a step, on a grid so many times as fine."""
+        """The area of all points within `side` of a step in x and in y, on a grid that is `times` as fine."""
         return sum(side * times * (abs(bx - ax) + abs(by - ay)) + side * side for (ax, ay), (bx, by) in steps)
 
     most = 2 * (strips(halves, 1) * scale**2 + strips(1, scale))

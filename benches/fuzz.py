@@ -49,7 +49,7 @@ from solved import HALVES, Solved
 
 SECONDS = 20
 MEMORY = 2**30
-# areas are held against those on a grid so many times as fine
+# areas are held against those on a grid that is this many times as fine
 SCALE = 2**20
 UNSETTLED = (1, b"refused E2\n")
 
@@ -250,7 +250,7 @@ def check_solvers(solvers, figures, fill_rule, random):
 
 
 def finer_than(figures, scale):
-    """The contours on a grid so many times as fine; none where that leaves the range."""
+    """The contours on a grid that is `scale` times as fine; none where that leaves the range."""
     paths = figures.subject + figures.clip
     if any(abs(number) * scale > LARGEST for path in paths for point in path for number in point):
         return None

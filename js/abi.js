@@ -80,7 +80,7 @@ class Held {
     this.taken = [];
   }
 
-  /** The address of so many bytes; 0 for none. */
+  /** The address of a block of `bytes` bytes; 0 for none. */
   take(bytes) {
     if (bytes === 0) {
       return 0;

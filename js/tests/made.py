@@ -85,7 +85,7 @@ def told(value: Any, is_big: bool) -> Any:
 
 
 def main() -> None:
-    """Prints so many."""
+    """Prints the number of inputs that the first argument asks for."""
     count, seed = int(sys.argv[1]), int(sys.argv[2]) if len(sys.argv) > 2 else 1
     if polyover.backend() != "library":
         raise SystemExit("no library for C (make -C c)")

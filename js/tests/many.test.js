@@ -27,7 +27,7 @@ function numbers(seed) {
   };
 }
 
-/** Squares, each of which meets some others. */
+/** Squares that each meet some others. */
 function squares(count, seed, kind) {
   const next = numbers(seed);
   const size = Math.round(Math.sqrt(count) * 1000);

@@ -226,7 +226,7 @@ void *realloc(void *at, size_t size) {
 }
 
 #ifdef REFUSING
-/* From now on so many requests are granted, and then none; with UINT64_MAX all are. */
+/* Grants the next `count` requests, and then none; with UINT64_MAX all. */
 void refuse_after(uint64_t count) {
     left = count;
 }

@@ -12,7 +12,7 @@ COPIES = 32766
 
 
 def copies(beside):
-    """So many copies of a rectangle, and a contour of so many edges beside them."""
+    """`COPIES` copies of a rectangle, and a contour of `beside` edges."""
     rectangle = [(100, 2), (100 + COPIES + 1, 2), (100 + COPIES + 1, 3), (100, 3)]
     return [rectangle] * COPIES + [[(at, at * at) for at in range(beside)]]
 
@@ -36,7 +36,7 @@ class Limits(unittest.TestCase):
         self.steps = [steps()]
 
     def calls(self, beside):
-        """Each call, with so many edges beside the rectangles, or one more where the steps are not closed."""
+        """Each call, with `beside` edges beside the rectangles, or one more where the steps are not closed."""
         closed, opened = copies(beside), copies(beside + 1)
         return {
             "overlay": (closed, self.steps),
