@@ -28,7 +28,7 @@ pub(crate) struct Block<I> {
     pub bottom: I,
 }
 
-/// Blocks of so many edges each, in their order. The only refusal is `Memory`.
+/// Returns the blocks of `size` edges, in their order; the last may have fewer. The only refusal is `Memory`.
 pub(crate) fn blocks_over<I: IntNumber, A: Allocator>(
     alloc: A,
     edges: &[IntEdge<I>],

@@ -19,7 +19,7 @@ use overlay_geom::error::OverlayError;
 use overlay_geom::number::IntNumber;
 use std::alloc::Allocator;
 
-/// The edges of which the subject fills exactly one side, in their order. The only refusal is `Memory`.
+/// Returns the edges with exactly one side filled by the subject, in their order. The only refusal is `Memory`.
 pub(crate) fn boundary_of<I: IntNumber, C: EdgeCount, A: Allocator + Clone>(
     alloc: A,
     graph: &Graph<I, C, A>,

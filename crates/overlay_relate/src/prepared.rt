@@ -12,7 +12,7 @@ mod made;
 /// A shape under a fill rule, made from any contours, that is asked again and again where points lie: on its boundary,
 /// inside or outside.
 ///
-/// It keeps the boundary alone: the edges of the arrangement of which exactly one side is filled, and blocks of 64 and
+/// It keeps the boundary alone: the edges of the arrangement with exactly one filled side, and blocks of 64 and
 /// of 4096 of them. A question passes over blocks that lie right of the point, left of it or above it, and takes no
 /// memory.
 #[derive(Drop)]

@@ -71,7 +71,7 @@ impl<I: OverlayInt, A: Allocator + Clone> PredicateOverlay<I, A> {
         Ok(overlay)
     }
 
-    /// An empty builder with room for so many edges, and these settings.
+    /// Returns an empty builder with room for `capacity` edges, and these settings.
     pub(crate) fn with_settings(
         alloc: A,
         capacity: usize,

@@ -14,16 +14,17 @@ use overlay_geom::integer::OverlayInt;
 use overlay_geom::point::IntPoint;
 use std::alloc::Allocator;
 
-/// So many edges are a block.
+/// Number of edges in a block.
 pub(crate) const BLOCK: usize = 64;
 
-/// And so many are a group.
+/// Number of edges in a group.
 pub(crate) const GROUP: usize = 4096;
 
 impl<I: OverlayInt, A: Allocator> PreparedShape<I, A> {
-    /// Where the point lies: `Boundary` exactly where it is on an edge of the arrangement of which exactly one side
-    /// is filled, its ends included; else `Inside` exactly where the rule fills the winding there, counted along a ray
-    /// downwards; else `Outside`. The point may be any: beyond the coordinate range it is outside. No memory is taken.
+    /// Returns where the point lies: `Boundary` exactly where it is on an edge of the arrangement with exactly one
+    /// filled side, its ends included; else `Inside` exactly where the rule fills the winding there, counted along a
+    /// ray downwards; else `Outside`. The point may be any: beyond the coordinate range it is outside. No memory is
+    /// taken.
     pub fn locate(&self, point: IntPoint<I>) -> PointLocation
         ensures located { LiesSo self.now (in_plane (plain_point I.whole point)) result }
         ensures by_edges { IsLocatedBy self.now (in_plane (plain_point I.whole point)) result }
