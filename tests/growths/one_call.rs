@@ -7,6 +7,7 @@ use i_overlay::fill_rule::FillRule;
 use i_overlay::i_float::int::point::IntPoint;
 use i_overlay::i_shape::int::path::PathRef;
 use i_overlay::i_shape::int::shape::IntContour;
+use i_overlay::i_shape::source::int::resource::{BorrowedContours, BorrowedShapes};
 use i_overlay::overlay::IntOverlayOptions;
 use i_overlay::overlay_rule::OverlayRule;
 use i_overlay::point_location::{IntPointContainment, PointLocation, PreparedShape};
@@ -174,10 +175,18 @@ fn check_points<I: Width>(trial: &Trial<'_, impl Abort>) -> Result<(), Fail> {
     let contour: IntContour<I, Memory<'_>> = Vec::from_array(memory, square_at(0))?;
     let names = ["IntContour::contains_points", "IntContour::locate_points"];
     locates(trial, names, &contour)?;
+    let names = ["PathRef::contains_points", "PathRef::locate_points"];
+    locates(trial, names, &PathRef::new(&contour))?;
     let names = ["IntShape::contains_points", "IntShape::locate_points"];
-    locates(trial, names, &squares::<I>(memory, PATHS)?)?;
+    let shape = squares::<I>(memory, PATHS)?;
+    locates(trial, names, &shape)?;
+    let names = ["BorrowedContours::contains_points", "BorrowedContours::locate_points"];
+    locates(trial, names, &BorrowedContours { contours: &shape })?;
     let names = ["IntShapes::contains_points", "IntShapes::locate_points"];
-    locates(trial, names, &lone_squares::<I>(memory)?)
+    let shapes = lone_squares::<I>(memory)?;
+    locates(trial, names, &shapes)?;
+    let names = ["BorrowedShapes::contains_points", "BorrowedShapes::locate_points"];
+    locates(trial, names, &BorrowedShapes { shapes: &shapes })
 }
 
 fn check_prepared<I: Width>(trial: &Trial<'_, impl Abort>) -> Result<(), Fail> {

@@ -10,6 +10,9 @@ use i_overlay::i_float::int::number::wide_int::WideIntNumber;
 use i_overlay::i_float::int::point::IntPoint;
 use i_overlay::i_float::int::vector::IntVector;
 use i_overlay::i_shape::flat::buffer::{FlatContoursBuffer, FlatShapesBuffer};
+use i_overlay::i_shape::int::path::PathRef;
+use i_overlay::i_shape::int::shape::{IntContour, IntShape};
+use i_overlay::i_shape::source::int::resource::{BorrowedContours, BorrowedShapes};
 use i_overlay::integer::{OverlayInt, in_range, is_resolved, is_resolved_in};
 use i_overlay::overlay::{ContourDirection, IntOverlayOptions, ShapeType};
 use i_overlay::overlay_rule::OverlayRule;
@@ -152,6 +155,11 @@ fn may_hold_points<R: IntPointContainment<i32>>(_holder: &R) -> bool {
 fn points_in_contours(rt: HostRuntime) {
     let contour: Vec<IntPoint<i32>, Global> = Vec::new(rt.alloc());
     assert!(&rt; may_hold_points(&contour));
+    assert!(&rt; may_hold_points(&PathRef::new(&contour)));
+    let shape: Vec<IntContour<i32, Global>, Global> = Vec::new(rt.alloc());
+    assert!(&rt; may_hold_points(&BorrowedContours { contours: &shape }));
+    let shapes: Vec<IntShape<i32, Global>, Global> = Vec::new(rt.alloc());
+    assert!(&rt; may_hold_points(&BorrowedShapes { shapes: &shapes }));
     assert!(&rt; PointLocation::Inside != PointLocation::Boundary);
 }
 

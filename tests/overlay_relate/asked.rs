@@ -2,9 +2,10 @@
 //! lists or by trees alone.
 
 use overlay_geom::integer::OverlayInt;
-use overlay_geom::path::{IntContour, IntShape, IntShapes};
+use overlay_geom::path::{IntContour, IntShape, IntShapes, PathRef};
 use overlay_geom::point::{IntPoint, in_range};
 use overlay_geom::resolved::is_resolved;
+use overlay_geom::resource::borrowed::{BorrowedContours, BorrowedShapes};
 use overlay_relate::containment::IntPointContainment;
 use overlay_relate::in_contour::locate_in_contour;
 use overlay_relate::in_shapes::{locate_in_shape, locate_in_shapes};
@@ -82,6 +83,19 @@ fn are_in_shapes<I: OverlayInt>(
     Ok(by_trees.as_slice() == locations && by_lists.as_slice() == locations)
 }
 
+// Tests whether the same points, borrowed, have these answers.
+fn answers_alike<I: OverlayInt, T: IntPointContainment<I>>(
+    alloc: Global,
+    borrowed: &T,
+    points: &[IntPoint<I>],
+    answers: &Answers,
+) -> Result<bool, Fail> {
+    let inside = borrowed.contains_points(alloc, points)?;
+    let locations = borrowed.locate_points(alloc, points)?;
+    Ok(inside.as_slice() == answers.inside.as_slice()
+        && locations.as_slice() == answers.locations.as_slice())
+}
+
 /// Asks a contour about the points.
 pub(crate) fn ask_contour<I: OverlayInt>(
     rt: &impl Abort,
@@ -106,7 +120,9 @@ pub(crate) fn ask_resolved<I: OverlayInt>(
     let inside = contour.contains_points(alloc, points)?;
     let locations = contour.locate_points(alloc, points)?;
     assert!(rt; are_in_contour(alloc, all, points, &locations)?);
-    Ok(Answers { inside, locations })
+    let answers = Answers { inside, locations };
+    assert!(rt; answers_alike(alloc, &PathRef::new(all), points, &answers)?);
+    Ok(answers)
 }
 
 /// Asks a shape about the points.
@@ -122,7 +138,9 @@ pub(crate) fn ask_shape<I: OverlayInt>(
     let inside = shape.contains_points(alloc, points)?;
     let locations = shape.locate_points(alloc, points)?;
     assert!(rt; are_in_shape(alloc, all, points, &locations)?);
-    Ok(Answers { inside, locations })
+    let answers = Answers { inside, locations };
+    assert!(rt; answers_alike(alloc, &BorrowedContours { contours: all }, points, &answers)?);
+    Ok(answers)
 }
 
 /// Asks several shapes about the points.
@@ -138,7 +156,9 @@ pub(crate) fn ask_shapes<I: OverlayInt>(
     let inside = shapes.contains_points(alloc, points)?;
     let locations = shapes.locate_points(alloc, points)?;
     assert!(rt; are_in_shapes(alloc, all, points, &locations)?);
-    Ok(Answers { inside, locations })
+    let answers = Answers { inside, locations };
+    assert!(rt; answers_alike(alloc, &BorrowedShapes { shapes: all }, points, &answers)?);
+    Ok(answers)
 }
 
 /// The points with these coordinates.

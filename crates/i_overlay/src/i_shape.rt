@@ -29,6 +29,7 @@ pub mod source {
         /// Resources.
         pub mod resource {
             pub use overlay_geom::resource::IntShapeResource;
+            pub use overlay_geom::resource::borrowed::{BorrowedContours, BorrowedShapes};
         }
     }
 }

@@ -19,6 +19,8 @@ use overlay_geom::path::{IntContour, IntShape, IntShapes};
 use overlay_geom::point::IntPoint;
 use std::alloc::Allocator;
 
+mod borrowed;
+
 /// The number of edges of a contour from which on the live ones are kept in a tree. Of fewer edges a list and a tree
 /// take as long.
 const TREE_FROM_EDGES: usize = 8_000;

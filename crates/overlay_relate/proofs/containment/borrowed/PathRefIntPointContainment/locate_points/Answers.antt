@@ -1,0 +1,31 @@
+-- Where a point lies in one shape, it lies among that shape alone.
+use Rattle.std.proofs.Common.{◌∷◌, [], All}
+use Rattle.std.proofs.lemmas.List.Elements.{All-head}
+use Rattle.overlay_geom.specs.Plane.{Point, in_plane}
+use Rattle.overlay_geom.specs.Points.{plain_points, AllInRange}
+use Rattle.overlay_geom.specs.Resolved.{IsResolved}
+use Rattle.overlay_relate.specs.Locations.{IsLocatedIn, IsLocatedAmong}
+use Rattle.overlay_relate.specs.declared.location.PointLocation.{PointLocation}
+use Rattle.overlay_relate.proofs.Answered.{answers_weaker}
+use Rattle.overlay_relate.proofs.Located.{among_one}
+use Rattle.overlay_relate.proofs.containment.borrowed.PathRefIntPointContainment.locate_points.Goals as goal
+
+pub locate_in_contour-requires-clause-contour : goal.locate_in_contour-requires-clause-contour
+locate_in_contour-requires-clause-contour g c =
+    let contour = plain_points g.I.IntNumber.whole c.args.self.now.points.now in
+    let P = AllInRange g.I.IntNumber.limit in
+    All-head P contour [] (All-head (All P) (contour ∷ []) [] c.requires.self_in_range)
+
+pub locate_in_contour-requires-clause-resolved : goal.locate_in_contour-requires-clause-resolved
+locate_in_contour-requires-clause-resolved g c =
+    let contour = plain_points g.I.IntNumber.whole c.args.self.now.points.now in
+    All-head IsResolved contour [] (All-head (All IsResolved) (contour ∷ []) [] c.requires.resolved)
+
+pub returns-clause-located : goal.returns-clause-located
+returns-clause-located g c =
+    let whole = g.I.IntNumber.whole in
+    let shape = plain_points whole c.args.self.now.points.now ∷ [] in
+    answers_weaker (λ (q : Point) (l : PointLocation). IsLocatedIn shape (in_plane q) l)
+    (λ (q : Point) (l : PointLocation). IsLocatedAmong (shape ∷ []) (in_plane q) l)
+    (λ q l at. among_one shape (in_plane q) l at) (plain_points whole c.args.points.now)
+    c.in_ok-locations.locations.items (c.in_ok-locations.ensures).located
