@@ -38,8 +38,8 @@ SMALL = [str(word) for kind in KINDS for limit in LIMITS.values() for word in (k
 
 NAME = "timed_scans"
 USES = [
-    "overlay_geom", "overlay_scan", "overlay_tree", "overlay_arrange", "overlay_walk", "overlay_bind", "overlay_relate",
-    "anyhow",
+    "overlay_geom", "overlay_scan", "overlay_tree", "overlay_arrange", "overlay_walk", "overlay_extract",
+    "overlay_relate", "anyhow",
 ]
 DRIVER = """\
 //! Times sweeps: KIND EDGES TREE_FROM ROUNDS, as often as is wanted.
@@ -51,7 +51,7 @@ use overlay_arrange::edge::{CountedEdge, compare_edges, compare_points};
 use overlay_arrange::fill::fills_with_trees_from;
 use overlay_arrange::fill_rule::FillRule;
 use overlay_arrange::options::ContourDirection;
-use overlay_bind::bind::bind_contours;
+use overlay_extract::binding::bind::bind_contours;
 use overlay_geom::point::IntPoint;
 use overlay_relate::in_contour::locate_in_contour;
 use overlay_relate::location::PointLocation;

@@ -9,8 +9,8 @@ use i_overlay::i_shape::int::shape::IntContour;
 use i_overlay::solver::Solver;
 use i_overlay::string::clip::IntClip;
 use i_overlay::string::slice::IntSlice;
-use overlay_tiles::grid::Grid;
-use overlay_tiles::slice::slice_by_grid_with_solver;
+use overlay_string::tiles::grid::Grid;
+use overlay_string::tiles::slice::slice_by_grid_with_solver;
 use std::process::Abort;
 use std::test::Fail;
 
@@ -86,7 +86,7 @@ fn check_tiles<I: Width>(trial: &Trial<'_, impl Abort>) -> Result<(), Fail> {
         width: I::from(2),
         height: I::from(4),
     };
-    let count = count_of(trial, "overlay_tiles::slice_by_grid_with_solver", || {
+    let count = count_of(trial, "overlay_string::slice_by_grid_with_solver", || {
         slice_by_grid_with_solver(memory, &shape, grid, RULE, SNAPPED)
     })?;
     assert!(trial.rt; count == 4 * 2);

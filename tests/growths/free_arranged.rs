@@ -9,6 +9,11 @@ use i_overlay::i_shape::int::shape::IntContour;
 use i_overlay::overlay::{ContourDirection, ShapeType};
 use i_overlay::point_location::PointLocation;
 use i_overlay::segm::boolean::ShapeCountBoolean;
+use i_overlay::simplifying::arranged_alone::arrange_alone;
+use i_overlay::simplifying::outcome::Outcome;
+use i_overlay::simplifying::points_once::has_each_point_once;
+use i_overlay::simplifying::shapes::shapes_left;
+use i_overlay::simplifying::simple::outcome_of_contour;
 use i_overlay::solver::Solver;
 use overlay_arrange::balance::is_balanced;
 use overlay_arrange::content::Content;
@@ -26,11 +31,6 @@ use overlay_geom::thin::thinned;
 use overlay_relate::in_contour::locate_in_contour;
 use overlay_relate::in_shapes::{locate_in_shape, locate_in_shapes};
 use overlay_relate::resolved::is_resolved_in;
-use overlay_simplify::arranged_alone::arrange_alone;
-use overlay_simplify::outcome::Outcome;
-use overlay_simplify::points_once::has_each_point_once;
-use overlay_simplify::shapes::shapes_left;
-use overlay_simplify::simple::outcome_of_contour;
 use std::process::Abort;
 use std::test::Fail;
 
@@ -191,28 +191,28 @@ fn arranges<'m, I: Width, T: PartialEq + Drop, C: Fn(&mut Core<'m, I>) -> Answer
 fn check_simplifying<I: Width>(trial: &Trial<'_, impl Abort>) -> Result<(), Fail> {
     let memory = trial.memory;
     let (contour, shape) = (square::<I>(0, 2), squares::<I>(memory, PATHS)?);
-    let is_once = trial.refuse_call("overlay_simplify::has_each_point_once", || {
+    let is_once = trial.refuse_call("i_overlay::has_each_point_once", || {
         has_each_point_once(memory, &contour)
     })?;
     assert!(trial.rt; is_once);
     for outcome in [Outcome::AsGiven, Outcome::Reversed] {
-        let shapes = trial.refuse_call("overlay_simplify::shapes_left", || {
+        let shapes = trial.refuse_call("i_overlay::shapes_left", || {
             shapes_left(memory, &contour, outcome)
         })?;
         assert!(trial.rt; shapes.len() == 1);
     }
     for solver in [Solver::ABSOLUTE, Solver::SNAPPED] {
-        arranges::<I, _, _>(trial, "overlay_simplify::arrange_alone", |it| {
+        arranges::<I, _, _>(trial, "i_overlay::arrange_alone", |it| {
             arrange_alone(it, solver, &shape, false)
         })?;
-        let outcome = arranges::<I, _, _>(trial, "overlay_simplify::outcome_of_contour", |it| {
+        let outcome = arranges::<I, _, _>(trial, "i_overlay::outcome_of_contour", |it| {
             let direction = ContourDirection::CounterClockwise;
             outcome_of_contour(it, solver, &contour, false, RULE, direction)
         })?;
         assert!(trial.rt; outcome == Outcome::AsGiven);
     }
     let one: IntContour<I, Memory<'_>> = Vec::from_array(memory, contour)?;
-    arranges::<I, _, _>(trial, "overlay_simplify::arrange_alone", |it| {
+    arranges::<I, _, _>(trial, "i_overlay::arrange_alone", |it| {
         arrange_alone(it, Solver::ABSOLUTE, &PathRef::new(&one), true)
     })
 }

@@ -14,15 +14,15 @@ use overlay_arrange::content::Content;
 use overlay_arrange::count::EdgeCount;
 use overlay_arrange::data::CountWithData;
 use overlay_arrange::graph::Graph;
-use overlay_bind::anchor::hole_anchors;
-use overlay_bind::bind::bind_contours;
-use overlay_bind::islands::{hole_places, holes_round};
-use overlay_bind::placed::{bound_places, placed_contours};
-use overlay_bind::places::shape_places;
-use overlay_bind::scans::{scan_for_holes, scan_for_islands};
 use overlay_builder::boolean::{passing, passing_without_data};
 use overlay_builder::path::{PathKind, StepCounts, add_path};
 use overlay_extract::assemble::{assembled, contour};
+use overlay_extract::binding::anchor::hole_anchors;
+use overlay_extract::binding::bind::bind_contours;
+use overlay_extract::binding::islands::{hole_places, holes_round};
+use overlay_extract::binding::placed::{bound_places, placed_contours};
+use overlay_extract::binding::places::shape_places;
+use overlay_extract::binding::scans::{scan_for_holes, scan_for_islands};
 use overlay_extract::extract::{extract_contours, extract_shapes, extract_shapes_with_trees_from};
 use overlay_extract::hierarchy::{
     extract_shape_hierarchy, extract_shape_hierarchy_with_trees_from,
@@ -196,17 +196,17 @@ fn check_binding<I: Width>(trial: &Trial<'_, impl Abort>) -> Result<(), Fail> {
     let graph = plain_graph::<I>(memory)?;
     let contours = kept(&graph)?;
     let known = known(memory, &contours)?;
-    let anchors = trial.refuse_call("overlay_bind::hole_anchors", || {
+    let anchors = trial.refuse_call("overlay_extract::hole_anchors", || {
         hole_anchors(memory, &contours, &known)
     })?;
-    let places = trial.refuse_call("overlay_bind::hole_places", || {
+    let places = trial.refuse_call("overlay_extract::hole_places", || {
         hole_places(memory, &contours)
     })?;
     assert!(trial.rt; anchors.len() == 1 && places.len() == 4);
     for tree_from in LIMITS {
         let new = || Ok(scan_for_holes(memory, &contours, tree_from));
         let found = trial.refuse_each(
-            "overlay_bind::bind_contours",
+            "overlay_extract::bind_contours",
             new,
             |it| bind_contours(memory, it, &contours, DIRECTION),
             |_| Ok(true),
@@ -217,13 +217,13 @@ fn check_binding<I: Width>(trial: &Trial<'_, impl Abort>) -> Result<(), Fail> {
             assert!(trial.rt; !is_hole || found[at] == Some(0));
         }
         let round = trial.refuse_each(
-            "overlay_bind::holes_round",
+            "overlay_extract::holes_round",
             || Ok(scan_for_islands(memory, &contours, tree_from)),
             |it| holes_round(memory, it, &contours, DIRECTION),
             |_| Ok(true),
         )?;
         assert!(trial.rt; round.len() == 3);
-        let places = trial.refuse_call("overlay_bind::shape_places", || {
+        let places = trial.refuse_call("overlay_extract::shape_places", || {
             shape_places(memory, &contours, &found)
         })?;
         assert!(trial.rt; places.len() == 3 && places[0].len() == 2);
@@ -241,10 +241,10 @@ fn check_shapes<I: Width>(trial: &Trial<'_, impl Abort>) -> Result<(), Fail> {
     let (graph, options) = (plain_graph::<I>(memory)?, IntOverlayOptions::default());
     let contours = kept(&graph)?;
     for tree_from in LIMITS {
-        let placed = lends(trial, "overlay_bind::placed_contours", |it| {
+        let placed = lends(trial, "overlay_extract::placed_contours", |it| {
             placed_contours(&graph, SUBJECT, options, it, tree_from)
         })?;
-        let places = trial.refuse_call("overlay_bind::bound_places", || {
+        let places = trial.refuse_call("overlay_extract::bound_places", || {
             bound_places(&graph, &contours, DIRECTION, tree_from)
         })?;
         assert!(trial.rt; placed.places.len() == 3 && places.len() == 3);

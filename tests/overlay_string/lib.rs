@@ -3,7 +3,11 @@
 mod built;
 mod clip;
 mod clip_calls;
+mod fits;
 mod points;
 mod slice;
 mod solvers;
+mod tile_points;
+mod tile_solvers;
+mod tiles;
 mod views;

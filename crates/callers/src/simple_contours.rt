@@ -2,6 +2,9 @@
 
 ghost use Rattle.overlay_geom.specs.Points.{plain_points, AllInRange};
 
+use i_overlay::simplifying::outcome::Outcome;
+use i_overlay::simplifying::shapes::shapes_left;
+use i_overlay::simplifying::simple::outcome_of_contour;
 use overlay_arrange::data::CountWithData;
 use overlay_arrange::fill_rule::FillRule;
 use overlay_arrange::options::ContourDirection;
@@ -10,9 +13,6 @@ use overlay_geom::error::OverlayError;
 use overlay_geom::path::IntShapes;
 use overlay_geom::point::IntPoint;
 use overlay_geom::solver::Solver;
-use overlay_simplify::outcome::Outcome;
-use overlay_simplify::shapes::shapes_left;
-use overlay_simplify::simple::outcome_of_contour;
 use std::alloc::Global;
 
 /// The shapes of a contour that is simple; none of one that would have to be cut.

@@ -12,7 +12,7 @@ ghost use Rattle.overlay_walk.specs.GroupedContours.{plain_contours};
 ghost use Rattle.overlay_walk.specs.Steps.{plain_step, IsLong};
 
 use overlay_arrange::options::ContourDirection;
-use overlay_bind::bind::bind_contours;
+use overlay_extract::binding::bind::bind_contours;
 use overlay_geom::error::OverlayError;
 use overlay_geom::point::IntPoint;
 use overlay_scan::list::ScanList;

@@ -11,8 +11,8 @@ use Rattle.overlay_arrange.specs.Content.{IsContent}
 use Rattle.overlay_builder.specs.GivenPaths.{GivenPath, IsBalancedUnlessFailed}
 use Rattle.overlay_builder.specs.Held.{Held}
 use Rattle.overlay_builder.proofs.Balanced.{held_paths_are_balanced}
-use Rattle.overlay_simplify.specs.Alone.{AnswersAlone, IsArrangedAlone, MayRefuseAlone}
-use Rattle.overlay_simplify.proofs.AddedAlone.{answers_alone}
+use Rattle.i_overlay.specs.Alone.{AnswersAlone, IsArrangedAlone, MayRefuseAlone}
+use Rattle.i_overlay.proofs.AddedAlone.{answers_alone}
 
 module _ (limit : ℕ) (solver : Solver) (keep : Bool) (paths : List GivenPath) where
   -- its counts are balanced

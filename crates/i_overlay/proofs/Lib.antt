@@ -1,13 +1,25 @@
 mod Rows
+pub mod AddedAlone
 pub mod Builders
+pub mod ClosedPoints
+pub mod DirectionRead
 pub mod HeldAlone
+pub mod LeastPoints
+pub mod OnceSorted
+pub mod OneOutcome
 pub mod OneQuery
 pub mod OneShots
 pub mod OneSimplified
+pub mod Outcomes
 pub mod Queries
 pub mod Relations
+pub mod ReversedContours
+pub mod SimpleEdges
+pub mod SimpleWindings
 pub mod SimplifiedContours
 pub mod SimplifiedPaths
+pub mod TestedContours
 pub mod ToldRelations
+pub mod TurnedParts
 pub mod TwoSources
 pub mod Views

@@ -23,7 +23,7 @@ use Rattle.overlay_extract.specs.Results.{Asked, asked, IsResult}
 use Rattle.overlay_plane.specs.Islands.{ChildLink}
 use Rattle.overlay_builder.specs.GivenPaths.{GivenPath, added_paths}
 use Rattle.overlay_builder.specs.PathLists.{HoldsPaths, MayRefuseBuilder}
-use Rattle.overlay_simplify.proofs.AddedAlone.{query_refused as refused_alone}
+use Rattle.i_overlay.proofs.AddedAlone.{query_refused as refused_alone}
 
 -- what the default options ask for
 pub asked_of_default : {U : Type 0} (area_width : Width) (natural : U → ℕ) (fill : FillRule) (rule : OverlayRule)

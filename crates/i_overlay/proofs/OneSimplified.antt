@@ -9,9 +9,9 @@ use Rattle.overlay_extract.specs.Determined.{AreArrangedWithBalance}
 use Rattle.overlay_extract.specs.Results.{Asked}
 use Rattle.overlay_extract.proofs.OneOverlay.{results_show_one_list, contours_show_one_list}
 use Rattle.overlay_extract.proofs.Results.{same_contours, same_shapes}
-use Rattle.overlay_simplify.specs.declared.outcome.Outcome.{Outcome}
-use Rattle.overlay_simplify.specs.declared.outcome.Outcome.TheVariants.{NotSimple, Empty, AsGiven, Reversed}
-use Rattle.overlay_simplify.proofs.OneOutcome.{outcomes_are_one}
+use Rattle.i_overlay.specs.declared.simplifying.outcome.Outcome.{Outcome}
+use Rattle.i_overlay.specs.declared.simplifying.outcome.Outcome.TheVariants.{NotSimple, Empty, AsGiven, Reversed}
+use Rattle.i_overlay.proofs.OneOutcome.{outcomes_are_one}
 use Rattle.i_overlay.specs.Determined.{AreAlike, ContoursAreAlike, SimplifiedAlike, OneSimplified}
 use Rattle.i_overlay.specs.Determined.{SimplifiedContoursAlike, OneSimplifiedList}
 use Rattle.i_overlay.specs.Simplified.{IsLeft, IsSimplifiedContour, IsSimplified, IsSimplifiedSource}

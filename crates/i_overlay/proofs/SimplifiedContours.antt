@@ -19,11 +19,11 @@ use Rattle.overlay_arrange.specs.declared.options.ContourDirection.TheVariants.{
 use Rattle.overlay_arrange.specs.declared.overlay_rule.OverlayRule.TheVariants.{Subject}
 use Rattle.overlay_walk.specs.Steps.{filled_hand}
 use Rattle.overlay_extract.specs.Results.{Asked, WindsRoundRegion, region_asked}
-use Rattle.overlay_simplify.specs.Laws.{once_in}
-use Rattle.overlay_simplify.specs.Outcome.{IsOutcome, HasOutcome, shapes_left, contours_left}
-use Rattle.overlay_simplify.specs.declared.outcome.Outcome.{Outcome}
-use Rattle.overlay_simplify.specs.declared.outcome.Outcome.TheVariants.{NotSimple, Empty, AsGiven, Reversed}
-use Rattle.overlay_simplify.proofs.Outcomes.{one_outcome, simple_contours_wind_once}
+use Rattle.i_overlay.specs.Laws.{once_in}
+use Rattle.i_overlay.specs.Outcome.{IsOutcome, HasOutcome, shapes_left, contours_left}
+use Rattle.i_overlay.specs.declared.simplifying.outcome.Outcome.{Outcome}
+use Rattle.i_overlay.specs.declared.simplifying.outcome.Outcome.TheVariants.{NotSimple, Empty, AsGiven, Reversed}
+use Rattle.i_overlay.proofs.Outcomes.{one_outcome, simple_contours_wind_once}
 use Rattle.i_overlay.specs.Simplified.{IsLeft, IsSimplifiedContour, AreLeft, AreOfContour}
 
 module _ (keep : Bool) (ps : List Point) (es : List CountedEdge) where

@@ -9,8 +9,8 @@ use Rattle.overlay_geom.specs.Flat.{first_range}
 use Rattle.overlay_geom.specs.Plane.{Point}
 use Rattle.overlay_arrange.specs.declared.overlay_rule.OverlayRule.TheVariants.{Subject as OfSubject}
 use Rattle.overlay_extract.specs.Results.{Asked, IsResult}
-use Rattle.overlay_simplify.specs.declared.outcome.Outcome.{Outcome}
-use Rattle.overlay_simplify.specs.declared.outcome.Outcome.TheVariants.{NotSimple, AsGiven}
+use Rattle.i_overlay.specs.declared.simplifying.outcome.Outcome.{Outcome}
+use Rattle.i_overlay.specs.declared.simplifying.outcome.Outcome.TheVariants.{NotSimple, AsGiven}
 use Rattle.i_overlay.specs.Simplified.{IsSimplified, StayAsGiven, AreLeft, AreSimplified, IsOutcomeOfAll}
 use Rattle.i_overlay.proofs.SimplifiedContours.{contours_of_one, outcome_is}
 

@@ -1,9 +1,15 @@
 pub mod Adding
+pub mod Alone
 pub mod Builder
 pub mod Determined
+pub mod Laws
+pub mod OneOutcome
 pub mod OneShot
+pub mod Outcome
+pub mod Points
 pub mod Queries
 pub mod Relations
 pub mod ShapeVectors
+pub mod Simple
 pub mod Simplified
 pub mod Views

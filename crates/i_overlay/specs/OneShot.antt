@@ -15,7 +15,7 @@ use Rattle.overlay_builder.specs.PathLists.{HoldsPaths}
 use Rattle.overlay_extract.specs.PlacedResults.{IsHierarchy}
 use Rattle.overlay_extract.specs.Results.{Asked, IsResult}
 use Rattle.overlay_plane.specs.Islands.{ChildLink}
-use Rattle.overlay_simplify.specs.Alone.{MayRefuseAlone}
+use Rattle.i_overlay.specs.Alone.{MayRefuseAlone}
 
 -- what rules ask for with the default options
 abbrev pub asked_by_default : Width → FillRule → OverlayRule → Asked

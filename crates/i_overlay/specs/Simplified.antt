@@ -11,10 +11,10 @@ use Rattle.overlay_arrange.specs.declared.options.ContourDirection.{ContourDirec
 use Rattle.overlay_arrange.specs.declared.options.ShapeType.TheVariants.{Subject}
 use Rattle.overlay_builder.specs.GivenPaths.{paths_for}
 use Rattle.overlay_extract.specs.Results.{Asked, filled_asked, IsResult, IsContoursResult, WindsRoundRegion}
-use Rattle.overlay_simplify.specs.Alone.{IsArrangedAlone}
-use Rattle.overlay_simplify.specs.Outcome.{IsSimpleAsAdded, IsOutcome, HasOutcome, shapes_left, contours_left}
-use Rattle.overlay_simplify.specs.declared.outcome.Outcome.{Outcome}
-use Rattle.overlay_simplify.specs.declared.outcome.Outcome.TheVariants.{NotSimple, Empty, AsGiven, Reversed}
+use Rattle.i_overlay.specs.Alone.{IsArrangedAlone}
+use Rattle.i_overlay.specs.Outcome.{IsSimpleAsAdded, IsOutcome, HasOutcome, shapes_left, contours_left}
+use Rattle.i_overlay.specs.declared.simplifying.outcome.Outcome.{Outcome}
+use Rattle.i_overlay.specs.declared.simplifying.outcome.Outcome.TheVariants.{NotSimple, Empty, AsGiven, Reversed}
 
 -- ---- of a contour, where these edges are left of its own
 

@@ -24,6 +24,7 @@ pub mod relate;
 pub mod scan;
 pub mod segm;
 pub mod simplify;
+pub mod simplifying;
 pub mod single;
 pub mod solver;
 pub mod string;

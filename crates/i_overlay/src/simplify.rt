@@ -7,7 +7,7 @@ ghost use Rattle.overlay_extract.specs.Results.{asked};
 ghost use Rattle.overlay_geom.specs.Paths.{plain_shapes};
 ghost use Rattle.overlay_geom.specs.Points.{AllInRange};
 ghost use Rattle.overlay_geom.specs.declared.solver.Solver.TheVariants.{Rounds};
-ghost use Rattle.overlay_simplify.specs.Alone.{MayRefuseAlone};
+ghost use Rattle.i_overlay.specs.Alone.{MayRefuseAlone};
 ghost use Rattle.i_overlay.specs.Simplified.{IsSimplifiedAlone};
 
 use crate::overlay::{IntOverlayOptions, Overlay};

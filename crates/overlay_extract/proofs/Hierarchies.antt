@@ -13,11 +13,11 @@ use Rattle.overlay_plane.specs.ShapeWindings.{points_of_shapes, AreKeptOrThinned
 use Rattle.overlay_plane.proofs.Entries.{all_of_entries, Contains-from_flat_map}
 use Rattle.overlay_extract.specs.ChildLinks.{HaveOtherChildren}
 use Rattle.overlay_extract.specs.InShapes.{AreBegun}
-use Rattle.overlay_bind.specs.Placed.{ArePlacedResults}
+use Rattle.overlay_extract.specs.Placed.{ArePlacedResults}
 use Rattle.overlay_extract.specs.PlacedResults.{IsHierarchy}
 use Rattle.overlay_extract.specs.Results.{Asked, filled_asked}
 use Rattle.overlay_extract.proofs.GroupsInShapes.{HasWalks, shapes_have_walks, places_begin, walks_of_groups}
-use Rattle.overlay_bind.proofs.PlacedShapes.{placed_have}
+use Rattle.overlay_extract.proofs.PlacedShapes.{placed_have}
 use Rattle.overlay_extract.proofs.Results.{result_shown}
 
 -- a fact of the walks of each shape holds of the walks of all

@@ -21,7 +21,7 @@ use Rattle.overlay_plane.proofs.WalksApart.{walks_are_contours, walks_have_each_
 use Rattle.overlay_walk.specs.KeptResults.{AreKeptResults}
 use Rattle.overlay_extract.specs.Results.{Asked, region_asked, filled_asked, selected_of, is_kept, shapes_found}
 use Rattle.overlay_extract.specs.Results.{AreKeptWalks, IsResult, IsContoursResult}
-use Rattle.overlay_bind.proofs.PlacedShapes.{placed_have}
+use Rattle.overlay_extract.proofs.PlacedShapes.{placed_have}
 use Rattle.overlay_extract.proofs.PointsOnce.{shown_once}
 
 -- contours taken as they are given are equal to these

@@ -1,7 +1,13 @@
 pub mod ChildLinks
 pub mod Determined
+pub mod HolePlaces
 pub mod InShapes
 pub mod Laws
 pub mod Links
+pub mod Parents
+pub mod Placed
 pub mod PlacedResults
+pub mod Places
 pub mod Results
+pub mod Sides
+pub mod WalkEntries

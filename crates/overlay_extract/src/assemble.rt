@@ -11,7 +11,7 @@ ghost use Rattle.overlay_plane.specs.PlacedContours.{walk_at, walks_at};
 ghost use Rattle.overlay_plane.specs.ShapeWindings.{points_of_shapes, AreKeptOrThinned};
 ghost use Rattle.overlay_walk.specs.GroupedContours.{plain_contours};
 ghost use Rattle.overlay_walk.specs.Steps.{plain_steps, IsLong};
-ghost use Rattle.overlay_bind.specs.Places.{place_lists, AreInside};
+ghost use Rattle.overlay_extract.specs.Places.{place_lists, AreInside};
 
 use overlay_geom::error::OverlayError;
 use overlay_geom::number::IntNumber;

@@ -14,12 +14,12 @@ ghost use Rattle.overlay_walk.specs.Walks.{plain_walks};
 ghost use Rattle.overlay_extract.specs.Results.{asked, AreKeptWalks, IsResult, IsContoursResult};
 
 use crate::assemble::{assembled, contour};
+use crate::binding::placed::placed_contours;
+use crate::binding::scans::TREE_FROM_PARENTS;
 use overlay_arrange::count::EdgeCount;
 use overlay_arrange::graph::Graph;
 use overlay_arrange::options::IntOverlayOptions;
 use overlay_arrange::overlay_rule::OverlayRule;
-use overlay_bind::placed::placed_contours;
-use overlay_bind::scans::TREE_FROM_PARENTS;
 use overlay_geom::error::OverlayError;
 use overlay_geom::flat::contours::FlatContoursBuffer;
 use overlay_geom::number::IntNumber;

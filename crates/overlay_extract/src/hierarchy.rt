@@ -10,6 +10,8 @@ ghost use Rattle.overlay_extract.specs.PlacedResults.{IsHierarchy};
 ghost use Rattle.overlay_extract.specs.Results.{asked};
 
 use crate::assemble::assembled;
+use crate::binding::placed::placed_contours;
+use crate::binding::scans::TREE_FROM_PARENTS;
 use crate::child_link::ChildLink;
 use crate::in_shapes::in_shapes;
 use crate::links::links;
@@ -17,8 +19,6 @@ use overlay_arrange::count::EdgeCount;
 use overlay_arrange::graph::Graph;
 use overlay_arrange::options::IntOverlayOptions;
 use overlay_arrange::overlay_rule::OverlayRule;
-use overlay_bind::placed::placed_contours;
-use overlay_bind::scans::TREE_FROM_PARENTS;
 use overlay_geom::error::OverlayError;
 use overlay_geom::flat::shapes::FlatShapesBuffer;
 use overlay_geom::number::IntNumber;

@@ -5,7 +5,7 @@ ghost use Rattle.overlay_plane.specs.PlacedContours.{walk_at, walks_at};
 ghost use Rattle.overlay_plane.specs.RoledContours.{group_contours_from};
 ghost use Rattle.overlay_walk.specs.GroupedContours.{plain_contours, plain_role, contours_of_group};
 ghost use Rattle.overlay_extract.specs.InShapes.{role_at, AreBegun};
-ghost use Rattle.overlay_bind.specs.Places.{place_lists, AreInside};
+ghost use Rattle.overlay_extract.specs.Places.{place_lists, AreInside};
 
 use overlay_geom::error::OverlayError;
 use overlay_geom::number::IntNumber;

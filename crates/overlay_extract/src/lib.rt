@@ -3,6 +3,7 @@
 #![tactic(auto)]
 
 pub mod assemble;
+pub mod binding;
 pub mod child_link;
 pub mod extract;
 pub mod hierarchy;

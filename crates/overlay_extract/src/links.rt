@@ -9,10 +9,10 @@ ghost use Rattle.overlay_walk.specs.Steps.{filled_hand, IsLong};
 ghost use Rattle.overlay_extract.specs.ChildLinks.{plain_link, HaveOtherChildren};
 ghost use Rattle.overlay_extract.specs.Links.{link_at, links_from};
 
+use crate::binding::islands::holes_round;
+use crate::binding::scans::scan_for_islands;
 use crate::child_link::{ChildLink, sort_links};
 use overlay_arrange::options::ContourDirection;
-use overlay_bind::islands::holes_round;
-use overlay_bind::scans::scan_for_islands;
 use overlay_geom::error::OverlayError;
 use overlay_geom::number::IntNumber;
 use overlay_walk::contour::Contour;

@@ -4,7 +4,7 @@ ghost use Rattle.std.specs.Prelude.{◌<◌, length, All};
 ghost use Rattle.overlay_slice.specs.Bound.{PassesAnchor};
 ghost use Rattle.overlay_walk.specs.Steps.{plain_steps, IsLong};
 
-use overlay_bind::anchor::lowest_step;
+use overlay_extract::binding::anchor::lowest_step;
 use overlay_geom::number::IntNumber;
 use overlay_walk::step::{Step, is_forward};
 

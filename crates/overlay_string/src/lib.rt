@@ -17,3 +17,4 @@ pub mod string_graph;
 pub mod string_overlay;
 pub mod string_rule;
 mod taken_pieces;
+pub mod tiles;

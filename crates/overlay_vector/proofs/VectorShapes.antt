@@ -22,7 +22,7 @@ use Rattle.overlay_arrange.specs.declared.data.CountWithData.{CountWithData}
 use Rattle.overlay_arrange.specs.declared.fill_rule.FillRule.{FillRule}
 use Rattle.overlay_walk.specs.KeptResults.{AreKeptResults}
 use Rattle.overlay_extract.specs.Results.{Asked, filled_asked, selected_of, shapes_found}
-use Rattle.overlay_bind.proofs.PlacedShapes.{placed_have}
+use Rattle.overlay_extract.proofs.PlacedShapes.{placed_have}
 use Rattle.overlay_vector.specs.DataVectors.{DataVector}
 use Rattle.overlay_vector.specs.Joining.{IsKeptOrJoined}
 use Rattle.overlay_vector.specs.VectorShapes.{step_along, steps_along, IsVectorAlong, IsVectorContour}

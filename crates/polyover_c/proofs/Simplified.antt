@@ -11,7 +11,7 @@ use Rattle.overlay_geom.specs.Plane.{Point}
 use Rattle.overlay_geom.specs.declared.error.OverlayError.{OverlayError}
 use Rattle.overlay_geom.specs.declared.error.OverlayError.TheVariants as error
 use Rattle.overlay_geom.specs.declared.solver.Solver.{Solver}
-use Rattle.overlay_simplify.specs.Alone.{MayRefuseAlone}
+use Rattle.i_overlay.specs.Alone.{MayRefuseAlone}
 use Rattle.i_overlay.specs.Simplified.{IsSimplifiedAlone}
 use Rattle.polyover_c.specs.Reading.{HaveFault}
 use Rattle.polyover_c.specs.declared.fault.Fault.{Fault}

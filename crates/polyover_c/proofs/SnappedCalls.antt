@@ -6,7 +6,7 @@ use Rattle.overlay_geom.specs.declared.solver.Solver.TheVariants.{Rounds, Snappi
 use Rattle.overlay_builder.specs.GivenPaths.{GivenPath}
 use Rattle.overlay_builder.specs.PathLists.{AddedPath}
 use Rattle.overlay_geom.specs.Edges.{CountedEdge}
-use Rattle.overlay_simplify.specs.Alone.{MayRefuseAlone}
+use Rattle.i_overlay.specs.Alone.{MayRefuseAlone}
 use Rattle.overlay_string.specs.OneShot.{MayRefusePaths}
 use Rattle.polyover_c.specs.Asked.{solver_of}
 use Rattle.polyover_c.specs.Laws.{SnappedNeverUnsettled}

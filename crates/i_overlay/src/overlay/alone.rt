@@ -6,11 +6,14 @@ ghost use Rattle.overlay_builder.specs.GivenPaths.{paths_for};
 ghost use Rattle.overlay_extract.specs.Results.{asked, IsResult};
 ghost use Rattle.overlay_geom.specs.Paths.{plain_shapes};
 ghost use Rattle.overlay_geom.specs.Points.{plain_points, AllInRange};
-ghost use Rattle.overlay_simplify.specs.Alone.{AnswersAlone};
-ghost use Rattle.overlay_simplify.specs.Outcome.{IsOutcome};
+ghost use Rattle.i_overlay.specs.Alone.{AnswersAlone};
+ghost use Rattle.i_overlay.specs.Outcome.{IsOutcome};
 ghost use Rattle.i_overlay.specs.Builder.{held_by};
 
 use crate::overlay::Overlay;
+use crate::simplifying::arranged_alone::arrange_alone;
+use crate::simplifying::outcome::Outcome;
+use crate::simplifying::simple::outcome_of_contour;
 use overlay_arrange::fill_rule::FillRule;
 use overlay_arrange::overlay_rule::OverlayRule;
 use overlay_geom::error::OverlayError;
@@ -18,9 +21,6 @@ use overlay_geom::integer::OverlayInt;
 use overlay_geom::path::IntShapes;
 use overlay_geom::point::IntPoint;
 use overlay_geom::resource::IntShapeResource;
-use overlay_simplify::arranged_alone::arrange_alone;
-use overlay_simplify::outcome::Outcome;
-use overlay_simplify::simple::outcome_of_contour;
 use overlay_walk::buffer::BooleanExtractionBuffer;
 use std::alloc::Allocator;
 

@@ -11,7 +11,7 @@ ghost use Rattle.overlay_geom.specs.Points.{plain_points, AllInRange};
 ghost use Rattle.overlay_builder.specs.GivenPaths.{paths_for, subject_and_clip, added_paths};
 ghost use Rattle.overlay_builder.specs.PathLists.{HoldsPaths, MayRefuseBuilder};
 ghost use Rattle.i_overlay.specs.Adding.{BuilderAdds};
-ghost use Rattle.overlay_simplify.specs.Alone.{AnswersAlone};
+ghost use Rattle.i_overlay.specs.Alone.{AnswersAlone};
 ghost use Rattle.i_overlay.specs.Builder.{empty_builder, held_by, IsNewBuilder};
 
 use crate::overlay::{IntOverlayOptions, Overlay, ShapeType};

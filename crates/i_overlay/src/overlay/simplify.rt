@@ -10,12 +10,14 @@ ghost use Rattle.overlay_extract.specs.Results.{asked};
 ghost use Rattle.overlay_geom.specs.Paths.{paths_of_shape, plain_shapes};
 ghost use Rattle.overlay_geom.specs.Points.{plain_points, AllInRange};
 ghost use Rattle.overlay_geom.specs.Settled.{IsSettled};
-ghost use Rattle.overlay_simplify.specs.Alone.{AnswersAlone};
+ghost use Rattle.i_overlay.specs.Alone.{AnswersAlone};
 ghost use Rattle.i_overlay.specs.Builder.{held_by};
 ghost use Rattle.i_overlay.specs.Simplified.{IsLeft, IsSimplified, IsSimplifiedContour, IsSimplifiedSource};
 ghost use Rattle.i_overlay.specs.Simplified.{StayAsGiven, shapes_answered};
 
 use crate::overlay::Overlay;
+use crate::simplifying::outcome::Outcome;
+use crate::simplifying::shapes::shapes_left;
 use overlay_arrange::fill_rule::FillRule;
 use overlay_arrange::overlay_rule::OverlayRule;
 use overlay_geom::error::OverlayError;
@@ -25,8 +27,6 @@ use overlay_geom::path::{IntContour, IntShapes};
 use overlay_geom::point::IntPoint;
 use overlay_geom::resource::IntShapeResource;
 use overlay_geom::resource::borrowed::BorrowedContours;
-use overlay_simplify::outcome::Outcome;
-use overlay_simplify::shapes::shapes_left;
 use std::alloc::Allocator;
 
 impl<I: OverlayInt, A: Allocator + Clone> Overlay<I, A> {

@@ -9,20 +9,20 @@ ghost use Rattle.overlay_geom.specs.Flat.{part_in, first_range, paths_in};
 ghost use Rattle.overlay_geom.specs.Packed.{IsPacked};
 ghost use Rattle.overlay_geom.specs.Points.{plain_points, AllInRange};
 ghost use Rattle.overlay_geom.specs.Settled.{IsSettled};
-ghost use Rattle.overlay_simplify.specs.Alone.{AnswersAlone};
+ghost use Rattle.i_overlay.specs.Alone.{AnswersAlone};
 ghost use Rattle.i_overlay.specs.Builder.{held_by};
 ghost use Rattle.i_overlay.specs.Simplified.{AreCut, AreLeft, AreSimplified, IsOutcomeOfAll};
 ghost use Rattle.i_overlay.specs.Simplified.{StayAsGiven, StayOrAreGone};
 
 use crate::overlay::Overlay;
+use crate::simplifying::flat::leave_contour;
+use crate::simplifying::outcome::Outcome;
 use overlay_arrange::fill_rule::FillRule;
 use overlay_arrange::overlay_rule::OverlayRule;
 use overlay_extract::extract::emptied;
 use overlay_geom::error::OverlayError;
 use overlay_geom::flat::contours::FlatContoursBuffer;
 use overlay_geom::integer::OverlayInt;
-use overlay_simplify::flat::leave_contour;
-use overlay_simplify::outcome::Outcome;
 use std::alloc::Allocator;
 
 impl<I: OverlayInt, A: Allocator + Clone> Overlay<I, A> {

@@ -10,7 +10,7 @@ use Rattle.overlay_geom.specs.Thinned.{IsKeptOrThinned}
 use Rattle.overlay_plane.specs.PlacedContours.{walk_at, walks_at}
 use Rattle.overlay_plane.specs.ShapeWindings.{points_of_shapes, AreKeptOrThinned}
 use Rattle.overlay_walk.specs.GroupedContours.{plain_contours}
-use Rattle.overlay_bind.specs.Places.{place_lists}
+use Rattle.overlay_extract.specs.Places.{place_lists}
 use Rattle.overlay_extract.proofs.assemble.assembled.Goals as goal
 
 pub shape_at-requires-clause-inside : goal.shape_at-requires-clause-inside

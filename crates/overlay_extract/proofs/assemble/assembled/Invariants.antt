@@ -4,7 +4,7 @@ use Rattle.overlay_geom.specs.Paths.{plain_shapes}
 use Rattle.overlay_plane.specs.PlacedContours.{walks_at}
 use Rattle.overlay_plane.specs.ShapeWindings.{points_of_shapes, AreKeptOrThinned}
 use Rattle.overlay_walk.specs.GroupedContours.{plain_contours}
-use Rattle.overlay_bind.specs.Places.{place_lists}
+use Rattle.overlay_extract.specs.Places.{place_lists}
 use Rattle.overlay_extract.proofs.assemble.assembled.Given as goal
 
 abbrev pub invariant-loop-shape : goal.invariant-loop-shape

@@ -11,8 +11,8 @@ use Rattle.overlay_geom.specs.Thinned.{IsKeptOrThinned}
 use Rattle.overlay_plane.specs.PlacedContours.{walk_at}
 use Rattle.overlay_walk.specs.GroupedContours.{plain_contour, plain_contours}
 use Rattle.overlay_walk.specs.Steps.{plain_steps, IsLong}
-use Rattle.overlay_bind.proofs.HolesPlaced.{walk_there}
-use Rattle.overlay_bind.proofs.PlacedShapes.{walk_has}
+use Rattle.overlay_extract.proofs.HolesPlaced.{walk_there}
+use Rattle.overlay_extract.proofs.PlacedShapes.{walk_has}
 use Rattle.overlay_extract.proofs.assemble.shape_at.Goals as goal
 
 pub bounds-contours-place : goal.bounds-contours-place

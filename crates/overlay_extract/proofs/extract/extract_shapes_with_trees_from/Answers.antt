@@ -9,7 +9,7 @@ use Rattle.overlay_plane.specs.ShapeWindings.{points_of_shapes, AreKeptOrThinned
 use Rattle.overlay_arrange.specs.Graphs.{graph_edges}
 use Rattle.overlay_walk.specs.GroupedContours.{plain_contours}
 use Rattle.overlay_walk.specs.Steps.{IsLong}
-use Rattle.overlay_bind.specs.Places.{place_lists, AreInside}
+use Rattle.overlay_extract.specs.Places.{place_lists, AreInside}
 use Rattle.overlay_extract.specs.Results.{asked}
 use Rattle.overlay_extract.proofs.Results.{result_shown}
 use Rattle.overlay_extract.proofs.extract.extract_shapes_with_trees_from.Goals as goal

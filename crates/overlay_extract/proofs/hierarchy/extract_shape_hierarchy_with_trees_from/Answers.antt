@@ -13,7 +13,7 @@ use Rattle.overlay_walk.specs.Steps.{filled_hand, IsLong}
 use Rattle.overlay_extract.specs.ChildLinks.{plain_link}
 use Rattle.overlay_extract.specs.InShapes.{AreBegun}
 use Rattle.overlay_extract.specs.PlacedResults.{IsHierarchy}
-use Rattle.overlay_bind.specs.Places.{place_lists, AreInside}
+use Rattle.overlay_extract.specs.Places.{place_lists, AreInside}
 use Rattle.overlay_extract.specs.Results.{asked}
 use Rattle.overlay_extract.proofs.GroupsInShapes.{groups_in_shapes}
 use Rattle.overlay_extract.proofs.Hierarchies.{places_begun, ordered, ordered_have, ordered_bindable}

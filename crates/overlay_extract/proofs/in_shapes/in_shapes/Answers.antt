@@ -5,7 +5,7 @@ use Rattle.overlay_geom.proofs.Mapped.{mapped_more, mapped_whole, All-mapped_at,
 use Rattle.overlay_plane.specs.PlacedContours.{walk_at, walks_at}
 use Rattle.overlay_plane.specs.RoledContours.{group_contours_from}
 use Rattle.overlay_walk.specs.GroupedContours.{plain_contours, contours_of_group}
-use Rattle.overlay_bind.specs.Places.{place_lists}
+use Rattle.overlay_extract.specs.Places.{place_lists}
 use Rattle.overlay_extract.proofs.GroupsInShapes.{groups_longer, shapes_placed}
 use Rattle.overlay_extract.proofs.in_shapes.in_shapes.Goals as goal
 

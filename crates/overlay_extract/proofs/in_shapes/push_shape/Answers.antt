@@ -9,7 +9,7 @@ use Rattle.overlay_plane.specs.RoledContours.{Role}
 use Rattle.overlay_walk.specs.GroupedContours.{plain_contour, plain_contours, plain_role, contours_of_group}
 use Rattle.overlay_walk.specs.Steps.{plain_steps}
 use Rattle.overlay_extract.proofs.GroupsInShapes.{group_longer, role_next, role_of_next}
-use Rattle.overlay_bind.proofs.HolesPlaced.{walk_there}
+use Rattle.overlay_extract.proofs.HolesPlaced.{walk_there}
 use Rattle.overlay_extract.proofs.in_shapes.push_shape.Goals as goal
 
 pub bounds-contours-place : goal.bounds-contours-place

@@ -8,7 +8,7 @@ use Rattle.overlay_plane.specs.Turn.Hand.{left}
 use Rattle.overlay_arrange.specs.Graphs.{graph_edges}
 use Rattle.overlay_walk.specs.GroupedContours.{plain_contours}
 use Rattle.overlay_walk.specs.Steps.{IsLong}
-use Rattle.overlay_bind.specs.Places.{place_lists, AreInside}
+use Rattle.overlay_extract.specs.Places.{place_lists, AreInside}
 use Rattle.overlay_extract.proofs.Results.{same_shapes}
 use Rattle.overlay_slice.specs.Sliced.{in_direction, IsSliced}
 use Rattle.overlay_slice.proofs.RoledLoops.{roles_can_be_placed}

@@ -3,7 +3,7 @@ use Rattle.std.proofs.Common.{take}
 use Rattle.overlay_plane.specs.PlacedContours.{walks_at}
 use Rattle.overlay_arrange.specs.Stores.{IsStoreReached}
 use Rattle.overlay_walk.specs.GroupedContours.{plain_contours}
-use Rattle.overlay_bind.specs.Places.{place_lists}
+use Rattle.overlay_extract.specs.Places.{place_lists}
 use Rattle.overlay_vector.specs.VectorShapes.{plain_vector_shapes, AreVectorContours}
 use Rattle.overlay_vector.proofs.vector_contours.assembled.Given as goal
 

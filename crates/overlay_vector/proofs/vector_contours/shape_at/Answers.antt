@@ -10,7 +10,7 @@ use Rattle.overlay_arrange.specs.Graphs.{graph_edges}
 use Rattle.overlay_arrange.proofs.ReachedStores.{never_written, reached_on}
 use Rattle.overlay_walk.specs.GroupedContours.{plain_contour, plain_contours}
 use Rattle.overlay_walk.specs.Steps.{plain_steps, RunsAlong}
-use Rattle.overlay_bind.proofs.HolesPlaced.{walk_there}
+use Rattle.overlay_extract.proofs.HolesPlaced.{walk_there}
 use Rattle.overlay_vector.specs.DataVectors.{plain_data_vectors}
 use Rattle.overlay_vector.specs.VectorShapes.{plain_vector_shape, IsVectorContour}
 use Rattle.overlay_vector.proofs.vector_contours.shape_at.Goals as goal

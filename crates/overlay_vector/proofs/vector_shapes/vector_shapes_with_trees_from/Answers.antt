@@ -9,9 +9,9 @@ use Rattle.overlay_arrange.specs.Graphs.{graph_edges}
 use Rattle.overlay_walk.specs.Asked.{asked, is_kept, selected_of}
 use Rattle.overlay_walk.specs.GroupedContours.{plain_contours}
 use Rattle.overlay_walk.specs.Steps.{filled_hand, IsLong, RunsAlong}
-use Rattle.overlay_bind.specs.Places.{place_lists, AreInside}
-use Rattle.overlay_bind.proofs.PlacedShapes.{can_be_placed}
-use Rattle.overlay_bind.specs.Placed.{ArePlacedSomehow}
+use Rattle.overlay_extract.specs.Places.{place_lists, AreInside}
+use Rattle.overlay_extract.proofs.PlacedShapes.{can_be_placed}
+use Rattle.overlay_extract.specs.Placed.{ArePlacedSomehow}
 use Rattle.overlay_vector.specs.VectorShapes.{plain_vector_shapes, AreVectorContours, AreVectorShapes}
 use Rattle.overlay_vector.proofs.VectorShapes.{vector_shapes_shown, without_groups}
 use Rattle.overlay_vector.proofs.vector_shapes.vector_shapes_with_trees_from.Goals as goal

@@ -3,7 +3,7 @@ use Rattle.std.proofs.Common.{sym, subst}
 use Rattle.overlay_geom.specs.Points.{plain_points}
 use Rattle.overlay_arrange.specs.declared.options.ShapeType.TheVariants.{Subject}
 use Rattle.overlay_builder.specs.GivenPaths.{paths_for}
-use Rattle.overlay_simplify.specs.Alone.{AnswersAlone}
+use Rattle.i_overlay.specs.Alone.{AnswersAlone}
 use Rattle.i_overlay.specs.Builder.{held_by}
 use Rattle.i_overlay.proofs.SimplifiedPaths.{the_one}
 use Rattle.i_overlay.proofs.overlay.Overlay.simplify_source.Goals as goal

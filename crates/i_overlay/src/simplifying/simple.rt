@@ -1,0 +1,108 @@
+//! Whether a contour is simple as it was added, and its outcome.
+
+ghost use Rattle.std.specs.Prelude.{◌≡◌, ◌≢◌, ◌↔◌, [], ◌∷◌, IsTrue, IfOk, OnOk, IfErr, IsOkUnless};
+ghost use Rattle.overlay_arrange.specs.Content.{IsContent};
+ghost use Rattle.overlay_arrange.specs.declared.options.ShapeType.TheVariants.{Subject};
+ghost use Rattle.overlay_builder.specs.GivenPaths.{paths_for};
+ghost use Rattle.overlay_builder.specs.Held.{nothing_held, plain_held};
+ghost use Rattle.overlay_geom.specs.Points.{plain_points, AllInRange};
+ghost use Rattle.overlay_plane.specs.Carried.{edges_in};
+ghost use Rattle.overlay_plane.specs.Groups.{HasEachPointOnce};
+ghost use Rattle.i_overlay.specs.Alone.{AnswersAlone, IsArrangedAlone, MayRefuseAlone};
+ghost use Rattle.i_overlay.specs.Outcome.{IsOutcome};
+
+use crate::simplifying::direction::direction_of;
+use crate::simplifying::outcome::{Outcome, outcome_of};
+use crate::simplifying::points_once::has_each_point_once;
+use overlay_arrange::data::CountWithData;
+use overlay_arrange::fill_rule::FillRule;
+use overlay_arrange::options::{ContourDirection, ShapeType};
+use overlay_builder::boolean::passing_without_data;
+use overlay_builder::builder_core::BuilderCore;
+use overlay_builder::path::contour_kind;
+use overlay_geom::error::OverlayError;
+use overlay_geom::number::IntNumber;
+use overlay_geom::point::IntPoint;
+use overlay_geom::solver::Solver;
+use std::alloc::Allocator;
+
+/// Drops what the core holds and mends it, adds the contour as the subject's, brings it into an
+/// arrangement by the solver, and tells what becomes of the contour where it is simplified. Points on one
+/// line stay, or are dropped first. The points are in the coordinate range.
+///
+/// It is simple where no point of it was left out in adding, none of its edges was cut, no point is visited
+/// twice, and some edge is left: whether it is does not depend on the solver.
+///
+/// Refusals, which leave the core failed: `NotSettled` (never with `Solver::SNAPPED`), `TooManyEdges`
+/// and `Memory`.
+pub fn outcome_of_contour<I: IntNumber, A: Allocator + Clone>(
+    core: &mut BuilderCore<I, CountWithData<()>, A>,
+    solver: Solver,
+    contour: &[IntPoint<I>],
+    keeps_points: bool,
+    fill_rule: FillRule,
+    output_direction: ContourDirection,
+) -> Result<Outcome, OverlayError>
+    requires { AllInRange I.limit (plain_points I.whole contour.now) }
+    ensures alone { AnswersAlone I.limit solver keeps_points
+        (paths_for Subject (plain_points I.whole contour.now ∷ [])) (plain_held core.new) result }
+    ensures outcome { IfOk result (IsOutcome keeps_points fill_rule output_direction
+        (plain_points I.whole contour.now) (edges_in core.new.edges)) }
+{
+    core.clear();
+    let outcome = add_and_test(
+        core,
+        solver,
+        contour,
+        keeps_points,
+        fill_rule,
+        output_direction,
+    );
+    core.set_failed(outcome.is_err());
+    outcome
+}
+
+// Adds the contour to nothing, brings it into an arrangement, and tests it.
+fn add_and_test<I: IntNumber, A: Allocator + Clone>(
+    core: &mut BuilderCore<I, CountWithData<()>, A>,
+    solver: Solver,
+    contour: &[IntPoint<I>],
+    keeps_points: bool,
+    fill_rule: FillRule,
+    output_direction: ContourDirection,
+) -> Result<Outcome, OverlayError>
+    requires nothing { core.old ≡ nothing_held }
+    requires points { AllInRange I.limit (plain_points I.whole contour.now) }
+    ensures arranged { OnOk result (IsArrangedAlone keeps_points solver
+        (paths_for Subject (plain_points I.whole contour.now ∷ [])) (edges_in core.new.edges)) }
+    ensures content { OnOk result (IsContent I.limit (edges_in core.new.edges)) }
+    ensures outcome { IfOk result (IsOutcome keeps_points fill_rule output_direction
+        (plain_points I.whole contour.now) (edges_in core.new.edges)) }
+    ensures err { IfErr result (MayRefuseAlone keeps_points solver
+        (paths_for Subject (plain_points I.whole contour.now ∷ []))) }
+{
+    let kind = contour_kind(keeps_points);
+    let passing = passing_without_data(ShapeType::Subject);
+    let leaves_out = core.add_path(contour, kind, passing)?;
+    let is_cut = core.arrange(solver, &mut ())?;
+    let is_whole = !leaves_out && !is_cut;
+    if is_whole && visits_each_once(core, contour)? {
+        return Ok(outcome_of(fill_rule, output_direction, direction_of(contour)));
+    }
+    Ok(Outcome::NotSimple)
+}
+
+// Whether some edge is held, and no point stands twice in the contour.
+fn visits_each_once<I: IntNumber, A: Allocator + Clone>(
+    core: &BuilderCore<I, CountWithData<()>, A>,
+    contour: &[IntPoint<I>],
+) -> Result<bool, OverlayError>
+    ensures ok { IfOk result (λ b. IsTrue b
+        ↔ ((edges_in core.now.edges ≢ []) × HasEachPointOnce (plain_points I.whole contour.now))) }
+    ensures err { IsOkUnless result OverlayError.Memory }
+{
+    if core.content().len() == 0 {
+        return Ok(false);
+    }
+    has_each_point_once(core.content().allocator().clone()?, contour)
+}

@@ -1,0 +1,70 @@
+-- The shape of each hole is found.
+use Rattle.std.proofs.Common.{◌≡◌, false, All, AllPairs, map, length, sym, ap, ◌∙◌, subst}
+use Rattle.std.proofs.lemmas.List.{length-map}
+use Rattle.std.proofs.lemmas.Result.{IfOk-weaker}
+use Rattle.overlay_geom.specs.Plane.{edge_of, edge_eq}
+use Rattle.overlay_geom.specs.Settled.{IsSettledBy}
+use Rattle.overlay_plane.specs.Anchors.{HasEachEdgeOnce}
+use Rattle.overlay_plane.specs.Binding.{all_filled_above}
+use Rattle.overlay_plane.specs.BoundContours.{known_in, AreShapesFound}
+use Rattle.overlay_plane.specs.Contours.{IsContour, all_steps}
+use Rattle.overlay_plane.specs.RoledContours.{Contour, stands_in}
+use Rattle.overlay_walk.specs.GroupedContours.{plain_contour, plain_contours, walk_of}
+use Rattle.overlay_extract.specs.Parents.{HasShapeNumber}
+use Rattle.overlay_walk.specs.Steps.{filled_hand, IsLong}
+use Rattle.overlay_extract.proofs.BoundRoles.{first_for_all, each_by_sweep}
+use Rattle.overlay_extract.proofs.RolesRead.{walks_alike}
+use Rattle.overlay_extract.proofs.binding.bind.bind_contours.Goals as goal
+
+pub returns-then-shape_count-eq1-clause-found : goal.returns-then-shape_count-eq1-clause-found
+returns-then-shape_count-eq1-clause-found g c =
+    let filled = filled_hand c.args.direction in
+    let contours = plain_contours g.I.IntNumber.whole c.args.contours.now in
+    IfOk-weaker c.all_in_first.result _ (λ v. AreShapesFound filled contours v.items)
+    (λ v all. first_for_all filled contours v.items
+    (all.0 ∙ sym (length-map c.args.contours.now (plain_contour g.I.IntNumber.whole)))
+    (sym c.shape_count.ensures ∙ c.if-shape_count-eq1.true) all.1)
+    c.all_in_first.ensures.ok
+
+pub find_shapes-requires-clause-long : goal.find_shapes-requires-clause-long
+find_shapes-requires-clause-long g c =
+    subst (All (All (IsLong g.I.IntNumber.limit))) (walks_alike g.I.IntNumber.whole c.args.contours.now) c.requires.long
+
+pub find_shapes-requires-clause-contours : goal.find_shapes-requires-clause-contours
+find_shapes-requires-clause-contours g c =
+    subst (All IsContour) (walks_alike g.I.IntNumber.whole c.args.contours.now) c.requires.bindable.contours
+
+pub find_shapes-requires-clause-single : goal.find_shapes-requires-clause-single
+find_shapes-requires-clause-single g c =
+    subst (All HasEachEdgeOnce) (walks_alike g.I.IntNumber.whole c.args.contours.now) c.requires.bindable.single
+
+pub find_shapes-requires-clause-distinct : goal.find_shapes-requires-clause-distinct
+find_shapes-requires-clause-distinct g c =
+    subst (λ ws. AllPairs (λ e f. edge_eq e f ≡ false) (all_filled_above (filled_hand c.args.direction) ws))
+    (walks_alike g.I.IntNumber.whole c.args.contours.now) c.requires.bindable.distinct_above
+
+pub find_shapes-requires-clause-settled : goal.find_shapes-requires-clause-settled
+find_shapes-requires-clause-settled g c =
+    subst (λ ws. IsSettledBy edge_of (all_steps ws)) (walks_alike g.I.IntNumber.whole c.args.contours.now)
+    c.requires.bindable.settled
+
+pub find_shapes-requires-clause-known : goal.find_shapes-requires-clause-known
+find_shapes-requires-clause-known g c =
+    let contours = plain_contours g.I.IntNumber.whole c.args.contours.now in
+    ap length (c.deref.ensures.value ∙ c.in_ok-known.ensures.ok)
+    ∙ length-map contours (λ (k : Contour). stands_in k.role)
+    ∙ length-map c.args.contours.now (plain_contour g.I.IntNumber.whole)
+
+pub returns-clause-found : goal.returns-clause-found
+returns-clause-found g c =
+    let whole = g.I.IntNumber.whole in
+    let filled = filled_hand c.args.direction in
+    let contours = plain_contours whole c.args.contours.now in
+    let shapes = c.in_ok-shapes.shapes.items in
+    each_by_sweep filled contours shapes
+    (c.in_ok-shapes.ensures.counted ∙ sym (length-map c.args.contours.now (plain_contour whole)))
+    (λ one. c.if-shape_count-eq1.false (c.shape_count.ensures ∙ one))
+    (λ n. subst (λ ws. HasShapeNumber filled ws (known_in contours) shapes n)
+    (sym (walks_alike whole c.args.contours.now))
+    (subst (λ known. HasShapeNumber filled (map (walk_of whole) c.args.contours.now) known shapes n)
+    (c.deref.ensures.value ∙ c.in_ok-known.ensures.ok) (c.in_ok-shapes.ensures.numbers n)))

@@ -1,0 +1,115 @@
+//! Binding: the shape that each hole belongs to.
+
+ghost use Rattle.std.specs.Prelude.{◌≡◌, false, length, map, All, AllPairs, Some, IfOk, IsOkUnless};
+ghost use Rattle.overlay_geom.specs.Plane.{edge_of, edge_eq};
+ghost use Rattle.overlay_geom.specs.Settled.{IsSettledBy};
+ghost use Rattle.overlay_plane.specs.Anchors.{HasEachEdgeOnce};
+ghost use Rattle.overlay_plane.specs.Binding.{all_filled_above};
+ghost use Rattle.overlay_plane.specs.BoundContours.{walks_in, AreShapesFound};
+ghost use Rattle.overlay_plane.specs.Contours.{IsContour, all_steps};
+ghost use Rattle.overlay_plane.specs.KeptContours.{CanBeBound};
+ghost use Rattle.overlay_scan.specs.Scan.{empty_sweep};
+ghost use Rattle.overlay_walk.specs.GroupedContours.{plain_contours, walk_of};
+ghost use Rattle.overlay_extract.specs.Parents.{HasShapeNumber};
+ghost use Rattle.overlay_walk.specs.Steps.{filled_hand, IsLong};
+ghost use Rattle.overlay_extract.specs.Sides.{hand_on_side};
+
+use crate::binding::roles::{shape_count, shapes_known};
+use crate::binding::side::Side;
+use crate::binding::sweep::parents_by_sweep;
+use overlay_arrange::options::ContourDirection;
+use overlay_geom::error::OverlayError;
+use overlay_geom::number::IntNumber;
+use overlay_scan::scan::Scan;
+use overlay_walk::contour::Contour;
+use std::alloc::Allocator;
+
+/// Returns a list of `count` times the number of the first shape.
+fn all_in_first<A: Allocator>(alloc: A, count: usize) -> Result<Vec<Option<usize>, A>, OverlayError>
+    ensures ok { IfOk result (λ v. (length v.items ≡ count) × All (λ s. s ≡ Some 0) v.items) }
+    ensures err { IsOkUnless result OverlayError.Memory }
+{
+    let mut numbers = Vec::new(alloc);
+    numbers.resize(count, Some(0))?;
+    Ok(numbers)
+}
+
+/// Returns a list with an entry for each contour. The entry of a hole whose shape is to be found is the number of its
+/// shape, or None. If there is one outline alone, it is that shape. Otherwise the contour with the next filled-above
+/// edge below the hole's anchor decides. An outline, or a hole of its group, gives its own shape; another hole gives
+/// the shape found for it. The entry is None if there is no such edge, or if no shape is found for that hole. The
+/// entries of other contours are left open.
+///
+/// The contours' edges meet in ends alone, and none walks along an edge twice. No two filled-above edges are equal, nor
+/// two filled-below edges. The scan is empty at first; its content afterwards is left open. The only refusal is
+/// `Memory`.
+pub fn bind_contours<I: IntNumber, A: Allocator + Clone, S: Scan<I, usize>>(
+    alloc: A,
+    scan: &mut S,
+    contours: &[Contour<I, A>],
+    direction: ContourDirection,
+) -> Result<Vec<Option<usize>, A>, OverlayError>
+    requires long { All (All (IsLong I.limit)) (walks_in (plain_contours I.whole contours.now)) }
+    requires bindable { CanBeBound (filled_hand direction) (walks_in (plain_contours I.whole contours.now)) }
+    requires empty { S.content scan.old ≡ empty_sweep }
+    ensures found { IfOk result
+        (λ v. AreShapesFound (filled_hand direction) (plain_contours I.whole contours.now) v.items) }
+    ensures err { IsOkUnless result OverlayError.Memory }
+{
+    if shape_count(contours) == 1 {
+        return all_in_first(alloc, contours.len());
+    }
+    let known = shapes_known(alloc.clone()?, contours)?;
+    let shapes = find_shapes(alloc, scan, contours, &known, direction, Side::Above)?;
+    Ok(shapes)
+}
+
+/// Returns a list with a number, or None, for each contour. Contours with a known shape have their number in `known`;
+/// their entries are left open. Each other contour takes the number that is known of, or found for, the contour with
+/// the next edge below its anchor. Only edges filled on the side count. The entry is None if there is no such edge, or
+/// if none is found for that contour.
+///
+/// With `Side::Above` holes find their parents. With `Side::Below`, and the holes' places as known, an island finds the
+/// hole round it. The contours are as for [`bind_contours`]. The only refusal is `Memory`.
+pub fn find_shapes<I: IntNumber, A: Allocator + Clone, S: Scan<I, usize>>(
+    alloc: A,
+    scan: &mut S,
+    contours: &[Contour<I, A>],
+    known: &[Option<usize>],
+    direction: ContourDirection,
+    side: Side,
+) -> Result<Vec<Option<usize>, A>, OverlayError>
+    requires long { All (All (IsLong I.limit)) (map (walk_of I.whole) contours.now) }
+    requires contours { All IsContour (map (walk_of I.whole) contours.now) }
+    requires single { All HasEachEdgeOnce (map (walk_of I.whole) contours.now) }
+    requires distinct { AllPairs (λ e f. edge_eq e f ≡ false) (all_filled_above
+        (hand_on_side side (filled_hand direction)) (map (walk_of I.whole) contours.now)) }
+    requires settled { IsSettledBy edge_of (all_steps (map (walk_of I.whole) contours.now)) }
+    requires known { length known.now ≡ length contours.now }
+    requires empty { S.content scan.old ≡ empty_sweep }
+    ensures counted { IfOk result (λ v. length v.items ≡ length contours.now) }
+    ensures numbers { IfOk result (λ v. (n : _) → HasShapeNumber
+        (hand_on_side side (filled_hand direction))
+        (map (walk_of I.whole) contours.now) known.now v.items n) }
+    ensures err { IsOkUnless result OverlayError.Memory }
+{
+    parents_by_sweep(
+        alloc,
+        scan,
+        contours,
+        known,
+        filled_above_as(direction, side),
+    )
+}
+
+/// Returns the direction of contours whose filled-above edges are those filled on the side, for contours in
+/// `direction`.
+fn filled_above_as(direction: ContourDirection, side: Side) -> ContourDirection
+    ensures { filled_hand result ≡ hand_on_side side (filled_hand direction) }
+{
+    match (side, direction) {
+        (Side::Above, direction) => direction,
+        (Side::Below, ContourDirection::CounterClockwise) => ContourDirection::Clockwise,
+        (Side::Below, ContourDirection::Clockwise) => ContourDirection::CounterClockwise,
+    }
+}

@@ -1,0 +1,89 @@
+//! Islands: the hole round each outline.
+
+ghost use Rattle.std.specs.Prelude.{◌≡◌, length, All, IfOk, IsOkUnless};
+ghost use Rattle.overlay_plane.specs.BoundContours.{walks_in};
+ghost use Rattle.overlay_plane.specs.Islands.{hole_places, AreHolesRound};
+ghost use Rattle.overlay_plane.specs.KeptContours.{CanBeBound};
+ghost use Rattle.overlay_scan.specs.Scan.{empty_sweep};
+ghost use Rattle.overlay_walk.specs.GroupedContours.{plain_contours};
+ghost use Rattle.overlay_extract.specs.HolePlaces.{at_outlines};
+ghost use Rattle.overlay_walk.specs.Steps.{filled_hand, IsLong};
+
+use crate::binding::bind::find_shapes;
+use crate::binding::side::Side;
+use overlay_arrange::options::ContourDirection;
+use overlay_geom::error::OverlayError;
+use overlay_geom::number::IntNumber;
+use overlay_scan::scan::Scan;
+use overlay_walk::contour::Contour;
+use std::alloc::Allocator;
+
+/// Returns for each outline, in order, the place of the hole round it among the contours. The next filled-below edge
+/// below the outline's anchor decides. If a hole has that edge, it is this hole; if an outline has it, the hole round
+/// that outline. The result is None if there is no such edge, or if that outline has no hole round it.
+///
+/// The contours are as for [`bind_contours`](crate::binding::bind::bind_contours), in any order. Where the contours of
+/// each shape stand together, shape after shape, a place counts through the contours of all shapes. The scan is empty
+/// at first; its content afterwards is left open. The only refusal is `Memory`.
+pub fn holes_round<I: IntNumber, A: Allocator + Clone, S: Scan<I, usize>>(
+    alloc: A,
+    scan: &mut S,
+    contours: &[Contour<I, A>],
+    direction: ContourDirection,
+) -> Result<Vec<Option<usize>, A>, OverlayError>
+    requires long { All (All (IsLong I.limit)) (walks_in (plain_contours I.whole contours.now)) }
+    requires bindable { CanBeBound (filled_hand direction) (walks_in (plain_contours I.whole contours.now)) }
+    requires empty { S.content scan.old ≡ empty_sweep }
+    ensures round { IfOk result
+        (λ v. AreHolesRound (filled_hand direction) (plain_contours I.whole contours.now) v.items) }
+    ensures err { IsOkUnless result OverlayError.Memory }
+{
+    let places = hole_places(alloc.clone()?, contours)?;
+    let found = find_shapes(
+        alloc.clone()?,
+        scan,
+        contours,
+        &places,
+        direction,
+        Side::Below,
+    )?;
+    at_outlines(alloc, contours, &found)
+}
+
+/// Returns for each contour its place if it is a hole, or None if it is an outline. The only refusal is `Memory`.
+pub fn hole_places<I: IntNumber, A: Allocator>(
+    alloc: A,
+    contours: &[Contour<I, A>],
+) -> Result<Vec<Option<usize>, A>, OverlayError>
+    ensures ok { IfOk result (λ v. v.items ≡ hole_places 0 (plain_contours I.whole contours.now)) }
+    ensures err { IsOkUnless result OverlayError.Memory }
+{
+    let mut places = Vec::new(alloc);
+    for i in 0..contours.len() {
+        if contours[i].role.is_outline() {
+            places.push(None)?;
+        } else {
+            places.push(Some(i))?;
+        }
+    }
+    Ok(places)
+}
+
+// Returns the entries at the outlines' places, in order.
+fn at_outlines<I: IntNumber, A: Allocator>(
+    alloc: A,
+    contours: &[Contour<I, A>],
+    found: &[Option<usize>],
+) -> Result<Vec<Option<usize>, A>, OverlayError>
+    requires { length found.now ≡ length contours.now }
+    ensures ok { IfOk result (λ v. v.items ≡ at_outlines (plain_contours I.whole contours.now) found.now) }
+    ensures err { IsOkUnless result OverlayError.Memory }
+{
+    let mut at = Vec::new(alloc);
+    for i in 0..contours.len() {
+        if contours[i].role.is_outline() {
+            at.push(found[i])?;
+        }
+    }
+    Ok(at)
+}

@@ -1,0 +1,132 @@
+//! The places of contours in the shapes to which they are bound.
+
+ghost use Rattle.std.specs.Prelude.{◌≡◌, ◌∷◌, [], ◌++◌, ◌<◌, length, map, filter, All};
+ghost use Rattle.std.specs.Prelude.{IfOk, IfSome, OnOk, IsOkUnless};
+ghost use Rattle.overlay_plane.specs.BoundContours.{contours_bound};
+ghost use Rattle.overlay_plane.specs.PlacedContours.{walks_at, CanBePlaced, ArePlaced};
+ghost use Rattle.overlay_plane.specs.RoledContours.{is_outline};
+ghost use Rattle.overlay_walk.specs.GroupedContours.{plain_contours, plain_role};
+ghost use Rattle.overlay_extract.specs.Places.{place_lists, number_as, with_place, AreInside, HasHolesAdded};
+
+use overlay_geom::error::OverlayError;
+use overlay_geom::number::IntNumber;
+use overlay_walk::contour::{Contour, Role};
+use std::alloc::Allocator;
+
+/// A kind of holes of a shape.
+#[derive(Clone, Copy)]
+pub enum Holes {
+    /// The holes of its outline's own group.
+    OfGroups,
+    /// The holes for which the shape is found.
+    Found,
+}
+
+/// Returns for each shape, in the order of the outlines, the places of its contours among all contours. The outline
+/// comes first, then the holes of its group, then the holes for which the shape is found, each kind in order. A hole
+/// without a shape is left out. The only refusal is `Memory`.
+pub fn shape_places<I: IntNumber, A: Allocator + Clone>(
+    alloc: A,
+    contours: &[Contour<I, A>],
+    found: &[Option<usize>],
+) -> Result<Vec<Vec<usize, A>, A>, OverlayError>
+    requires { CanBePlaced (plain_contours I.whole contours.now) found.now }
+    ensures placed { IfOk result
+        (λ v. ArePlaced (plain_contours I.whole contours.now) found.now (place_lists v.items)) }
+    ensures err { IsOkUnless result OverlayError.Memory }
+{
+    let mut places = outline_places(alloc, contours)?;
+    add_holes(&mut places, contours, found, Holes::OfGroups)?;
+    add_holes(&mut places, contours, found, Holes::Found)?;
+    Ok(places)
+}
+
+// Returns for each outline a list that holds only its place.
+fn outline_places<I: IntNumber, A: Allocator + Clone>(
+    alloc: A,
+    contours: &[Contour<I, A>],
+) -> Result<Vec<Vec<usize, A>, A>, OverlayError>
+    ensures inside { IfOk result
+        (λ v. AreInside (length (plain_contours I.whole contours.now)) (place_lists v.items)) }
+    ensures begun { IfOk result (λ v. walks_at (plain_contours I.whole contours.now) (place_lists v.items) ≡
+        map (λ c. c.steps ∷ []) (filter (λ c. is_outline c.role) (plain_contours I.whole contours.now))) }
+    ensures err { IsOkUnless result OverlayError.Memory }
+{
+    let mut places = Vec::new(alloc.clone()?);
+    for i in 0..contours.len() {
+        if contours[i].role.is_outline() {
+            push_alone(alloc.clone()?, &mut places, i)?;
+        }
+    }
+    Ok(places)
+}
+
+// Adds a list that holds only this place.
+fn push_alone<A: Allocator>(
+    alloc: A,
+    places: &mut Vec<Vec<usize, A>, A>,
+    place: usize,
+) -> Result<(), OverlayError>
+    ensures ok { OnOk result
+        (place_lists places.new.items ≡ place_lists places.old.items ++ (place ∷ []) ∷ []) }
+    ensures err { IsOkUnless result OverlayError.Memory }
+{
+    let mut alone = Vec::new(alloc);
+    alone.push(place)?;
+    places.push(alone)?;
+    Ok(())
+}
+
+// Adds the places of these holes to the lists of their shapes.
+fn add_holes<I: IntNumber, A: Allocator>(
+    places: &mut Vec<Vec<usize, A>, A>,
+    contours: &[Contour<I, A>],
+    found: &[Option<usize>],
+    holes: Holes,
+) -> Result<(), OverlayError>
+    requires counted { length found.now ≡ length contours.now }
+    requires inside { AreInside (length (plain_contours I.whole contours.now)) (place_lists places.old.items) }
+    requires numbered { All (λ b. IfSome (number_as holes b.contour.role b.shape)
+        (λ n. n < length places.old.items)) (contours_bound (plain_contours I.whole contours.now) found.now) }
+    ensures added { OnOk result (HasHolesAdded holes (plain_contours I.whole contours.now)
+        (contours_bound (plain_contours I.whole contours.now) found.now)
+        (place_lists places.old.items) (place_lists places.new.items)) }
+    ensures err { IsOkUnless result OverlayError.Memory }
+{
+    for i in 0..contours.len() {
+        let number = number_as(contours[i].role, found[i], holes);
+        push_place(places, number, i)?;
+    }
+    Ok(())
+}
+
+// Returns the number of the shape in which a contour is a hole of this kind, if it is one.
+fn number_as(role: Role, found: Option<usize>, holes: Holes) -> Option<usize>
+    ensures { result ≡ number_as holes (plain_role role) found }
+{
+    match (holes, role) {
+        (Holes::OfGroups, Role::OwnHole(number)) => Some(number),
+        (Holes::Found, Role::FreeHole) => found,
+        _ => None,
+    }
+}
+
+// Adds the place to the list of the shape with this number, if there is a number.
+fn push_place<A: Allocator>(
+    places: &mut Vec<Vec<usize, A>, A>,
+    number: Option<usize>,
+    place: usize,
+) -> Result<(), OverlayError>
+    requires { IfSome number (λ n. n < length places.old.items) }
+    ensures ok { OnOk result
+        (place_lists places.new.items ≡ with_place number place (place_lists places.old.items)) }
+    ensures err { IsOkUnless result OverlayError.Memory }
+{
+    match number {
+        Some(number) => {
+            places[number].push(place)?;
+            Ok(())
+        }
+        None => Ok(()),
+    }
+}
