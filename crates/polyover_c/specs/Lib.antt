@@ -14,6 +14,7 @@ pub mod Listed
 pub mod Located
 pub mod Options
 pub mod Overlays
+pub mod Prepared
 pub mod Put
 pub mod Reading
 pub mod Refusals
