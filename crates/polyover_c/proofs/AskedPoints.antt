@@ -1,8 +1,8 @@
 -- The locations of points, written one by one.
 use Rattle.std.proofs.Common.{◌≡◌, ◌+◌, ◌*◌, ◌<◌, ◌≤◌, ℕ, zero, suc, ℤ, List, [], ◌∷◌, ◌++◌, length, take, drop}
 use Rattle.std.proofs.Common.{get_or, map, set, refl, sym, ap, ap₂, ◌∙◌, subst, arith}
-use Rattle.std.proofs.lemmas.List.{length-take-le, length-set, map-append, take_all, take_more_set, drop-set-lt, drop-drop}
-use Rattle.std.proofs.lemmas.List.{take-append-drop}
+use Rattle.std.proofs.lemmas.List.{length-take-le, length-set, map-append, take_all, take_more_set, drop-set-lt}
+use Rattle.std.proofs.lemmas.List.{drop-drop, take-append-drop}
 use Rattle.overlay_geom.proofs.Mapped.{mapped_more}
 use Rattle.overlay_geom.specs.Plane.{Point, Edge, in_plane}
 use Rattle.overlay_geom.specs.Points.{plain_point, plain_points}

@@ -1,5 +1,5 @@
 -- How preparing ends, and why it is refused.
-use Rattle.std.proofs.Common.{◌≡◌, ◌<◌, ℕ, ℤ, List, map, inl, inr, refl, sym, ap, subst}
+use Rattle.std.proofs.Common.{◌≡◌, ◌<◌, ℕ, ℤ, List, inl, inr, refl, sym, ap, ◌∙◌, subst}
 use Rattle.overlay_arrange.specs.declared.fill_rule.FillRule.{FillRule}
 use Rattle.overlay_arrange.specs.declared.options.ShapeType.TheVariants.{Subject}
 use Rattle.overlay_builder.specs.GivenPaths.{paths_for}
@@ -82,6 +82,9 @@ module _ {I : Type 0} (whole : I → ℤ) (limit fill solver : ℕ) (given : Con
       formed_blocks ≡ blocks → formed_groups ≡ groups →
       ArePartsOf whole limit fill solver given (plain_parts whole formed formed_blocks formed_groups)
   parts_formed edges formed blocks formed_blocks groups formed_groups are same same_blocks same_groups =
-      subst (λ es. ArePartsOf whole limit fill solver given (plain_parts whole es formed_blocks formed_groups)) (sym same)
-      (subst (λ bs. ArePartsOf whole limit fill solver given (plain_parts whole edges bs formed_groups)) (sym same_blocks)
-      (subst (λ gs. ArePartsOf whole limit fill solver given (plain_parts whole edges blocks gs)) (sym same_groups) are))
+      subst Are (sym (ap (λ es. plain_parts whole es formed_blocks formed_groups) same
+      ∙ ap (λ bs. plain_parts whole edges bs formed_groups) same_blocks
+      ∙ ap (plain_parts whole edges blocks) same_groups)) are
+    where
+      Are : Parts → Type 0
+      Are = ArePartsOf whole limit fill solver given
