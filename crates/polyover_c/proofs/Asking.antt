@@ -95,7 +95,8 @@ all_outside : (points : List Point) → AnswersWhere (IsLocatedBy []) points (ma
 all_outside points = record {
   counted = length-map points (λ p. Outside);
   each = λ n d e lt. subst (IsLocatedBy [] (in_plane (get_or points n d)))
-      (sym (get_or-map (λ p. Outside) points n d e lt)) (All-nil (λ f. ¬ (IsOn f (in_plane (get_or points n d)))), refl);
+      (sym (get_or-map (λ p. Outside) points n d e lt))
+      (All-nil (λ f. ¬ (IsOn f (in_plane (get_or points n d)))), refl);
 }
 
 all_zero : (points : List Point) → map number_of (map (λ p. Outside) points) ≡ map (λ p. 0) points

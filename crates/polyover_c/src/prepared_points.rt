@@ -35,6 +35,7 @@ pub(crate) fn locate_prepared<I: OverlayInt, E: FormOf<IntEdge<I>>, B: FormOf<Bl
 }
 
 // Tests whether the coordinates are points, and whether there is a place for each.
+#[tactic(auto, using(crate::proofs::Asking::points_refused, crate::proofs::Asking::no_room))]
 fn tested_room<I: OverlayInt>(points: &[I], locations: &[u8]) -> Result<(), Status>
     ensures { MatchResult result
         (λ _. ArePoints I.whole I.limit points.now × HaveRoom points.now locations.now)
