@@ -1,4 +1,5 @@
-/* The results of library_results.c at one width, by the names at it: CONTOURS, PATHS, OPTIONS, RESULT, NAME(call). */
+/* The results of library_results.c at one width, by the names at it: CONTOURS, PATHS, OPTIONS, RESULT,
+ * PREPARED, NAME(call). */
 
 /* (these are proved) */
 polyover_status NAME(polyover_overlay_result_with)(polyover_rule rule, polyover_fill fill, const OPTIONS *options,
@@ -46,4 +47,14 @@ void NAME(polyover_free)(RESULT *result) {
     free_array(result->links, result->link_count);
     free_array(result->fills, result->fill_count);
     *result = (RESULT){0};
+}
+
+void NAME(polyover_prepared_free)(PREPARED *prepared) {
+    if (prepared == NULL) {
+        return;
+    }
+    free_array(prepared->edges, prepared->edge_count);
+    free_array(prepared->blocks, prepared->block_count);
+    free_array(prepared->groups, prepared->group_count);
+    *prepared = (PREPARED){0};
 }

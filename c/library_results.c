@@ -1,4 +1,5 @@
-/* The part of results in C: it replaces null options by the defaults, and frees the arrays of a result. */
+/* The part of results in C: it replaces null options by the defaults, and frees the arrays of a result and of a
+ * prepared shape. */
 #include <stdlib.h>
 
 #include "polyover.h"
@@ -14,6 +15,7 @@ static void free_array(const void *items, size_t count) {
 #define PATHS polyover_paths
 #define OPTIONS polyover_options
 #define RESULT polyover_result
+#define PREPARED polyover_prepared
 #define NAME(call) call
 #include "library_of_results.h"
 
@@ -21,10 +23,12 @@ static void free_array(const void *items, size_t count) {
 #undef PATHS
 #undef OPTIONS
 #undef RESULT
+#undef PREPARED
 #undef NAME
 #define CONTOURS polyover_contours_32
 #define PATHS polyover_paths_32
 #define OPTIONS polyover_options_32
 #define RESULT polyover_result_32
+#define PREPARED polyover_prepared_32
 #define NAME(call) call##_32
 #include "library_of_results.h"

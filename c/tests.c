@@ -22,6 +22,7 @@ static void check(int holds, const char *what, int line) {
 #define CONTOURS polyover_contours
 #define OPTIONS polyover_options
 #define RESULT polyover_result
+#define PREPARED polyover_prepared
 #define SMALLEST(area) {.min_area_low = area}
 #define NAME(call) call
 #define TEST(what) what##_at_64
@@ -32,6 +33,7 @@ static void check(int holds, const char *what, int line) {
 #undef CONTOURS
 #undef OPTIONS
 #undef RESULT
+#undef PREPARED
 #undef SMALLEST
 #undef NAME
 #undef TEST
@@ -40,6 +42,7 @@ static void check(int holds, const char *what, int line) {
 #define CONTOURS polyover_contours_32
 #define OPTIONS polyover_options_32
 #define RESULT polyover_result_32
+#define PREPARED polyover_prepared_32
 #define SMALLEST(area) {.min_area = area}
 #define NAME(call) call##_32
 #define TEST(what) what##_at_32

@@ -159,6 +159,28 @@ static polyover_status edges_result(const asked *of, room *to) {
     return let_go(polyover_edges_result(of->fill, of->solver, &of->subject, &of->clip, &result), &result);
 }
 
+/* Prepares the subject, asks where points lie, and frees the prepared shape. To ask takes no memory: after the shape is
+ * prepared each request is refused. */
+static polyover_status prepare(const asked *of, room *to) {
+    static const int64_t points[] = {1, 1, 9, 9, 0, 0};
+    polyover_location locations[3];
+    polyover_prepared prepared;
+    (void)to;
+    polyover_status status = polyover_prepare(of->fill, of->solver, &of->subject, &prepared);
+    size_t items = prepared.edge_count + prepared.block_count + prepared.group_count, left = granted;
+    check((items == 0) == (status != POLYOVER_OK), "a shape has a boundary where it is prepared", granted, __LINE__);
+    granted = 0;
+    check(polyover_prepared_locate(&prepared, points, 6, locations, 3) == POLYOVER_OK, "it is asked without memory",
+          left, __LINE__);
+    granted = left;
+    check(status != POLYOVER_OK || (locations[0] == POLYOVER_INSIDE && locations[1] == POLYOVER_OUTSIDE &&
+                                    locations[2] == POLYOVER_BOUNDARY),
+          "points lie as they should", left, __LINE__);
+    polyover_prepared_free(&prepared);
+    polyover_prepared_free(&prepared);
+    return status;
+}
+
 /* Returns the status of a call with this number of requests granted, after a check that a refusal changes nothing. */
 static polyover_status status_with(call made, const asked *of, size_t requests, int line) {
     static room before, to;
@@ -213,7 +235,7 @@ static asked squares(void) {
 
 static void answered(void) {
     const call all[] = {overlay, hierarchy, simplify, slice, clip, relate, edges, locate, resolved, overlay_result,
-                        hierarchy_result, simplify_result, slice_result, clip_result, edges_result};
+                        hierarchy_result, simplify_result, slice_result, clip_result, edges_result, prepare};
     asked of = squares();
     for (size_t at = 0; at < COUNT(all); at++) {
         choose_solver(&of, POLYOVER_SNAPPED);
@@ -237,13 +259,13 @@ static void numbers(void) {
     of.options.keep = of.kept.invert = 0;
     choose_solver(&of, 2);
     const call by_solver[] = {overlay, hierarchy, simplify, slice, clip, relate, edges, overlay_result,
-                              hierarchy_result, simplify_result, slice_result, clip_result, edges_result};
+                              hierarchy_result, simplify_result, slice_result, clip_result, edges_result, prepare};
     for (size_t at = 0; at < COUNT(by_solver); at++) {
         TESTED_FIRST(by_solver[at], &of, POLYOVER_BAD_OPTION);
     }
     of.fill = 4;
     const call filled[] = {overlay, hierarchy, simplify, slice, clip, relate, edges, overlay_result,
-                           hierarchy_result, simplify_result, slice_result, clip_result, edges_result};
+                           hierarchy_result, simplify_result, slice_result, clip_result, edges_result, prepare};
     for (size_t at = 0; at < COUNT(filled); at++) {
         TESTED_FIRST(filled[at], &of, POLYOVER_BAD_FILL);
     }
@@ -254,7 +276,7 @@ static void numbers(void) {
 
 /* Tests contours with faults: those of the subject come first. */
 static void faults(void) {
-    const call one[] = {simplify, locate, resolved, simplify_result};
+    const call one[] = {simplify, locate, resolved, simplify_result, prepare};
     const call two[] = {overlay, hierarchy, slice, clip, relate, edges, overlay_result, hierarchy_result,
                         slice_result, clip_result, edges_result};
     asked of = squares();

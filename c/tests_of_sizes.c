@@ -23,6 +23,7 @@ static void check(int holds, const char *what, int line) {
 #define CONTOURS polyover_contours
 #define OPTIONS polyover_options
 #define RESULT polyover_result
+#define PREPARED polyover_prepared
 #define NAME(call) call
 #define TEST(what) what##_at_64
 #include "tests_of_sizes.h"
@@ -32,6 +33,7 @@ static void check(int holds, const char *what, int line) {
 #undef CONTOURS
 #undef OPTIONS
 #undef RESULT
+#undef PREPARED
 #undef NAME
 #undef TEST
 #define NUMBER int32_t
@@ -39,6 +41,7 @@ static void check(int holds, const char *what, int line) {
 #define CONTOURS polyover_contours_32
 #define OPTIONS polyover_options_32
 #define RESULT polyover_result_32
+#define PREPARED polyover_prepared_32
 #define NAME(call) call##_32
 #define TEST(what) what##_at_32
 #include "tests_of_sizes.h"

@@ -439,6 +439,8 @@ static void TEST(limits)(polyover_solver solver) {
     TEST(limit_in_arrays)(TEST(clip_in_arrays), solver, 1, 0);
 }
 
+#include "tests_of_prepared_sizes.h"
+
 static void TEST(sizes)(void) {
     TEST(many_points)();
     for (polyover_solver solver = POLYOVER_SNAPPED; solver <= POLYOVER_ROUNDS; solver++) {
@@ -448,6 +450,7 @@ static void TEST(sizes)(void) {
         TEST(many_lines)(solver);
         TEST(one_contour)(solver);
         TEST(limits)(solver);
+        TEST(prepared_sizes)(solver);
     }
 }
 

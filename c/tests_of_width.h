@@ -261,6 +261,8 @@ static void TEST(simplifying)(void) {
 
 #include "tests_of_results.h"
 
+#include "tests_of_prepared.h"
+
 static void TEST(all)(void) {
     TEST(ranges)();
     TEST(ends)();
@@ -289,4 +291,9 @@ static void TEST(all)(void) {
     TEST(results_by_default)();
     TEST(results_refused)();
     TEST(results_not_settled)();
+    TEST(prepared_under_rules)();
+    TEST(prepared_contours)();
+    TEST(prepared_bare)();
+    TEST(preparing_refused)();
+    TEST(asking_refused)();
 }

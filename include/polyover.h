@@ -13,10 +13,10 @@
  * Points of a contour on one line with their two neighbours are dropped, one by one, before its edges are made, in all
  * calls but `polyover_in_range`, `polyover_resolved` and `polyover_locate`.
  *
- * All arrays and structs are the caller's, and nothing is kept after a call; only what a `polyover_result` holds is
- * to be freed. Each array behind a `const` is only read. An array of length 0 may be a null pointer, and so may
- * options, for which the default ones are taken then; no other struct may be. What a call writes to lies apart from
- * all else that it is given.
+ * All arrays and structs are the caller's, and nothing is kept after a call; only what a `polyover_result` or a
+ * `polyover_prepared` holds is to be freed. Each array behind a `const` is only read. An array of length 0 may be a
+ * null pointer, and so may options, for which the default ones are taken then; no other struct may be. What a call
+ * writes to lies apart from all else that it is given.
  *
  * No call keeps a state, so calls on several threads are safe, as long as nothing is written to what one of them reads.
  * Memory is taken by malloc, realloc and free, so no call is for a signal handler.
@@ -440,6 +440,61 @@ polyover_status polyover_edges_result_32(polyover_fill fill, polyover_solver sol
  * pointer is taken, and so is a result that is all zero. */
 void polyover_free(polyover_result *result);
 void polyover_free_32(polyover_result_32 *result);
+
+/* A shape made ready to be asked again and again where points lie: its boundary, and what finds the edges that matter.
+ * All fields are only read, and not to be set. `polyover_prepared_free` gives the memory back. One that is all zero is
+ * a shape without a boundary. */
+typedef struct {
+    const void *edges; /* those with exactly one filled side */
+    size_t edge_count;
+    const void *blocks; /* of 64 edges each */
+    size_t block_count;
+    const void *groups; /* of 4096 edges each */
+    size_t group_count;
+} polyover_prepared;
+
+/* The same at 32 bits. */
+typedef struct {
+    const void *edges;
+    size_t edge_count;
+    const void *blocks;
+    size_t block_count;
+    const void *groups;
+    size_t group_count;
+} polyover_prepared_32;
+
+/* Prepares the shape that the contours make under the fill rule. They may cross themselves and each other: they are
+ * split by the solver, as by `polyover_overlay`. After any status but POLYOVER_OK *prepared is a shape without a
+ * boundary. So it may always be freed. What *prepared was before is neither read nor freed.
+ *
+ * Tested first, in this order: POLYOVER_BAD_FILL; POLYOVER_BAD_OPTION, for the solver; POLYOVER_BAD_ENDS and
+ * POLYOVER_OUT_OF_RANGE. POLYOVER_NOT_SETTLED, by POLYOVER_ROUNDS alone, POLYOVER_TOO_MANY_EDGES and POLYOVER_MEMORY
+ * are left. */
+polyover_status polyover_prepare(polyover_fill fill, polyover_solver solver, const polyover_contours *contours,
+                                 polyover_prepared *prepared);
+polyover_status polyover_prepare_32(polyover_fill fill, polyover_solver solver, const polyover_contours_32 *contours,
+                                    polyover_prepared_32 *prepared);
+
+/* Where each point lies in the prepared shape: POLYOVER_BOUNDARY on an edge with exactly one filled side, an end
+ * included; else POLYOVER_INSIDE where the fill rule fills the winding there, and POLYOVER_OUTSIDE where it does not.
+ * So a point on an edge with two filled sides is inside. Without a boundary all points are outside.
+ *
+ * On POLYOVER_OK the first coordinate_count / 2 items of `locations` are these, in the order of the points; the items
+ * behind them stay. After any other status nothing is changed. It takes no memory, and *prepared stays as it is: it may
+ * be asked on several threads at once.
+ *
+ * Tested in this order: POLYOVER_BAD_ENDS, for an odd count of coordinates; POLYOVER_OUT_OF_RANGE; POLYOVER_TOO_SMALL
+ * exactly where there are more points than `location_room`. No other status is left. */
+polyover_status polyover_prepared_locate(const polyover_prepared *prepared, const int64_t *coordinates,
+                                         size_t coordinate_count, polyover_location *locations, size_t location_room);
+polyover_status polyover_prepared_locate_32(const polyover_prepared_32 *prepared, const int32_t *coordinates,
+                                            size_t coordinate_count, polyover_location *locations,
+                                            size_t location_room);
+
+/* Gives back the memory of a prepared shape, by free, and leaves it without a boundary: to free it twice does no harm.
+ * A null pointer is taken, and so is a prepared shape that is all zero. */
+void polyover_prepared_free(polyover_prepared *prepared);
+void polyover_prepared_free_32(polyover_prepared_32 *prepared);
 
 #ifdef __cplusplus
 }

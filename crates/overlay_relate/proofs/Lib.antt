@@ -18,6 +18,7 @@ pub mod ExchangedPaths
 pub mod ExchangedRounds
 pub mod ExchangedShapes
 pub mod ExchangedSnaps
+pub mod Forms
 pub mod Highest
 pub mod Insides
 pub mod JoinedParts

@@ -9,8 +9,9 @@ use Rattle.overlay_geom.specs.Edges.{subj_of}
 use Rattle.overlay_plane.specs.Predicates.{fills_at}
 use Rattle.overlay_relate.specs.Answers.{AnswersEach}
 use Rattle.overlay_relate.specs.Bounded.{boundary_of}
-use Rattle.overlay_relate.specs.Determined.{OneLocationIn, OneLocationAmong, OneLocationUnder}
-use Rattle.overlay_relate.specs.Locations.{IsLocated, IsLocatedIn, IsLocatedAmong, shape_edges, is_in_shape}
+use Rattle.overlay_relate.specs.Determined.{OneLocationIn, OneLocationAmong, OneLocationUnder, OneLocationBy}
+use Rattle.overlay_relate.specs.Locations.{IsLocated, IsLocatedIn, IsLocatedAmong, IsLocatedBy}
+use Rattle.overlay_relate.specs.Locations.{shape_edges, is_in_shape, odd_below}
 use Rattle.overlay_relate.specs.declared.location.PointLocation.{PointLocation}
 use Rattle.overlay_relate.specs.declared.location.PointLocation.TheVariants.{Inside, Boundary, Outside}
 
@@ -85,7 +86,7 @@ same_items (x ∷ xs) (y ∷ ys) long at = ap₂ (λ z zs. z ∷ zs) (at 0 x (om
     (same_items xs ys (omega (arith, long)) (λ n d h. at (suc n) d (omega arith)))
 
 -- where each item has one answer, lists of answers are one
-one_list_of_answers : {X Y : Type 0} (R : X → Y → Type 0) → ((x : X) (y z : Y) → R x y → R x z → y ≡ z) →
+pub one_list_of_answers : {X Y : Type 0} (R : X → Y → Type 0) → ((x : X) (y z : Y) → R x y → R x z → y ≡ z) →
     (queries : List X) (first second : List Y) → AnswersEach R queries first → AnswersEach R queries second →
     first ≡ second
 one_list_of_answers R one [] first second a b = same_items first second (a.counted ∙ sym b.counted)
@@ -106,3 +107,8 @@ one_location_among shapes queries first second = one_list_of_answers (λ q l. Is
 
 pub one_location_under : OneLocationUnder
 one_location_under filled es p l m = one_located (boundary_of filled es) (fills_at filled es subj_of p) p l m
+
+-- ---- by edges
+
+pub one_location_by : OneLocationBy
+one_location_by es p l m = one_located es (odd_below es p) p l m

@@ -1,7 +1,8 @@
 -- Blocks of edges that stand in a row, each with numbers between which its edges lie.
-use Rattle.std.specs.Prelude.{ℕ, ◌<◌, ◌≤◌, Bool, ◌||◌, ℤ, ◌≤ℤ◌, int_lt, List, [], ◌∷◌, map, length}
+use Rattle.std.specs.Prelude.{ℕ, ◌<◌, ◌≤◌, Bool, ◌||◌, ℤ, ◌≤ℤ◌, int_lt, List, [], ◌∷◌, map, length, All}
 use Rattle.std.specs.Prelude.{slice_index_or}
 use Rattle.overlay_geom.specs.Plane.{Point, Edge, in_plane}
+use Rattle.overlay_geom.specs.Resolved.{IsLongEdge}
 use Rattle.overlay_relate.specs.Locations.{IsLocatedBy}
 use Rattle.overlay_relate.specs.declared.blocks.Block.{Block as HeldBlock}
 use Rattle.overlay_relate.specs.declared.location.PointLocation.TheVariants.{Outside}
@@ -36,6 +37,12 @@ pub record LiesBetween (b : Block) (e : Edge) : Type 0 where
 -- so does each edge that stands from its start up to its end
 abbrev pub IsBlockOf : List Edge → Block → Type 0
 IsBlockOf es b = (n : ℕ) (d : Edge) → b.start ≤ n → n < b.end → n < length es → LiesBetween b (slice_index_or es n d)
+
+-- edges in range, with blocks and with groups of them
+pub record AreBlocked (limit : ℕ) (es : List Edge) (blocks groups : List Block) : Type 0 where
+  pub long : All (IsLongEdge limit) es
+  pub blocks_of : All (IsBlockOf es) blocks
+  pub groups_of : All (IsBlockOf es) groups
 
 -- p lies left of the block, right of it or below it
 abbrev pub is_clear : Point → Block → Bool

@@ -1,10 +1,10 @@
 -- Locations and relations are the only ones.
 use Rattle.std.specs.Prelude.{◌≡◌, ℤ, Bool, List}
-use Rattle.overlay_geom.specs.Plane.{Point, PlanePoint}
+use Rattle.overlay_geom.specs.Plane.{Point, PlanePoint, Edge}
 use Rattle.overlay_geom.specs.Edges.{CountedEdge}
 use Rattle.overlay_relate.specs.Answers.{AnswersWhere}
 use Rattle.overlay_relate.specs.Bounded.{IsLocatedUnder}
-use Rattle.overlay_relate.specs.Locations.{IsLocatedIn, IsLocatedAmong}
+use Rattle.overlay_relate.specs.Locations.{IsLocatedIn, IsLocatedAmong, IsLocatedBy}
 use Rattle.overlay_relate.specs.PredicateQueries.{AreRelations}
 use Rattle.overlay_relate.specs.declared.location.PointLocation.{PointLocation}
 use Rattle.overlay_relate.specs.declared.relations.Relations.{Relations}
@@ -24,6 +24,11 @@ OneLocationAmong = (shapes : List (List (List Point))) (queries : List Point) (f
 abbrev pub OneLocationUnder : Type 0
 OneLocationUnder = (filled : ℤ → Bool) (es : List CountedEdge) (p : PlanePoint) (l m : PointLocation) →
     IsLocatedUnder filled es p l → IsLocatedUnder filled es p m → l ≡ m
+
+-- and two by the same edges
+abbrev pub OneLocationBy : Type 0
+OneLocationBy = (es : List Edge) (p : PlanePoint) (l m : PointLocation) → IsLocatedBy es p l → IsLocatedBy es p m →
+    l ≡ m
 
 -- two answers that tell of one arrangement are one
 abbrev pub OneAnswerOfRelations : Type 0

@@ -1,11 +1,12 @@
 //! Blocks of edges that stand in a row, each with numbers between which its edges lie.
 
-ghost use Rattle.std.specs.Prelude.{◌≡◌, ◌<◌, ◌≤◌, ◌≤ℤ◌, length, All, IfOk, IsOkUnless};
+ghost use Rattle.std.specs.Prelude.{◌≡◌, ◌<◌, ◌≤◌, ◌≤ℤ◌, length, map, All, IfOk, IsOkUnless};
 ghost use Rattle.overlay_geom.specs.Points.{plain_point};
 ghost use Rattle.overlay_geom.specs.Resolved.{plain_edge, plain_edges, IsLongEdge};
 ghost use Rattle.overlay_relate.specs.Blocks.{plain_block, plain_blocks, is_clear};
 ghost use Rattle.overlay_relate.specs.Blocks.{LiesBetween, IsBlockOf, AreClear};
 
+use crate::form::FormOf;
 use crate::order::{greater, is_less, lesser};
 use overlay_geom::edge::IntEdge;
 use overlay_geom::error::OverlayError;
@@ -15,7 +16,7 @@ use std::alloc::Allocator;
 
 /// The edges from one place up to another, and numbers between which they lie.
 #[derive(Clone, Copy)]
-pub(crate) struct Block<I> {
+pub struct Block<I> {
     /// The place of the first edge.
     pub start: usize,
     /// The place after the last edge.
@@ -26,6 +27,20 @@ pub(crate) struct Block<I> {
     pub right: I,
     /// No edge reaches further down.
     pub bottom: I,
+}
+
+impl<I: Copy> FormOf<Block<I>> for Block<I> {
+    ghost meant = { λ b. b };
+
+    /// Returns the block.
+    fn form(value: Block<I>) -> Block<I> {
+        value
+    }
+
+    /// Returns the block.
+    fn value(self) -> Block<I> {
+        self
+    }
 }
 
 /// Returns the blocks of `size` edges, in their order; the last may have fewer. The only refusal is `Memory`.
@@ -92,21 +107,22 @@ fn widened<I: IntNumber>(block: Block<I>, e: &IntEdge<I>) -> Block<I>
 
 /// The place up to which the edges from a place on have the point neither on them nor above them, as a block of so
 /// many edges tells that begins there; or this place itself.
-pub(crate) fn passed<I: IntNumber>(
-    blocks: &[Block<I>],
+pub(crate) fn passed<I: IntNumber, B: FormOf<Block<I>>>(
+    blocks: &[B],
     size: usize,
     at: usize,
     p: IntPoint<I>,
 ) -> usize
     requires { 0 < size }
-    ensures { (es : _) → All (IsLongEdge I.limit) es → All (IsBlockOf es) (plain_blocks I.whole blocks.now)
+    ensures { (es : _) → All (IsLongEdge I.limit) es
+        → All (IsBlockOf es) (plain_blocks I.whole (map B.meant blocks.now))
         → AreClear es (plain_point I.whole p) at result }
 {
     let place = at / size;
     if at % size != 0 || place >= blocks.len() {
         return at;
     }
-    let block = blocks[place];
+    let block = blocks[place].value();
     if block.start == at && is_clear(p, block) {
         block.end
     } else {

@@ -1,7 +1,7 @@
 //! Where points lie: inside contours and shapes, on their edges, or outside; and how two shapes lie to each other.
 #![tactic(auto)]
 
-mod blocks;
+pub mod blocks;
 mod border_end;
 mod boundary;
 mod by_edge;
@@ -9,6 +9,7 @@ pub mod containment;
 mod contour_edges;
 mod edge_answers;
 mod edge_test;
+pub mod form;
 mod found;
 pub mod in_contour;
 pub mod in_shapes;

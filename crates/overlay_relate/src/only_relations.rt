@@ -1,14 +1,15 @@
 //! Locations and relations are the only ones that their contracts allow.
 
-ghost use Rattle.overlay_relate.specs.Determined.{OneLocationIn, OneLocationAmong, OneLocationUnder};
+ghost use Rattle.overlay_relate.specs.Determined.{OneLocationBy, OneLocationIn, OneLocationAmong, OneLocationUnder};
 ghost use Rattle.overlay_relate.specs.Determined.{OneAnswerOfRelations};
 
 /// Two lists of locations of the same points, in one shape or among the same shapes, are equal; so are two locations
-/// of a point in the shape of one arrangement.
+/// of a point in the shape of one arrangement, and two by the same edges.
 pub fn one_location()
     ensures shape { OneLocationIn }
     ensures shapes { OneLocationAmong }
     ensures under { OneLocationUnder }
+    ensures by_edges { OneLocationBy }
 {}
 
 /// Two answers that tell of the relations of one arrangement are equal.

@@ -8,6 +8,7 @@ use std::marker::Model;
 
 mod asked;
 mod made;
+pub mod parts;
 
 /// A shape under a fill rule, made from any contours, that is asked again and again where points lie: on its boundary,
 /// inside or outside.
@@ -26,16 +27,15 @@ pub struct PreparedShape<I: OverlayInt, A: Allocator> {
 }
 
 impl<I: OverlayInt, A: Allocator> Model for PreparedShape<I, A> {
-    ghost use Rattle.std.specs.Prelude.{List, All};
+    ghost use Rattle.std.specs.Prelude.{List};
     ghost use Rattle.overlay_geom.specs.Plane.{Edge};
-    ghost use Rattle.overlay_geom.specs.Resolved.{plain_edges, IsLongEdge};
-    ghost use Rattle.overlay_relate.specs.Blocks.{plain_blocks, IsBlockOf};
+    ghost use Rattle.overlay_geom.specs.Resolved.{plain_edges};
+    ghost use Rattle.overlay_relate.specs.Blocks.{AreBlocked, plain_blocks};
 
     ghost Value = { List Edge };
 
     ghost view = { λ s. plain_edges I.whole s.edges.items };
 
-    ghost invariant = { λ s. All (IsLongEdge I.limit) (plain_edges I.whole s.edges.items)
-        × All (IsBlockOf (plain_edges I.whole s.edges.items)) (plain_blocks I.whole s.blocks.items)
-        × All (IsBlockOf (plain_edges I.whole s.edges.items)) (plain_blocks I.whole s.groups.items) };
+    ghost invariant = { λ s. AreBlocked I.limit (plain_edges I.whole s.edges.items)
+        (plain_blocks I.whole s.blocks.items) (plain_blocks I.whole s.groups.items) };
 }

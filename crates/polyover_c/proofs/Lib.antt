@@ -1,3 +1,5 @@
+pub mod AskedPoints
+pub mod Asking
 pub mod Clipped
 pub mod ComeBack
 pub mod Endings
@@ -10,6 +12,7 @@ pub mod OnePut
 pub mod OneTest
 pub mod Overlays
 pub mod PointCounts
+pub mod Preparing
 pub mod Refusals
 pub mod Related
 pub mod ShapesRead

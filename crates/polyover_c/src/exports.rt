@@ -6,5 +6,6 @@ pub mod held_32;
 pub mod held_64;
 pub mod hierarchy;
 pub mod locate;
+pub mod prepared;
 pub mod relate;
 pub mod slice;

@@ -157,8 +157,8 @@ pub(crate) fn hold_nothing<'a, I: 'a>(status: Status) -> Outcome<'a, I>
     Outcome { held, status }
 }
 
-// The items in memory that stays, or no memory where there are none.
-fn lasting<'a, T: Drop + 'a>(items: Vec<T, Global>) -> &'a [T]
+/// Returns the items in memory that stays, or no memory where there are none.
+pub(crate) fn lasting<'a, T: Drop + 'a>(items: Vec<T, Global>) -> &'a [T]
     ensures { result.now ≡ items.items }
 {
     if items.is_empty() {

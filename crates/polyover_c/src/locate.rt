@@ -117,8 +117,8 @@ fn numbers_of(alloc: Global, locations: &[PointLocation]) -> Result<Vec<u8, Glob
     Ok(numbers)
 }
 
-// The number that C knows the location by.
-fn number_of(location: PointLocation) -> u8
+/// The number that C knows the location by.
+pub(crate) fn number_of(location: PointLocation) -> u8
     ensures { result ≡ number_of location }
 {
     match location {

@@ -11,7 +11,7 @@ use crate::blocks::blocks_over;
 use crate::boundary::boundary_of;
 use crate::predicate_overlay::PredicateOverlay;
 use crate::prepared::PreparedShape;
-use crate::prepared::asked::{BLOCK, GROUP};
+use crate::prepared::parts::{BLOCK, GROUP};
 use overlay_arrange::fill_rule::FillRule;
 use overlay_arrange::options::ShapeType;
 use overlay_builder::solver::Solver;

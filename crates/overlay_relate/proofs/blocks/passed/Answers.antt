@@ -2,18 +2,18 @@
 use Rattle.std.proofs.Common.{sym, ◌∙◌, subst, List}
 use Rattle.overlay_geom.specs.Plane.{Edge}
 use Rattle.overlay_geom.specs.Points.{plain_point}
-use Rattle.overlay_geom.proofs.Mapped.{All-mapped_at}
 use Rattle.overlay_relate.specs.Blocks.{plain_block, IsBlockOf, AreClear}
 use Rattle.overlay_relate.proofs.ClearEdges.{clear_edges}
+use Rattle.overlay_relate.proofs.Forms.{all_at}
 use Rattle.overlay_relate.proofs.blocks.passed.Goals as goal
 
 pub returns-then-is_clear : goal.returns-then-is_clear
 returns-then-is_clear g c = λ (es : List Edge) long of.
     let whole = g.I.IntNumber.whole in
-    let block = c.index-blocks-place.result in
+    let block = c.value-block.result in
     let q = plain_point whole c.args.p in
     subst (λ n. AreClear es q n block.end) c.if-block-at.true
     (clear_edges g.I.IntNumber.limit es (plain_block whole block) q long
-    (All-mapped_at (IsBlockOf es) (plain_block whole) c.args.blocks.now _ block c.if-place-blocks.false
-    c.index-blocks-place.is of)
+    (all_at (IsBlockOf es) (plain_block whole) g.B.FormOf.meant c.args.blocks.now _ c.index-blocks-place.result block
+    c.if-place-blocks.false c.index-blocks-place.is c.value-block.ensures of)
     (sym c.is_clear.ensures ∙ c.if-is_clear.true))

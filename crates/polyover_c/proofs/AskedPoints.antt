@@ -1,0 +1,84 @@
+-- The locations of points, written one by one.
+use Rattle.std.proofs.Common.{◌≡◌, ◌+◌, ◌*◌, ◌<◌, ◌≤◌, ℕ, zero, suc, ℤ, List, [], ◌∷◌, ◌++◌, length, take, drop}
+use Rattle.std.proofs.Common.{get_or, map, set, refl, sym, ap, ap₂, ◌∙◌, subst, arith}
+use Rattle.std.proofs.lemmas.List.{length-take-le, length-set, map-append, take_all, take_more_set, drop-set-lt}
+use Rattle.std.proofs.lemmas.List.{drop-drop, take-append-drop}
+use Rattle.overlay_geom.proofs.Mapped.{mapped_more}
+use Rattle.overlay_geom.specs.Plane.{Point, Edge, in_plane}
+use Rattle.overlay_geom.specs.Points.{plain_point, plain_points}
+use Rattle.overlay_geom.specs.declared.point.IntPoint.{IntPoint}
+use Rattle.overlay_relate.proofs.Answered.{answers_none, answers_more}
+use Rattle.overlay_relate.specs.Answers.{AnswersEach}
+use Rattle.overlay_relate.specs.Bounded.{LiesSo}
+use Rattle.overlay_relate.specs.Locations.{IsLocatedBy}
+use Rattle.overlay_relate.specs.declared.location.PointLocation.{PointLocation}
+use Rattle.polyover_c.specs.Arrays.{points_of, written_over}
+use Rattle.polyover_c.specs.Located.{number_of}
+use Rattle.polyover_c.specs.Prepared.{AreToldIn, AreLocatedIn}
+
+-- the point at a place has the coordinates at twice that place, and behind it
+pub point_read : {I : Type 0} (cs : List I) (n : ℕ) (d : IntPoint I) (x y : I) → 2 * n + 1 < length cs →
+    x ≡ get_or cs (2 * n) x → y ≡ get_or cs (2 * n + 1) y → get_or (points_of cs) n d ≡ record { x = x; y = y }
+point_read [] n d x y lt first second = absurd (omega (arith, lt))
+point_read (a ∷ []) n d x y lt first second = absurd (omega (arith, lt))
+point_read (a ∷ b ∷ cs) zero d x y lt first second = ap₂ (λ u v. record { x = u; y = v }) (sym first) (sym second)
+point_read (a ∷ b ∷ cs) (suc n) d x y lt first second = point_read cs n d x y (omega (arith, lt)) first second
+
+module _ {I : Type 0} (whole : I → ℤ) (edges : List Edge) (ps : List (IntPoint I)) (old : List ℕ) where
+  -- the first points are told of in the first places, and the others stay
+  pub record AreToldUpTo (n : ℕ) (new : List ℕ) : Type 0 where
+    pub told : AreToldIn edges (plain_points whole (take n ps)) (take n new)
+    pub rest : drop n new ≡ drop n old
+    pub counted : length new ≡ length old
+
+  pub none_told : AreToldUpTo 0 old
+  none_told = record {
+    told = record {
+      locations = [];
+      lie = answers_none (λ q l. LiesSo edges (in_plane q) l);
+      by_edges = answers_none (λ q l. IsLocatedBy edges (in_plane q) l);
+      numbers = refl;
+    };
+    rest = refl;
+    counted = refl;
+  }
+
+  -- one point more
+  pub one_told : (n : ℕ) (new : List ℕ) (p : IntPoint I) (l : PointLocation) → n < length ps → n < length old →
+      p ≡ get_or ps n p → AreToldUpTo n new → LiesSo edges (in_plane (plain_point whole p)) l →
+      IsLocatedBy edges (in_plane (plain_point whole p)) l → AreToldUpTo (n + 1) (set new n (number_of l))
+  one_told n new p l within room here so_far lies by =
+      let more = mapped_more (plain_point whole) ps n p within here in
+      let locations = so_far.told.locations in
+      let lt : n < length new = omega (arith, room, so_far.counted) in
+      record {
+        told = record {
+          locations = locations ++ l ∷ [];
+          lie = subst (λ qs. AnswersEach (λ q m. LiesSo edges (in_plane q) m) qs (locations ++ l ∷ [])) (sym more)
+              (answers_more (λ q m. LiesSo edges (in_plane q) m) (plain_points whole (take n ps)) (plain_point whole p)
+              locations l so_far.told.lie lies);
+          by_edges = subst (λ qs. AnswersEach (λ q m. IsLocatedBy edges (in_plane q) m) qs (locations ++ l ∷ []))
+              (sym more) (answers_more (λ q m. IsLocatedBy edges (in_plane q) m) (plain_points whole (take n ps))
+              (plain_point whole p) locations l so_far.told.by_edges by);
+          numbers = take_more_set new n (number_of l) lt ∙ ap (λ ns. ns ++ number_of l ∷ []) so_far.told.numbers
+              ∙ sym (map-append number_of locations (l ∷ []));
+        };
+        rest = drop-set-lt (n + 1) new n (number_of l) (omega arith) ∙ one_less;
+        counted = length-set new n (number_of l) ∙ so_far.counted;
+      }
+    where
+      one_less : drop (n + 1) new ≡ drop (n + 1) old
+      one_less = sym (drop-drop 1 n new) ∙ ap (drop 1) so_far.rest ∙ drop-drop 1 n old
+
+  -- all points
+  pub all_told : (n : ℕ) (new : List ℕ) (points : List I) → ps ≡ points_of points → n ≡ length ps →
+      length ps ≤ length old → AreToldUpTo n new → AreLocatedIn whole edges points old new
+  all_told n new points same is room told = record {
+    numbers = take n new;
+    tell = subst (λ qs. AreToldIn edges (plain_points whole qs) (take n new))
+        (take_all n ps (omega (arith, is)) ∙ same) told.told;
+    written = sym (take-append-drop n new) ∙ ap₂ (λ xs ys. xs ++ ys) refl (told.rest ∙ ap (λ k. drop k old) (sym long));
+  }
+    where
+      long : length (take n new) ≡ n
+      long = length-take-le n new (let c = told.counted in omega (arith, is, room))
