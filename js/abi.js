@@ -45,6 +45,7 @@ const CONTOURS = 4 * SIZE;
 const OPTIONS = 32;
 const CLIP_OPTIONS = 12;
 const RESULT = 2 * SIZE * ARRAYS.length;
+const PREPARED = 6 * SIZE;
 const MOST_64 = 2n ** 64n - 1n;
 
 /** Raises what a status stands for, if it is not OK. */
@@ -332,5 +333,39 @@ export class Library {
       check(status);
       return found.view().slice();
     });
+  }
+
+  /** The address of a prepared shape, of coordinates of 64 bits; `freePrepared` gives its memory back. */
+  prepare({ groups: [shape], grid }, fill, solver) {
+    return this.hold((held) => {
+      const contours = this.contours(held, shape, grid);
+      const at = this.calls.malloc(BigInt(PREPARED));
+      if (at === 0n) {
+        throw new OutOfMemory();
+      }
+      try {
+        check(this.calls.polyover_prepare(fill, solver, contours, at));
+      } catch (fault) {
+        this.calls.free(at);
+        throw fault;
+      }
+      return Number(at);
+    });
+  }
+
+  /** A number for each point of 64 bits, which tells where it lies in a prepared shape: its place in LOCATIONS. */
+  preparedLocate(at, { groups: [points], grid }) {
+    return this.hold((held) => {
+      const numbers = this.numbers(held, points, grid);
+      const found = new Row(held, Uint8Array, numbers.count / 2);
+      check(this.calls.polyover_prepared_locate(BigInt(at), ...numbers.arguments, ...found.arguments));
+      return found.view().slice();
+    });
+  }
+
+  /** Gives the memory of a prepared shape back. */
+  freePrepared(at) {
+    this.calls.polyover_prepared_free(BigInt(at));
+    this.calls.free(BigInt(at));
   }
 }

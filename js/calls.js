@@ -1,10 +1,12 @@
 /** The calls: contours, paths and points in, shapes, paths, edges, relations and locations out. */
 
-import { FILLS, LIMIT, Library, Misplaced, RELATIONS, RULES } from "./abi.js";
+import { FILLS, LIMIT, Library, RELATIONS, RULES } from "./abi.js";
 import { edgesIn, linesIn, linksIn, locationsIn, shapesIn } from "./answers.js";
 import { BadInput } from "./errors.js";
 import { isGeometry, partsOf } from "./geojson.js";
-import { alike, chosen, grouped, kindOfNumbers, listed, outOfRange, placed, pointsOf, shown } from "./given.js";
+import { alike, askedOf, chosen, grouped, listed, pointsOf } from "./given.js";
+import { Prepared } from "./prepared.js";
+import { shown } from "./shown.js";
 
 const LOOK = ["clockwise", "keep", "touching", "minimumArea", "solver"];
 const OVERLAY = ["rule", "fill", ...LOOK, "answer"];
@@ -106,10 +108,19 @@ export class Polyover {
   /** Where each point lies in contours that are joined by exclusive or: "inside", "boundary" or "outside". */
   locate(shape, points, options = {}) {
     const { answer } = chosen(options, ["answer"]);
-    const queries = isGeometry(points) ? pointsOf(parts("points", points, "points")) : pointsOf(points);
+    const queries = pointsOf(points);
     return this.#asked([this.#contours("shape", shape), queries], answer ?? queries.form, (asked, form) =>
       locationsIn(this.#library.locate(asked), form),
     );
+  }
+
+  /** The shape that contours fill, made ready to be asked again and again where points lie: a `Prepared`. */
+  prepare(shape, options = {}) {
+    const { fill, solver } = chosen(options, ["fill", "solver"]);
+    return this.#asked([this.#contours("shape", shape)], "lists", (asked) => {
+      const groups = alike(asked.groups, Float64Array, asked.grid);
+      return new Prepared(this.#library, this.#library.prepare({ ...asked, groups }, fill, solver), this.#grid);
+    });
   }
 
   /** The edges of the arrangement, in order: two points, and the sum of the bits of the filled sides. */
@@ -127,16 +138,9 @@ export class Polyover {
 
   // ---- what is given
 
-  /** What an answer is of groups; a fault of a number names its place. */
-  #asked(groups, answer, answered) {
-    const kind = kindOfNumbers(groups, this.#grid);
-    const asked = { groups: alike(groups, kind, this.#grid), kind, grid: this.#grid };
-    try {
-      return answered(asked, answer ?? groups[0].form);
-    } catch (fault) {
-      const found = fault instanceof Misplaced ? fault : fault instanceof BadInput ? outOfRange(groups) : undefined;
-      throw found ? placed(found, groups, this.#grid) : fault;
-    }
+  /** What an answer is of groups. */
+  #asked(groups, form, answered) {
+    return askedOf(groups, this.#grid, form, answered);
   }
 
   #contours(name, thing) {
@@ -147,7 +151,8 @@ export class Polyover {
     if (!isGeometry(thing)) {
       return grouped("lines", thing);
     }
-    return { ...listed("lines", parts("lines", thing, "lines")), form: "geojson" };
+    const lines = partsOf("lines", thing, "lines").map(({ part }) => part);
+    return { ...listed("lines", lines), form: "geojson" };
   }
 
   /** The contours of polygons, as whole numbers: outlines run counter-clockwise and holes clockwise. */
@@ -169,11 +174,6 @@ export class Polyover {
         : this.#library.simplify(whole, NONZERO, PLAIN);
     });
   }
-}
-
-/** The parts of geometries of a kind, without their places. */
-function parts(kind, thing, name) {
-  return partsOf(kind, thing, name).map(({ part }) => part);
 }
 
 /** Contours in several arrays as those of one group. */

@@ -1,7 +1,7 @@
 /** Geometries of GeoJSON as paths: of polygons their rings, of lines their points. */
 
 import { BadInput } from "./errors.js";
-import { shown } from "./given.js";
+import { shown } from "./shown.js";
 
 const POLYGONS = ["Polygon", "MultiPolygon"];
 const LINES = ["LineString", "MultiLineString"];

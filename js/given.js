@@ -3,19 +3,10 @@
 import { FILLS, LIMIT, LIMIT_32, Misplaced, RULES, SOLVERS } from "./abi.js";
 import { BadInput } from "./errors.js";
 import { Flat, isNumbers } from "./flat.js";
+import { isGeometry, partsOf } from "./geojson.js";
+import { shown } from "./shown.js";
 
 const AREA_LIMIT = 2n ** 127n - 1n;
-
-/** A value in a message, not too long. */
-export function shown(value) {
-  let text;
-  try {
-    text = typeof value === "bigint" ? `${value}n` : (JSON.stringify(value) ?? String(value));
-  } catch {
-    text = String(value);
-  }
-  return text.length > 60 ? `${text.slice(0, 57)}..` : text;
-}
 
 // ---- options
 
@@ -174,8 +165,11 @@ export function grouped(name, paths) {
   return listed(name, paths);
 }
 
-/** Points as a group: a list of them, or a typed array of x and y in turn. */
+/** Points as a group: a list of them, a typed array of x and y in turn, or GeoJSON. */
 export function pointsOf(points) {
+  if (isGeometry(points)) {
+    return pointsOf(partsOf("points", points, "points").map(({ part }) => part));
+  }
   if (isNumbers(points)) {
     if (points.length % 2 !== 0) {
       throw new BadInput(`points: ${points.length} is an odd count of coordinates`);
@@ -194,7 +188,7 @@ export function pointsOf(points) {
  * The kind of coordinates in which groups are asked and answered: that of the groups that have any. Those of GeoJSON
  * were floats, though `isWhole` says that they are whole numbers now.
  */
-export function kindOfNumbers(groups, grid) {
+function kindOfNumbers(groups, grid) {
   if (grid) {
     return Float64Array;
   }
@@ -219,8 +213,19 @@ export function alike(groups, kind, grid) {
   });
 }
 
+/** What an answer is of groups, in a form, or in that of the first; a fault of a number names its place. */
+export function askedOf(groups, grid, form, answered) {
+  const kind = kindOfNumbers(groups, grid);
+  try {
+    return answered({ groups: alike(groups, kind, grid), kind, grid }, form ?? groups[0].form);
+  } catch (fault) {
+    const found = fault instanceof Misplaced ? fault : fault instanceof BadInput ? outOfRange(groups) : undefined;
+    throw found ? placed(found, groups, grid) : fault;
+  }
+}
+
 /** Names the place of the first number of groups that is out of range; gives none where all are in it. */
-export function outOfRange(groups) {
+function outOfRange(groups) {
   for (const { name, numbers } of groups) {
     const limit = numbers instanceof Int32Array ? LIMIT_32 : numbers instanceof BigInt64Array ? LIMIT : undefined;
     const at = limit === undefined ? -1 : numbers.findIndex((value) => value > limit || value < -limit);
@@ -232,7 +237,7 @@ export function outOfRange(groups) {
 }
 
 /** Where a number of a group stands, in words: its path and point, from 1. */
-export function placed(fault, groups, grid) {
+function placed(fault, groups, grid) {
   const { ends, numbers, name } = groups.find((group) => group.name === fault.group);
   const point = Math.floor(fault.at / 2);
   const path = ends.findIndex((end) => end > point);

@@ -134,6 +134,14 @@ export interface LocationsAs {
   arrays: Uint8Array;
   geojson: Location[];
 }
+export interface TruthsAs {
+  lists: boolean[];
+  /** A number for each point: 1 is true. */
+  arrays: Uint8Array;
+  geojson: boolean[];
+}
+/** The form of locations of points. */
+export type FormOfPoints<P> = P extends Numbers ? "arrays" : "lists";
 
 /** Contours or open paths in two arrays. */
 export class Flat implements Iterable<Point<Coordinate>[]> {
@@ -199,11 +207,13 @@ export class Polyover {
     options?: FillOptions & AnswerOptions<F>,
   ): ShapesAs<NumberOf<P> | NumberOf<Q>>[F];
   /** Where each point lies in contours that are joined by exclusive or. NotResolved comes where one meets itself. */
-  locate<P extends Points, F extends Form = P extends Numbers ? "arrays" : "lists">(
+  locate<P extends Points, F extends Form = FormOfPoints<P>>(
     shape: Paths,
     points: P,
     options?: AnswerOptions<F>,
   ): LocationsAs[F];
+  /** The shape that the contours fill, made ready to be asked again and again where points lie. */
+  prepare(shape: Paths, options?: FillOptions): Prepared;
   /** The edges of the arrangement, in order. */
   edges<P extends Paths, Q extends Paths = [], F extends Form = FormOf<P>>(
     subject: P,
@@ -212,6 +222,32 @@ export class Polyover {
   ): EdgesAs<NumberOf<P> | NumberOf<Q>>[F];
   /** Whether `locate` takes the contours. */
   isResolved(shape: Paths): boolean;
+}
+
+/** A shape that is asked again and again where points lie. */
+export class Prepared {
+  private constructor();
+  /** Where each point lies. */
+  locate<P extends Points, F extends Form = FormOfPoints<P>>(points: P, options?: AnswerOptions<F>): LocationsAs[F];
+  /** Whether each point lies inside; on the boundary it does not. */
+  contains<P extends Points, F extends Form = FormOfPoints<P>>(points: P, options?: AnswerOptions<F>): TruthsAs[F];
+  /** Gives its memory back, which else happens some time after nothing refers to it: it is not to be asked any more. */
+  free(): void;
+}
+
+/** A prepared shape in a worker: each call answers a promise of what `Prepared`'s answers. */
+export class RemotePrepared {
+  private constructor();
+  locate<P extends Points, F extends Form = FormOfPoints<P>>(
+    points: P,
+    options?: AnswerOptions<F>,
+  ): Promise<LocationsAs[F]>;
+  contains<P extends Points, F extends Form = FormOfPoints<P>>(
+    points: P,
+    options?: AnswerOptions<F>,
+  ): Promise<TruthsAs[F]>;
+  /** Gives its memory back: it is not to be asked any more. */
+  free(): void;
 }
 
 /** The calls in a worker: each answers a promise of what `Polyover`'s answers, or is rejected with its error. */
@@ -245,11 +281,12 @@ export class RemotePolyover {
     lines: Q,
     options?: FillOptions & AnswerOptions<F>,
   ): Promise<ShapesAs<NumberOf<P> | NumberOf<Q>>[F]>;
-  locate<P extends Points, F extends Form = P extends Numbers ? "arrays" : "lists">(
+  locate<P extends Points, F extends Form = FormOfPoints<P>>(
     shape: Paths,
     points: P,
     options?: AnswerOptions<F>,
   ): Promise<LocationsAs[F]>;
+  prepare(shape: Paths, options?: FillOptions): Promise<RemotePrepared>;
   edges<P extends Paths, Q extends Paths = [], F extends Form = FormOf<P>>(
     subject: P,
     clip?: Q,

@@ -15,7 +15,8 @@ export { multiLineString, multiPolygon } from "./answers.js";
 export { Polyover } from "./calls.js";
 export * from "./errors.js";
 export { Flat, FlatShapes } from "./flat.js";
-export { RemotePolyover } from "./remote.js";
+export { Prepared } from "./prepared.js";
+export { RemotePolyover, RemotePrepared } from "./remote.js";
 
 // (bundlers for browsers leave a name in a variable alone)
 const FILES = "node:fs/promises";

@@ -5,6 +5,7 @@ import { packed, unpacked } from "./packing.js";
 
 // (bundlers for browsers leave a name in a variable alone)
 const THREADS = "node:worker_threads";
+const OF_PREPARED = ["locate", "contains"];
 const CALLS = ["overlay", "hierarchy", "simplify", "relate", "clip", "slice", "locate", "edges", "isResolved"];
 
 /** A worker of the browser, or one of Node with its ways. (Bundlers take the address where it stands like this.) */
@@ -114,14 +115,57 @@ export class RemotePolyover {
   call(name, given) {
     return this.#channel.ask({ name, grid: this.#grid, given: given.map(packed) });
   }
+
+  /** A prepared shape in the worker. */
+  async prepare(...given) {
+    const { prepared } = await this.call("prepare", given);
+    return new RemotePrepared(this.#channel, prepared);
+  }
 }
 
-for (const name of CALLS) {
-  Object.defineProperty(RemotePolyover.prototype, name, {
-    value(...given) {
-      return this.call(name, given);
-    },
-    writable: true,
-    configurable: true,
-  });
+/** Has the worker give back the memory of a prepared shape; one that has ended needs no more. */
+function freed({ channel, prepared }) {
+  channel.ask({ name: "free", prepared, given: [] }).catch(() => {});
 }
+
+const forgotten = new FinalizationRegistry(freed);
+
+/** A prepared shape in a worker, each of whose calls answers a promise; `RemotePolyover.prepare` makes it. */
+export class RemotePrepared {
+  #channel;
+  #prepared;
+
+  constructor(channel, prepared) {
+    this.#channel = channel;
+    this.#prepared = prepared;
+    forgotten.register(this, { channel, prepared }, this);
+  }
+
+  /** What a call of that name answers. */
+  call(name, given) {
+    return this.#channel.ask({ name, prepared: this.#prepared, given: given.map(packed) });
+  }
+
+  /** Gives its memory back: it is not to be asked any more. */
+  free() {
+    if (forgotten.unregister(this)) {
+      freed({ channel: this.#channel, prepared: this.#prepared });
+    }
+  }
+}
+
+/** Gives a class methods that ask the worker. */
+function remote(kind, names) {
+  for (const name of names) {
+    Object.defineProperty(kind.prototype, name, {
+      value(...given) {
+        return this.call(name, given);
+      },
+      writable: true,
+      configurable: true,
+    });
+  }
+}
+
+remote(RemotePolyover, CALLS);
+remote(RemotePrepared, OF_PREPARED);

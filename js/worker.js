@@ -1,17 +1,42 @@
 /** The worker: it holds an instance of the module, and answers one message after another. */
 
 import { Polyover } from "./calls.js";
+import { BadInput } from "./errors.js";
 import { buffersIn, packed, unpacked } from "./packing.js";
+import { FREED, Prepared } from "./prepared.js";
 
 let polyover;
+// (prepared shapes by their numbers)
+const shapes = new Map();
+let count = 0;
 
-async function answerTo({ module, name, grid, given }) {
+async function answerTo({ module, name, grid, prepared, given }) {
   if (module) {
     polyover = new Polyover(await WebAssembly.instantiate(module, {}));
     return undefined;
   }
+  if (prepared !== undefined) {
+    return ofPrepared(prepared, name, given);
+  }
   const calls = grid ? polyover.scaled(...grid) : polyover;
-  return packed(calls[name](...given.map(unpacked)));
+  const answer = calls[name](...given.map(unpacked));
+  if (answer instanceof Prepared) {
+    shapes.set(count, answer);
+    return { prepared: count++ };
+  }
+  return packed(answer);
+}
+
+/** What a call of a prepared shape answers. */
+function ofPrepared(prepared, name, given) {
+  const shape = shapes.get(prepared);
+  if (shape === undefined) {
+    throw new BadInput(FREED);
+  }
+  if (name === "free") {
+    shapes.delete(prepared);
+  }
+  return shape[name](...given);
 }
 
 async function answered(message, post) {

@@ -19,7 +19,7 @@ sys.path.insert(0, str(Path(__file__).resolve().parents[2] / "python"))
 import polyover  # noqa: E402
 from polyover.text import FILLS, LIMIT, RULES, SOLVERS  # noqa: E402
 
-CALLS = ("overlay", "hierarchy", "simplify", "relate", "clip", "slice", "locate", "edges", "is_resolved")
+CALLS = ("overlay", "hierarchy", "simplify", "relate", "clip", "slice", "locate", "edges", "is_resolved", "prepare")
 SMALL, WIDE = 2**30 - 1, 2**50
 
 
@@ -68,11 +68,20 @@ def made(random: Random) -> tuple[str, list[Any], dict[str, Any], int]:
         # (by rounds Python goes on where they do not settle)
         return call, [first, contours(random, reach)], {"fill": random.choice(list(FILLS))}, reach
     options = filled(random)
+    if call == "prepare":
+        return call, [first, path(random, reach)], options, reach
     if call == "edges":
         return call, [first, contours(random, reach)], options, reach
     if call == "clip":
         options |= {name: random.random() < 0.4 for name in ("invert", "boundary")}
     return call, [first, [path(random, reach, 2) for _ in range(3)]], options, reach
+
+
+def answer_of(call: str, given: list[Any], options: dict[str, Any]) -> Any:
+    """What a call answers; a prepared shape, where points lie in it."""
+    if call == "prepare":
+        return polyover.Prepared(given[0], **options).locate(given[1])
+    return getattr(polyover, call)(*given, **options)
 
 
 def told(value: Any, is_big: bool) -> Any:
@@ -93,7 +102,7 @@ def main() -> None:
     for _ in range(count):
         call, given, options, reach = made(random)
         try:
-            answer, fault = getattr(polyover, call)(*given, **options), None
+            answer, fault = answer_of(call, given, options), None
         except polyover.PolyoverError as found:
             answer, fault = None, type(found).__name__
         line = {"call": call, "given": given, "answer": answer}

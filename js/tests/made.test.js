@@ -16,6 +16,7 @@ const LIBRARY = process.env.POLYOVER_LIBRARY ?? fileURLToPath(new URL("../../out
 const SKIPPED = existsSync(LIBRARY) ? false : "no library for C (make -C c)";
 const NAMES = { is_resolved: "isResolved", minimum_area: "minimumArea" };
 const RELATIONS = { interiors_intersect: "interiorsIntersect", point_intersects: "pointIntersects" };
+const OF_POINTS = ["locate", "prepare"];
 const NUMBER = /^-?\d+$/;
 
 function* made() {
@@ -79,6 +80,9 @@ function turned(value, number) {
 }
 
 function answerOf(call, given, options) {
+  if (call === "prepare") {
+    return polyover.prepare(given[0], options).locate(given[1]);
+  }
   return call === "isResolved" ? polyover.isResolved(...given) : polyover[call](...given, options);
 }
 
@@ -91,7 +95,7 @@ test("made inputs have the answers of the library for C", { skip: SKIPPED }, () 
     const asked = [() => answerOf(call, line.given, options)];
     for (const kind of kinds) {
       const given = line.given.map((paths, at) =>
-        call === "locate" && at === 1 ? flat([paths], kind).coordinates : flat(paths, kind),
+        OF_POINTS.includes(call) && at === 1 ? flat([paths], kind).coordinates : flat(paths, kind),
       );
       asked.push(() => listed(answerOf(call, given, options), number));
     }

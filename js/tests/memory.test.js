@@ -25,6 +25,14 @@ const CALLS = {
   edges: (it) => it.edges([SQUARE], [OTHER]),
   isResolved: (it) => it.isResolved([SQUARE, OTHER]),
   locate: (it) => it.locate([SQUARE], [[2, 2], [4, 1], [9, 9]]),
+  prepare: (it) => {
+    const prepared = it.prepare(FRAME, { fill: "evenodd" });
+    try {
+      return [prepared.locate([[1, 0], [9, 9]]), prepared.contains([[2, 2]])];
+    } finally {
+      prepared.free();
+    }
+  },
   scaled: (it) => it.scaled(100).overlay([SQUARE], [OTHER]),
 };
 

@@ -1,6 +1,7 @@
 // What polyover.d.ts says of the calls: `tsc --strict --noEmit` takes it, but for the lines that are expected to fail.
-import { BadInput, Flat, FlatShapes, load, multiPolygon, NotResolved } from "../polyover.js";
-import type { Edge, Link, Location, MultiPolygon, Polyover, Relations, RemotePolyover, Shapes } from "../polyover.js";
+import { BadInput, Flat, FlatShapes, load, multiPolygon, NotResolved, Prepared as PreparedOf } from "../polyover.js";
+import type { Edge, Link, Location, MultiPolygon, Polyover, Prepared, Relations } from "../polyover.js";
+import type { RemotePolyover, RemotePrepared, Shapes } from "../polyover.js";
 
 const square = [[0, 0], [4, 0], [4, 4], [0, 4]];
 
@@ -26,9 +27,17 @@ export async function asked(): Promise<void> {
   const edges: Edge[] = polyover.edges([square]);
   const parts: Flat = polyover.clip(arrays.contours, [square], { invert: true });
   const is: boolean = polyover.isResolved([square]);
+  const prepared: Prepared = polyover.prepare([square], { fill: "evenodd", solver: "rounds" });
+  const asked: Location[] = prepared.locate([[1, 1]]);
+  const inside: Uint8Array = prepared.contains(new Int32Array(2));
+  const truths: boolean[] = prepared.contains(new Int32Array(2), { answer: "lists" });
+  prepared.free();
   const remote: RemotePolyover = await load({ worker: true });
   const later: Shapes = await remote.overlay([square], [], { touching: true });
+  const far: RemotePrepared = await remote.prepare(arrays.contours);
+  const answered: boolean[] = await far.contains({ type: "Point", coordinates: [1, 1] });
   remote.end();
+  console.log(asked, inside, truths, answered);
   console.log(lists, named, other, found, relations, places, numbers, edges, parts, is, later, big);
   console.log(multiPolygon(lists));
 
@@ -38,6 +47,10 @@ export async function asked(): Promise<void> {
   polyover.simplify([square], { ogc: true });
   // @ts-expect-error: nor is a geometry one without a type
   polyover.overlay({ coordinates: [] });
+  // @ts-expect-error: `prepare` makes prepared shapes
+  new PreparedOf();
+  // @ts-expect-error: which split by a fill rule and a solver alone
+  polyover.prepare([square], { answer: "lists" });
   // @ts-expect-error: contours are lists of points, in a list
   polyover.overlay(square);
 }

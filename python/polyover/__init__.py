@@ -5,9 +5,11 @@ from .calls import slice  # pylint: disable=redefined-builtin
 from .errors import BadInput, LibraryMissing, NotResolved, NotSettled, OutOfMemory, PolyoverError, ProgramMissing
 from .errors import PolyoverWarning, TooManyEdges
 from .flat import Flat, FlatShapes
+from .prepared import Prepared
 from .reading import contours_of, lines_of
 from .scaled import Scaled
 from .shapes import Paths, Shapes
+from .text import LOCATIONS
 
 __version__ = "0.2.0"
 
@@ -15,6 +17,7 @@ __all__ = [
     "BadInput",
     "Flat",
     "FlatShapes",
+    "LOCATIONS",
     "LibraryMissing",
     "NotResolved",
     "NotSettled",
@@ -22,6 +25,7 @@ __all__ = [
     "Paths",
     "PolyoverError",
     "PolyoverWarning",
+    "Prepared",
     "ProgramMissing",
     "Scaled",
     "Shapes",

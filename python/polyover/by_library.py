@@ -2,13 +2,13 @@
 
 from __future__ import annotations
 
-from ctypes import addressof, c_size_t, c_ubyte, c_uint32
+from ctypes import c_size_t, c_uint32
 from typing import Any, Callable, Sequence
 
 from .errors import LibraryMissing, NotResolved
-from .flat import Flat, FlatShapes
+from .flat import Flat, FlatShapes, address_of
 from .grid import grid_lines
-from .library import ClipOptions, Held, Library, Options, Status, check
+from .library import ClipOptions, Held, HeldShape, Library, Options, Status, check
 from .library import library as found_library
 from .text import FILLS, RELATIONS, RULES, SOLVERS
 
@@ -16,10 +16,9 @@ NAME = "library"
 RULE_NUMBERS = {name: number for number, name in enumerate(RULES)}
 FILL_NUMBERS = {name: number for number, name in enumerate(FILLS)}
 SOLVER_NUMBERS = {name: number for number, name in enumerate(SOLVERS)}
-LOCATIONS = ("outside", "inside", "boundary")
 Found = Callable[[Held], Any]
 # of the other calls each takes the function of its own name that gives a result
-TAKES = {"tiles": "slice_result", "is_resolved": "resolved", "relate": "relate", "locate": "locate"}
+TAKES = {"tiles": "slice_result", "is_resolved": "resolved", **{name: name for name in ("relate", "locate", "prepare")}}
 
 
 def can(call: str) -> bool:
@@ -162,15 +161,21 @@ def is_resolved(shape: Any) -> bool:
     return status == Status.OK
 
 
-def locate(shape: Any, points: Any) -> list[str]:
-    """Where each point lies."""
+def locate(shape: Any, points: Any) -> bytearray:
+    """Where each point lies: the place of its word in `LOCATIONS`."""
     asked, unresolved = library(), c_size_t()
     contours, queries = asked.contours(shape), asked.contours([points])
-    count = queries.coordinate_count // 2
-    found = (c_ubyte * count)()
+    found = bytearray(queries.coordinate_count // 2)
+    room = address_of(memoryview(found))
     given = queries.coordinates or 0, queries.coordinate_count
-    status = asked.call("polyover_locate", contours, *given, addressof(found), count, unresolved)
+    status = asked.call("polyover_locate", contours, *given, room[0], len(found), unresolved)
     if status == Status.NOT_RESOLVED:
         raise NotResolved(unresolved.value)
     check(status)
-    return [LOCATIONS[number] for number in bytes(found)]
+    return found
+
+
+def prepare(shape: Any, fill: str, solver: str) -> HeldShape:
+    """A prepared shape."""
+    asked = library()
+    return HeldShape(asked, FILL_NUMBERS[fill], SOLVER_NUMBERS[solver], asked.contours(shape))

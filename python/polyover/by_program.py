@@ -8,7 +8,7 @@ from .contour import double_area
 from .errors import NotResolved
 from .grid import misfit
 from .program import BadLine, answer
-from .text import FILLS, RELATIONS, ROUNDS, RULES, coordinate, edges_in, lines_of, paths_in, shapes_in
+from .text import FILLS, LOCATIONS, RELATIONS, ROUNDS, RULES, coordinate, edges_in, lines_of, paths_in, shapes_in
 
 NAME = "program"
 
@@ -96,10 +96,10 @@ def is_resolved(shape: Any) -> bool:
     return True
 
 
-def locate(shape: Any, points: Any) -> list[str]:
-    """Where each point lies."""
+def locate(shape: Any, points: Any) -> bytearray:
+    """Where each point lies: the place of its word in `LOCATIONS`."""
     given = lines_of("subject", shape) + "".join(lines_of("point", [[point]]) for point in points)
     try:
-        return answer(f"{given}run locate\n").split()
+        return bytearray(map(LOCATIONS.index, answer(f"{given}run locate\n").split()))
     except BadLine as bad:
         raise NotResolved(bad.line - 1) from None

@@ -4,14 +4,14 @@ from __future__ import annotations
 
 import warnings
 from contextlib import contextmanager
-from typing import Any, Iterable, Iterator, NamedTuple
+from typing import Any, Iterable, Iterator, Literal, NamedTuple, overload
 
 from . import by_library, by_program
 from .contour import room_of, shifted
 from .errors import BadInput, NotSettled, PolyoverWarning
 from .flat import Flat, FlatShapes, is_whole_path
 from .shapes import Paths, Shapes
-from .text import FILLS, RULES, SNAPPED, SOLVERS, coordinate, known, whole
+from .text import FILLS, LOCATIONS, RULES, SNAPPED, SOLVERS, coordinate, known, whole
 from .told import Told
 
 AREA_LIMIT = 2**127 - 1
@@ -305,8 +305,23 @@ def is_resolved(shape: Any) -> bool:
         return bool(asked("is_resolved").is_resolved(shape))
 
 
-def locate(shape: Any, points: Iterable[Any]) -> list[str]:
-    """Returns where each point lies: "inside", "boundary" or "outside". Contours are joined by exclusive or."""
+@overload
+def locate(shape: Any, points: Iterable[Any], *, arrays: Literal[False] = False) -> list[str]: ...
+
+
+@overload
+def locate(shape: Any, points: Iterable[Any], *, arrays: Literal[True]) -> memoryview: ...
+
+
+def locate(shape: Any, points: Iterable[Any], *, arrays: bool = False) -> list[str] | memoryview:
+    """Returns where each point lies: "inside", "boundary" or "outside". Contours are joined by exclusive or. With
+    `arrays` the answer is an array of bytes: of each point the place of its word in `LOCATIONS`."""
     shape, queries = listed("shape", shape), listed("points", [points])
     with placed(shape=shape, points=queries):
-        return list(asked("locate").locate(shape, queries[0]))
+        found = asked("locate").locate(shape, queries[0])
+    return memoryview(found) if arrays else words_of(found)
+
+
+def words_of(found: bytearray) -> list[str]:
+    """The words of places in `LOCATIONS`."""
+    return list(map(LOCATIONS.__getitem__, found))

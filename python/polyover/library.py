@@ -11,6 +11,7 @@ from pathlib import Path
 from struct import error as StructError
 from struct import pack
 from typing import Any, Callable
+from weakref import finalize
 
 from . import program
 from .errors import BadInput, LibraryMissing, NotSettled, OutOfMemory, PolyoverError, TooManyEdges
@@ -144,8 +145,21 @@ class Contours(Structure):
         super().__init__(coordinates, len(numbers), places, len(ends))
 
 
+class PreparedShape(Structure):
+    """A prepared shape in memory of the library."""
+
+    _fields_ = [
+        ("edges", c_void_p),
+        ("edge_count", c_size_t),
+        ("blocks", c_void_p),
+        ("block_count", c_size_t),
+        ("groups", c_void_p),
+        ("group_count", c_size_t),
+    ]
+
+
 ARRAY = (c_void_p, c_size_t)
-CONTOURS, RESULT = POINTER(Contours), POINTER(Result)
+CONTOURS, RESULT, PREPARED = POINTER(Contours), POINTER(Result), POINTER(PreparedShape)
 TWO = (c_uint32, c_uint32, CONTOURS, CONTOURS)
 OVERLAY = (c_uint32, c_uint32, POINTER(Options), CONTOURS, CONTOURS)
 FUNCTIONS = {
@@ -160,7 +174,11 @@ FUNCTIONS = {
     "polyover_relate": (*TWO, POINTER(c_uint32)),
     "polyover_resolved": (CONTOURS,),
     "polyover_locate": (CONTOURS, *ARRAY, *ARRAY, POINTER(c_size_t)),
+    "polyover_prepare": (c_uint32, c_uint32, CONTOURS, PREPARED),
+    "polyover_prepared_locate": (PREPARED, *ARRAY, *ARRAY),
+    "polyover_prepared_free": (PREPARED,),
 }
+FREES = {"polyover_free", "polyover_prepared_free"}
 
 
 def address(items: Any) -> int:
@@ -198,7 +216,7 @@ class Library:
         self.names = {name for name in FUNCTIONS if hasattr(self.functions, name)}
         for name in self.names:
             function = getattr(self.functions, name)
-            function.argtypes, function.restype = FUNCTIONS[name], None if name == "polyover_free" else c_uint32
+            function.argtypes, function.restype = FUNCTIONS[name], None if name in FREES else c_uint32
 
     def numbers(self, given: list[Any]) -> Any:
         """An array of coordinates, which are whole numbers in the coordinate range."""
@@ -251,6 +269,25 @@ class Library:
         held = Held(self.functions.polyover_free)
         check(self.call(name, *given, held.pointer))
         return held
+
+
+class HeldShape:
+    """A prepared shape, where the library has it: its memory is freed once nothing refers to this."""
+
+    def __init__(self, asked: Library, fill: int, solver: int, contours: Contours) -> None:
+        self.asked, shape = asked, PreparedShape()
+        self.pointer = byref(shape)
+        check(asked.call("polyover_prepare", fill, solver, contours, self.pointer))
+        finalize(self, asked.functions.polyover_prepared_free, self.pointer)
+
+    def locate(self, points: Any) -> bytearray:
+        """A number for each point, which tells where it lies."""
+        queries = self.asked.contours([points])
+        found = bytearray(queries.coordinate_count // 2)
+        room = address_of(memoryview(found))
+        given = queries.coordinates or 0, queries.coordinate_count
+        check(self.asked.call("polyover_prepared_locate", self.pointer, *given, room[0], len(found)))
+        return found
 
 
 @lru_cache(maxsize=None)

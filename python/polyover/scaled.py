@@ -13,6 +13,7 @@ from .errors import BadInput
 from .flat import Flat
 from .geojson import is_geometry
 from .numbers import ratio_of
+from .prepared import Prepared
 from .reading import Lines, Polygons, lines_in, polygons_in
 from .shapes import Paths, Shapes
 from .told import Told
@@ -181,9 +182,28 @@ class Scaled:
         """As `polyover.is_resolved`."""
         return calls.is_resolved(self._taken("shape", shape))
 
-    def locate(self, shape: Group, points: Iterable[Any]) -> list[str]:
+    def locate(self, shape: Group, points: Iterable[Any], **options: Any) -> Any:
         """As `polyover.locate`."""
-        return calls.locate(self._taken("shape", shape), self._taken("points", [points])[0])
+        return calls.locate(self._taken("shape", shape), self.whole_points(points), **options)
+
+    def prepared(self, shape: Group, fill: str = "nonzero", **options: Any) -> Prepared:
+        """As `polyover.Prepared`, asked by points of floats."""
+        return PreparedAtScale(self, shape, fill, **options)
+
+    def whole_points(self, points: Iterable[Any]) -> WholePath:
+        """Points that are located, with whole coordinates."""
+        return self._taken("points", [points])[0]
+
+
+class PreparedAtScale(Prepared):
+    """A prepared shape whose contours and points are floats, taken as whole numbers at a scale."""
+
+    def __init__(self, scaled: Scaled, shape: Group, fill: str, **options: Any) -> None:
+        super().__init__(scaled._taken("shape", shape), fill, **options)  # pylint: disable=protected-access
+        self._scaled = scaled
+
+    def _whole(self, points: Any) -> Any:
+        return self._scaled.whole_points(points)
 
 
 def float_of(value: Fraction) -> float | None:

@@ -23,6 +23,8 @@ FILLS = {"evenodd": "EvenOdd", "nonzero": "NonZero", "positive": "Positive", "ne
 # (how edges are split where they meet, by the numbers of the library)
 SOLVERS = ("snapped", "rounds")
 SNAPPED, ROUNDS = SOLVERS
+# (where a point lies, by the numbers of the library)
+LOCATIONS = ("outside", "inside", "boundary")
 RELATIONS = ("intersects", "interiors_intersect", "touches", "point_intersects", "within", "disjoint", "covers")
 
 

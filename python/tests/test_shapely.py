@@ -6,9 +6,12 @@ from math import cos, pi, sin
 
 import polyover
 
+from .there import with_library
+
 try:
-    from shapely.geometry import MultiLineString, MultiPolygon, Polygon, shape as shapely_shape
+    from shapely.geometry import MultiLineString, MultiPolygon, Point, Polygon, shape as shapely_shape
     from shapely.ops import unary_union
+    from shapely.prepared import prep
 except ImportError:
     shapely_shape = None
 
@@ -113,6 +116,45 @@ class Compared(unittest.TestCase):
                 "covers": a.covers(b),
             }
             self.assertEqual(told, expected, (one, two))
+
+    def located(self, contours, shape, points):
+        """That points lie in the prepared contours as in the shape of GEOS."""
+        there = prep(shape)
+        expected = ["boundary" if there.intersects(it) else "outside" for it in map(Point, points)]
+        for at, point in enumerate(points):
+            if there.contains(Point(point)):
+                expected[at] = "inside"
+        prepared = polyover.Prepared(contours)
+        self.assertEqual(prepared.locate(points), expected, contours)
+        self.assertEqual(prepared.contains(points), [word == "inside" for word in expected])
+
+    @with_library
+    def test_prepared_stars(self):
+        chance = random.Random(9)
+        for _ in range(INPUTS // 10):
+            size = chance.choice((10, 1000, 10**6))
+            contour = self.resolved(star, chance, size)
+            middles = [((x + u) // 2, (y + v) // 2) for (x, y), (u, v) in zip(contour, contour[1:])]
+            free = [(chance.randint(-2 * size, 2 * size), chance.randint(-2 * size, 2 * size)) for _ in range(40)]
+            self.located([contour], Polygon(contour), contour + middles + free)
+
+    @with_library
+    def test_prepared_boxes(self):
+        chance = random.Random(10)
+        points = [(x, y) for x in range(-1, 26) for y in range(-1, 26)]
+        for _ in range(INPUTS // 40):
+            contours = [box(chance, 12) for _ in range(chance.randint(1, 6))]
+            self.located(contours, region(contours), points)
+
+    @with_library
+    def test_prepared_stars_that_cross(self):
+        chance = random.Random(11)
+        for _ in range(INPUTS // 20):
+            contours = [self.resolved(star, chance, 1000) for _ in range(3)]
+            points = [(chance.randint(-2000, 2000), chance.randint(-2000, 2000)) for _ in range(99)]
+            # (chains of the arrangement stay within half a unit of their edges, in x and in y)
+            far = [it for it in points if all(Polygon(each).exterior.distance(Point(it)) > 1 for each in contours)]
+            self.located(contours, region(contours), far)
 
     def test_lines_in_boxes(self):
         chance = random.Random(4)

@@ -1,0 +1,79 @@
+"""Shapes that are asked again and again where points lie."""
+
+from __future__ import annotations
+
+from typing import Any, Iterable, Literal, overload
+
+from . import by_library, calls
+from .errors import BadInput, LibraryMissing
+from .library import HeldShape
+from .program import LIBRARY
+from .text import FILLS, LOCATIONS, SNAPPED, known
+
+IS_INSIDE = bytes(word == "inside" for word in LOCATIONS).ljust(256, b"\0")
+
+
+class Prepared:
+    """A shape that is asked again and again where points lie: what any contours fill under a fill rule.
+
+    The contours may cross themselves and others: their edges are split by the solver. The edges with one filled side
+    are kept, its boundary; a point on one of them lies on the boundary, and any other where the rule fills its winding
+    inside. A question asks these edges alone, so the contours may go.
+
+    Threads may ask at once. Its memory is given back by `close`, at the end of `with`, or else once nothing refers to
+    it. The program has no prepared shapes: without the library there is LibraryMissing.
+    """
+
+    def __init__(self, shape: Any, fill: str = "nonzero", *, solver: str = SNAPPED) -> None:
+        self._held: HeldShape | None = None
+        fill, solver, shape = known(FILLS, fill, "fill rule"), calls.solver_of(solver), calls.listed("shape", shape)
+        if not by_library.can("prepare"):
+            raise LibraryMissing(f"the library has prepared shapes, and is not there, or is an older one. {LIBRARY}")
+        with calls.placed(shape=shape):
+            self._held = by_library.prepare(shape, fill, solver)
+
+    @overload
+    def locate(self, points: Iterable[Any], *, arrays: Literal[False] = False) -> list[str]: ...
+
+    @overload
+    def locate(self, points: Iterable[Any], *, arrays: Literal[True]) -> memoryview: ...
+
+    def locate(self, points: Iterable[Any], *, arrays: bool = False) -> list[str] | memoryview:
+        """Returns where each point lies: "inside", "boundary" or "outside". With `arrays` it is an array of bytes: of
+        each point the place of its word in `LOCATIONS`."""
+        found = self._located(points)
+        return memoryview(found) if arrays else calls.words_of(found)
+
+    @overload
+    def contains(self, points: Iterable[Any], *, arrays: Literal[False] = False) -> list[bool]: ...
+
+    @overload
+    def contains(self, points: Iterable[Any], *, arrays: Literal[True]) -> memoryview: ...
+
+    def contains(self, points: Iterable[Any], *, arrays: bool = False) -> list[bool] | memoryview:
+        """Returns whether each point lies inside; on the boundary it does not. With `arrays` they are in an array."""
+        truths = memoryview(self._located(points).translate(IS_INSIDE)).cast("?")
+        return truths if arrays else truths.tolist()  # type: ignore[return-value]
+
+    def close(self) -> None:
+        """Gives the memory back; a question that another thread asks meanwhile is answered first."""
+        self._held = None
+
+    def __enter__(self) -> Prepared:
+        return self
+
+    def __exit__(self, *_: object) -> None:
+        self.close()
+
+    def _located(self, points: Any) -> bytearray:
+        """The place of each point's word."""
+        held = self._held
+        if held is None:
+            raise BadInput("the prepared shape was closed")
+        whole = self._whole(points)
+        with calls.placed(points=[whole]):
+            return held.locate(whole)
+
+    def _whole(self, points: Any) -> Any:
+        """The points that are given, with whole coordinates."""
+        return calls.listed("points", [points])[0]
