@@ -26,27 +26,30 @@ fn is_unsettled<T: Drop>(answer: Result<T, OverlayError>) -> bool {
     matches!(answer, Err(OverlayError::NotSettled))
 }
 
-// Whether a query of a builder with the needles is refused so, and again as of a failed builder.
+// Whether a query of a builder with the needles is refused so, the builder has failed then, and the query is refused by
+// this error when it is asked again.
 fn fails<
     I: OverlayInt + From<i16> + PartialEq,
     T: Drop,
     Q: Fn(&mut Overlay<I, Global>) -> Result<T, OverlayError> + Drop,
->(rt: &impl Abort, alloc: Global, query: Q) -> Result<bool, OverlayError> {
+>(rt: &impl Abort, alloc: Global, again: &OverlayError, query: Q) -> Result<bool, OverlayError> {
     let mut overlay = needles::<I>(rt, alloc, Solver::ABSOLUTE)?;
     let is_refused = is_unsettled(query(&mut overlay));
-    Ok(is_refused && matches!(query(&mut overlay), Err(OverlayError::Failed)))
+    let is_failed = matches!(overlay.overlay(UNION, RULE), Err(OverlayError::Failed));
+    Ok(is_refused && is_failed && query(&mut overlay).is_err_and(|error| error == *again))
 }
 
 fn queries<I: OverlayInt + From<i16> + PartialEq>(
     rt: &impl Abort,
     alloc: Global,
 ) -> Result<(), OverlayError> {
-    assert!(rt; fails::<I, _, _>(rt, alloc, |it| it.overlay(UNION, RULE))?);
-    assert!(rt; fails::<I, _, _>(rt, alloc, |it| it.overlay_hierarchy(UNION, RULE))?);
-    assert!(rt; fails::<I, _, _>(rt, alloc, |it| it.build_shape_vectors(RULE, UNION))?);
-    assert!(rt; fails::<I, _, _>(rt, alloc, |it| it.build_separate_vectors(RULE))?);
+    let failed = &OverlayError::Failed;
+    assert!(rt; fails::<I, _, _>(rt, alloc, failed, |it| it.overlay(UNION, RULE))?);
+    assert!(rt; fails::<I, _, _>(rt, alloc, failed, |it| it.overlay_hierarchy(UNION, RULE))?);
+    assert!(rt; fails::<I, _, _>(rt, alloc, failed, |it| it.build_shape_vectors(RULE, UNION))?);
+    assert!(rt; fails::<I, _, _>(rt, alloc, failed, |it| it.build_separate_vectors(RULE))?);
     assert!(rt;
-        fails::<I, _, _>(rt, alloc, |it| {
+        fails::<I, _, _>(rt, alloc, failed, |it| {
             let view = it.build_graph_view(RULE)?;
             Ok(view.is_some())
         })?
@@ -62,18 +65,6 @@ fn queries<I: OverlayInt + From<i16> + PartialEq>(
 #[test]
 fn queries_do_not_settle(rt: HostRuntime) -> Result<(), Fail> {
     each_wide!(rt, queries)
-}
-
-// Whether a call that simplifies is refused so, whatever the builder held before.
-fn fails_alone<
-    I: OverlayInt + From<i16> + PartialEq,
-    T: Drop,
-    Q: Fn(&mut Overlay<I, Global>) -> Result<T, OverlayError> + Drop,
->(rt: &impl Abort, alloc: Global, query: Q) -> Result<bool, OverlayError> {
-    let mut overlay = needles::<I>(rt, alloc, Solver::ABSOLUTE)?;
-    let is_refused = is_unsettled(query(&mut overlay));
-    let is_failed = matches!(overlay.overlay(UNION, RULE), Err(OverlayError::Failed));
-    Ok(is_refused && is_failed && is_unsettled(query(&mut overlay)))
 }
 
 // A flat buffer of these contours is refused so, and is left as it was, or empty.
@@ -104,12 +95,14 @@ fn simplifying<I: OverlayInt + From<i16> + PartialEq>(
     let shapes = shapes_of::<I>(alloc, &[&[&FIRST], &[&SECOND]])?;
     assert_in_range(rt, &one);
     assert_in_range(rt, &shapes);
-    assert!(rt; fails_alone::<I, _, _>(rt, alloc, |it| it.simplify_contour(&one, RULE))?);
-    assert!(rt; fails_alone::<I, _, _>(rt, alloc, |it| it.simplify_source(&one, RULE))?);
-    assert!(rt; fails_alone::<I, _, _>(rt, alloc, |it| it.simplify_source(&shape, RULE))?);
-    assert!(rt; fails_alone::<I, _, _>(rt, alloc, |it| it.simplify_shape(&alone, RULE))?);
-    assert!(rt; fails_alone::<I, _, _>(rt, alloc, |it| it.simplify_shape(&shape, RULE))?);
-    assert!(rt; fails_alone::<I, _, _>(rt, alloc, |it| it.simplify_shapes(&shapes, RULE))?);
+    // (the builder is cleared first)
+    let unsettled = &OverlayError::NotSettled;
+    assert!(rt; fails::<I, _, _>(rt, alloc, unsettled, |it| it.simplify_contour(&one, RULE))?);
+    assert!(rt; fails::<I, _, _>(rt, alloc, unsettled, |it| it.simplify_source(&one, RULE))?);
+    assert!(rt; fails::<I, _, _>(rt, alloc, unsettled, |it| it.simplify_source(&shape, RULE))?);
+    assert!(rt; fails::<I, _, _>(rt, alloc, unsettled, |it| it.simplify_shape(&alone, RULE))?);
+    assert!(rt; fails::<I, _, _>(rt, alloc, unsettled, |it| it.simplify_shape(&shape, RULE))?);
+    assert!(rt; fails::<I, _, _>(rt, alloc, unsettled, |it| it.simplify_shapes(&shapes, RULE))?);
     flat::<I>(rt, alloc, &[&AROUND_BOTH])?;
     flat::<I>(rt, alloc, &[&FIRST, &SECOND])?;
     let options = IntOverlayOptions::default();

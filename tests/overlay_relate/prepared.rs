@@ -14,8 +14,13 @@ use std::alloc::Global;
 use std::process::Abort;
 use std::test::Fail;
 
-// A point, and where it lies.
-type Row = ([i16; 2], PointLocation);
+// Points, by where they lie.
+#[derive(Clone, Copy)]
+struct Lying<'a> {
+    inside: &'a [[i16; 2]],
+    boundary: &'a [[i16; 2]],
+    outside: &'a [[i16; 2]],
+}
 
 // The contours with these points.
 fn contours<I: OverlayInt + From<i16>>(
@@ -35,7 +40,7 @@ fn ask<I: OverlayInt + From<i16>>(
     alloc: Global,
     all: &[&[[i16; 2]]],
     fill_rule: FillRule,
-    rows: &[Row],
+    wanted: &Lying<'_>,
 ) -> Result<(), Fail> {
     let shape = contours::<I>(alloc, all)?;
     for contour in &shape {
@@ -43,25 +48,40 @@ fn ask<I: OverlayInt + From<i16>>(
     }
     for solver in [Solver::ABSOLUTE, Solver::SNAPPED] {
         let prepared = PreparedShape::new(alloc, &shape, fill_rule, solver)?;
-        for (at, wanted) in rows {
-            let point = IntPoint::new(I::from(at[0]), I::from(at[1]));
-            assert!(rt; prepared.locate(point) == *wanted);
-        }
+        assert!(rt; lie_there(&prepared, wanted.inside, Inside));
+        assert!(rt; lie_there(&prepared, wanted.boundary, Boundary));
+        assert!(rt; lie_there(&prepared, wanted.outside, Outside));
     }
     Ok(())
 }
 
-// The same at each coordinate type.
+// Tests whether all of the points lie there.
+fn lie_there<I: OverlayInt + From<i16>>(
+    prepared: &PreparedShape<I, Global>,
+    points: &[[i16; 2]],
+    wanted: PointLocation,
+) -> bool {
+    for at in points {
+        if prepared.locate(IntPoint::new(I::from(at[0]), I::from(at[1]))) != wanted {
+            return false;
+        }
+    }
+    true
+}
+
+// Asks so by each of these fill rules, at each coordinate type.
 fn ask_each(
     rt: &impl Abort,
     alloc: Global,
     all: &[&[[i16; 2]]],
-    fill_rule: FillRule,
-    rows: &[Row],
+    by_rule: &[(FillRule, Lying<'_>)],
 ) -> Result<(), Fail> {
-    ask::<i16>(rt, alloc, all, fill_rule, rows)?;
-    ask::<i32>(rt, alloc, all, fill_rule, rows)?;
-    ask::<i64>(rt, alloc, all, fill_rule, rows)
+    for (fill_rule, wanted) in by_rule {
+        ask::<i16>(rt, alloc, all, *fill_rule, wanted)?;
+        ask::<i32>(rt, alloc, all, *fill_rule, wanted)?;
+        ask::<i64>(rt, alloc, all, *fill_rule, wanted)?;
+    }
+    Ok(())
 }
 
 const OUTER: [[i16; 2]; 4] = [[0, 0], [10, 0], [10, 10], [0, 10]];
@@ -70,31 +90,35 @@ const HOLE: [[i16; 2]; 4] = [[3, 3], [3, 6], [6, 6], [6, 3]];
 
 #[test]
 fn a_hole(rt: HostRuntime) -> Result<(), Fail> {
-    let rows = [
-        ([1, 1], Inside),
-        ([4, 4], Outside),
-        ([3, 4], Boundary),
-        ([4, 3], Boundary),
-        ([4, 6], Boundary),
-        ([0, 0], Boundary),
-        ([10, 0], Boundary),
-        ([10, 10], Boundary),
-        ([6, 6], Boundary),
-        ([6, 2], Inside),
-        ([6, 7], Inside),
-        ([10, 5], Boundary),
-        ([-1, 5], Outside),
-        ([11, 5], Outside),
-        ([5, 11], Outside),
-        ([5, -1], Outside),
-        ([10, 11], Outside),
-        ([0, 11], Outside),
-        ([0, -1], Outside),
+    let wanted = Lying {
+        inside: &[[1, 1], [6, 2], [6, 7]],
+        boundary: &[
+            [3, 4],
+            [4, 3],
+            [4, 6],
+            [6, 6],
+            [0, 0],
+            [10, 0],
+            [10, 10],
+            [10, 5],
+        ],
+        outside: &[
+            [4, 4],
+            [-1, 5],
+            [11, 5],
+            [5, 11],
+            [5, -1],
+            [10, 11],
+            [0, 11],
+            [0, -1],
+        ],
+    };
+    let by_rule = [
+        (FillRule::EvenOdd, wanted),
+        (FillRule::NonZero, wanted),
+        (FillRule::Positive, wanted),
     ];
-    for fill_rule in [FillRule::EvenOdd, FillRule::NonZero, FillRule::Positive] {
-        ask_each(&rt, rt.alloc(), &[&OUTER, &HOLE], fill_rule, &rows)?;
-    }
-    Ok(())
+    ask_each(&rt, rt.alloc(), &[&OUTER, &HOLE], &by_rule)
 }
 
 // It winds once round its left half, and once the other way round its right half.
@@ -102,41 +126,28 @@ const CROSSED: [[i16; 2]; 4] = [[0, 0], [4, 4], [4, 0], [0, 4]];
 
 #[test]
 fn a_contour_that_crosses_itself(rt: HostRuntime) -> Result<(), Fail> {
-    let both = [
-        ([1, 2], Inside),
-        ([3, 2], Inside),
-        ([2, 2], Boundary),
-        ([0, 2], Boundary),
-        ([4, 2], Boundary),
-        ([3, 3], Boundary),
-        ([2, 1], Outside),
-        ([2, 3], Outside),
+    let both = Lying {
+        inside: &[[1, 2], [3, 2]],
+        boundary: &[[2, 2], [0, 2], [4, 2], [3, 3]],
+        outside: &[[2, 1], [2, 3]],
+    };
+    let left = Lying {
+        inside: &[[1, 2]],
+        boundary: &[[2, 2], [0, 2], [1, 1]],
+        outside: &[[3, 2], [4, 2], [3, 3], [4, 4]],
+    };
+    let right = Lying {
+        inside: &[[3, 2]],
+        boundary: &[[2, 2], [4, 2], [3, 3]],
+        outside: &[[1, 2], [0, 2], [1, 1], [0, 0]],
+    };
+    let by_rule = [
+        (FillRule::EvenOdd, both),
+        (FillRule::NonZero, both),
+        (FillRule::Positive, left),
+        (FillRule::Negative, right),
     ];
-    let left = [
-        ([1, 2], Inside),
-        ([3, 2], Outside),
-        ([2, 2], Boundary),
-        ([0, 2], Boundary),
-        ([1, 1], Boundary),
-        ([4, 2], Outside),
-        ([3, 3], Outside),
-        ([4, 4], Outside),
-    ];
-    let right = [
-        ([1, 2], Outside),
-        ([3, 2], Inside),
-        ([2, 2], Boundary),
-        ([0, 2], Outside),
-        ([1, 1], Outside),
-        ([0, 0], Outside),
-        ([4, 2], Boundary),
-        ([3, 3], Boundary),
-    ];
-    let alloc = rt.alloc();
-    ask_each(&rt, alloc, &[&CROSSED], FillRule::EvenOdd, &both)?;
-    ask_each(&rt, alloc, &[&CROSSED], FillRule::NonZero, &both)?;
-    ask_each(&rt, alloc, &[&CROSSED], FillRule::Positive, &left)?;
-    ask_each(&rt, alloc, &[&CROSSED], FillRule::Negative, &right)
+    ask_each(&rt, rt.alloc(), &[&CROSSED], &by_rule)
 }
 
 const LARGE: [[i16; 2]; 4] = [[0, 0], [4, 0], [4, 4], [0, 4]];
@@ -146,42 +157,34 @@ const BESIDE: [[i16; 2]; 4] = [[2, 1], [6, 1], [6, 3], [2, 3]];
 // Two contours overlap: of their edges in the overlap both sides are filled by NonZero, and one by EvenOdd.
 #[test]
 fn edges_with_both_sides_filled(rt: HostRuntime) -> Result<(), Fail> {
-    let filled = [
-        ([2, 2], Inside),
-        ([2, 1], Inside),
-        ([3, 1], Inside),
-        ([4, 2], Inside),
-        ([3, 2], Inside),
-        ([4, 1], Boundary),
-        ([4, 3], Boundary),
-        ([5, 1], Boundary),
-        ([2, 0], Boundary),
-        ([5, 2], Inside),
-        ([5, 4], Outside),
-    ];
-    let by_turns = [
-        ([2, 2], Boundary),
-        ([2, 1], Boundary),
-        ([3, 1], Boundary),
-        ([4, 2], Boundary),
-        ([3, 2], Outside),
-        ([4, 1], Boundary),
-        ([1, 2], Inside),
-        ([5, 2], Inside),
-    ];
-    let alloc = rt.alloc();
-    ask_each(&rt, alloc, &[&LARGE, &BESIDE], FillRule::NonZero, &filled)?;
-    ask_each(&rt, alloc, &[&LARGE, &BESIDE], FillRule::EvenOdd, &by_turns)
+    let filled = Lying {
+        inside: &[[2, 2], [2, 1], [3, 1], [4, 2], [3, 2], [5, 2]],
+        boundary: &[[4, 1], [4, 3], [5, 1], [2, 0]],
+        outside: &[[5, 4]],
+    };
+    let by_turns = Lying {
+        inside: &[[1, 2], [5, 2]],
+        boundary: &[[2, 2], [2, 1], [3, 1], [4, 2], [4, 1]],
+        outside: &[[3, 2]],
+    };
+    let by_rule = [(FillRule::NonZero, filled), (FillRule::EvenOdd, by_turns)];
+    ask_each(&rt, rt.alloc(), &[&LARGE, &BESIDE], &by_rule)
 }
 
 // Of no edge is a side filled, or there is no edge.
 #[test]
 fn nothing_filled(rt: HostRuntime) -> Result<(), Fail> {
-    let rows = [([0, 0], Outside), ([2, 2], Outside), ([2, 0], Outside)];
+    let all_outside = Lying {
+        inside: &[],
+        boundary: &[],
+        outside: &[[0, 0], [2, 2], [2, 0]],
+    };
     let alloc = rt.alloc();
-    ask_each(&rt, alloc, &[&LARGE], FillRule::Negative, &rows)?;
-    ask_each(&rt, alloc, &[], FillRule::NonZero, &rows)?;
-    ask_each(&rt, alloc, &[&[[0, 0], [4, 0]]], FillRule::NonZero, &rows)
+    let negative = [(FillRule::Negative, all_outside)];
+    let non_zero = [(FillRule::NonZero, all_outside)];
+    ask_each(&rt, alloc, &[&LARGE], &negative)?;
+    ask_each(&rt, alloc, &[], &non_zero)?;
+    ask_each(&rt, alloc, &[&[[0, 0], [4, 0]]], &non_zero)
 }
 
 // A triangle over half the range, whose long edge passes through (0, 0), by the greatest coordinate.
