@@ -1,17 +1,13 @@
-//! Free functions of crates below `i_overlay`: of contours and points, and of builders.
+//! Free functions of `i_overlay` and of crates below it: of contours and points, and of builders.
 
 use crate::figures::{PATHS, Width, lone_squares, point, square, square_at, squares};
 use crate::refusals::{Answer, Memory, Trial};
 use i_overlay::fill_rule::FillRule;
 use i_overlay::i_float::int::point::IntPoint;
-use i_overlay::i_shape::int::path::PathRef;
-use i_overlay::i_shape::int::shape::IntContour;
 use i_overlay::overlay::{ContourDirection, ShapeType};
 use i_overlay::point_location::PointLocation;
 use i_overlay::segm::boolean::ShapeCountBoolean;
-use i_overlay::simplifying::arranged_alone::arrange_alone;
 use i_overlay::simplifying::outcome::Outcome;
-use i_overlay::simplifying::points_once::has_each_point_once;
 use i_overlay::simplifying::shapes::shapes_left;
 use i_overlay::simplifying::simple::outcome_of_contour;
 use i_overlay::solver::Solver;
@@ -37,8 +33,6 @@ use std::test::Fail;
 const RULE: FillRule = FillRule::EvenOdd;
 
 type Counted<'m, I> = Content<I, ShapeCountBoolean, Memory<'m>>;
-
-type Core<'m, I> = BuilderCore<I, CountWithData<()>, Memory<'m>>;
 
 // The steps of the first squares, and room for two more.
 fn content<I: Width>(memory: Memory<'_>) -> Answer<Counted<'_, I>> {
@@ -173,28 +167,8 @@ fn functions_of_points(rt: HostRuntime) -> Result<(), Fail> {
     at_a_width!(rt, check_points)
 }
 
-// Refuses the growths of a function that arranges contours alone: the builder has failed.
-fn arranges<'m, I: Width, T: PartialEq + Drop, C: Fn(&mut Core<'m, I>) -> Answer<T> + Drop>(
-    trial: &Trial<'m, impl Abort>,
-    name: &str,
-    call: C,
-) -> Result<T, Fail> {
-    let memory = trial.memory;
-    trial.refuse_each(
-        name,
-        || BuilderCore::with_capacity(memory, 0),
-        call,
-        |it| Ok(it.check_usable() == Err(OverlayError::Failed)),
-    )
-}
-
 fn check_simplifying<I: Width>(trial: &Trial<'_, impl Abort>) -> Result<(), Fail> {
-    let memory = trial.memory;
-    let (contour, shape) = (square::<I>(0, 2), squares::<I>(memory, PATHS)?);
-    let is_once = trial.refuse_call("i_overlay::has_each_point_once", || {
-        has_each_point_once(memory, &contour)
-    })?;
-    assert!(trial.rt; is_once);
+    let (memory, contour) = (trial.memory, square::<I>(0, 2));
     for outcome in [Outcome::AsGiven, Outcome::Reversed] {
         let shapes = trial.refuse_call("i_overlay::shapes_left", || {
             shapes_left(memory, &contour, outcome)
@@ -202,19 +176,18 @@ fn check_simplifying<I: Width>(trial: &Trial<'_, impl Abort>) -> Result<(), Fail
         assert!(trial.rt; shapes.len() == 1);
     }
     for solver in [Solver::ABSOLUTE, Solver::SNAPPED] {
-        arranges::<I, _, _>(trial, "i_overlay::arrange_alone", |it| {
-            arrange_alone(it, solver, &shape, false)
-        })?;
-        let outcome = arranges::<I, _, _>(trial, "i_overlay::outcome_of_contour", |it| {
-            let direction = ContourDirection::CounterClockwise;
-            outcome_of_contour(it, solver, &contour, false, RULE, direction)
-        })?;
+        let outcome = trial.refuse_each(
+            "i_overlay::outcome_of_contour",
+            || BuilderCore::<I, CountWithData<()>, Memory<'_>>::with_capacity(memory, 0),
+            |it| {
+                let direction = ContourDirection::CounterClockwise;
+                outcome_of_contour(it, solver, &contour, false, RULE, direction)
+            },
+            |it| Ok(it.check_usable() == Err(OverlayError::Failed)),
+        )?;
         assert!(trial.rt; outcome == Outcome::AsGiven);
     }
-    let one: IntContour<I, Memory<'_>> = Vec::from_array(memory, contour)?;
-    arranges::<I, _, _>(trial, "i_overlay::arrange_alone", |it| {
-        arrange_alone(it, Solver::ABSOLUTE, &PathRef::new(&one), true)
-    })
+    Ok(())
 }
 
 #[test]

@@ -2,7 +2,7 @@
 use Rattle.std.proofs.Common.{◌≡◌, Bool, true, false, cond, ℤ, ◌≤ℤ◌, int_lt, List, [], ◌∷◌, ◌++◌, map, All, refl, sym}
 use Rattle.std.proofs.Common.{subst₂, ap₂}
 use Rattle.std.proofs.lemmas.List.{map-append}
-use Rattle.std.proofs.lemmas.List.Elements.{All-nil, All-push, All-weaker, All-contains, Contains-push}
+use Rattle.std.proofs.lemmas.List.Elements.{All-push, All-weaker, All-contains, Contains-push}
 use Rattle.std.proofs.lemmas.List.Elements.{Contains-append_left}
 use Rattle.overlay_geom.specs.Plane.{Point}
 use Rattle.overlay_geom.proofs.Signs.{linear}
@@ -53,15 +53,6 @@ span_of_more zs s z of = by (int_lt z s.least) (int_lt s.greatest z) refl refl
           has_greatest = Contains-append_left zs (z ∷ []) s.greatest of.has_greatest;
         }
 
--- one number is its own span
-pub span_of_one : (z : ℤ) → IsSpanOf (z ∷ []) (record { least = z; greatest = z })
-span_of_one z = record {
-  all = let s : Span = record { least = z; greatest = z } in
-      All-push (IsIn s) [] z (All-nil (IsIn s)) (record { low = omega linear; high = omega linear });
-  has_least = Contains-push [] z;
-  has_greatest = Contains-push [] z;
-}
-
 -- the box of points, and of one more
 pub box_of_more : (ps : List Point) (b c : Bounds) (p : Point) → IsBoxOf ps b → c.x ≡ includes b.x p.x →
     c.y ≡ includes b.y p.y → IsBoxOf (ps ++ p ∷ []) c
@@ -71,11 +62,6 @@ box_of_more ps b c p box is_x is_y = record {
   y = subst₂ IsSpanOf (sym (map-append (λ (q : Point). q.y) ps (p ∷ []))) (sym is_y)
       (span_of_more (map (λ (q : Point). q.y) ps) b.y p.y box.y);
 }
-
--- the box of one point
-pub box_of_one : (p : Point) → IsBoxOf (p ∷ [])
-    (record { x = record { least = p.x; greatest = p.x }; y = record { least = p.y; greatest = p.y } })
-box_of_one p = record { x = span_of_one p.x; y = span_of_one p.y }
 
 -- numbers have one span
 pub one_span : (zs : List ℤ) (s t : Span) → IsSpanOf zs s → IsSpanOf zs t → s ≡ t

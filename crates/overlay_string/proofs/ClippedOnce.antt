@@ -6,10 +6,10 @@ use Rattle.std.proofs.lemmas.List.Elements.{All-contains, Contains-append_cases}
 use Rattle.std.proofs.lemmas.List.Sorted.{IsPermutation-trans, IsPermutation-append_left, IsPermutation-append_right}
 use Rattle.overlay_geom.specs.Edges.{CountedEdge, ends_of, goes_along, goes_against}
 use Rattle.overlay_geom.specs.Plane.{Step, point_lt}
-use Rattle.overlay_geom.proofs.Entries.{Contains-cases}
 use Rattle.overlay_geom.proofs.Orders.{point_lt-itself}
 use Rattle.overlay_plane.specs.EdgeLists.{IsForwardBy}
 use Rattle.overlay_plane.proofs.Entries.{Contains-from_flat_map}
+use Rattle.overlay_plane.proofs.MarkedLinks.{only_entry}
 use Rattle.overlay_arrange.specs.declared.fill_rule.FillRule.{FillRule}
 use Rattle.overlay_string.specs.ClipPieces.{is_kept, string_steps, clip_pieces}
 use Rattle.overlay_string.specs.Laws.{PathsTakeEachPieceOnce, EachPieceIsClippedOnce, steps_of_paths, inside_alone}
@@ -23,25 +23,18 @@ kept_in : {X : Type 0} (b : Bool) (xs : List X) (x : X) → Contains (cond b xs 
 kept_in true xs x c = c
 kept_in false xs x c = elim c.1 [ ]
 
--- the one entry of a list
-alone_in : {X : Type 0} (y x : X) → Contains (y ∷ []) x → y ≡ x
-alone_in y x c = elim (Contains-cases y [] x c) [
-  | inl same ↦ same
-  | inr later ↦ elim later.1 [ ]
-]
-
 -- a piece along an edge that leads forward is a step between two points
 piece_is_long : (e : CountedEdge) → point_lt e.a e.b ≡ true → (s : Step) → Contains (string_steps e) s →
     ¬ (s.from ≡ s.to)
 piece_is_long e forward s c =
     elim (Contains-append_cases (cond (goes_along e) (along ∷ []) []) (cond (goes_against e) (against ∷ []) []) s c) [
       | inl here ↦ λ same. apart (ap (λ (t : Step). t.from)
-          (alone_in along s (kept_in (goes_along e) (along ∷ []) s here))
-          ∙ same ∙ sym (ap (λ (t : Step). t.to) (alone_in along s (kept_in (goes_along e) (along ∷ []) s here))))
+          (only_entry along s (kept_in (goes_along e) (along ∷ []) s here))
+          ∙ same ∙ sym (ap (λ (t : Step). t.to) (only_entry along s (kept_in (goes_along e) (along ∷ []) s here))))
       | inr there ↦ λ same. apart (ap (λ (t : Step). t.to)
-          (alone_in against s (kept_in (goes_against e) (against ∷ []) s there))
+          (only_entry against s (kept_in (goes_against e) (against ∷ []) s there))
           ∙ sym same
-          ∙ sym (ap (λ (t : Step). t.from) (alone_in against s (kept_in (goes_against e) (against ∷ []) s there))))
+          ∙ sym (ap (λ (t : Step). t.from) (only_entry against s (kept_in (goes_against e) (against ∷ []) s there))))
     ]
   where
     along : Step

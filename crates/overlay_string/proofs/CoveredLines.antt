@@ -121,17 +121,10 @@ on_along of_levels c e p from to level over =
     at_line : p.y -ℤ e.a.y *ℤ p.d ≡ pos 0
     at_line = let same : e.a.y *ℤ p.d ≡ p.y = ap (λ y. y *ℤ p.d) from ∙ sym level in omega linear
 
--- a whole point in the plane lies as far across and along
+-- a whole point in the plane lies as far across
 at_across : (axis : Axis) (v : Point) (p : PlanePoint) → IsAt v p → plane_across axis p ≡ across axis v *ℤ p.d
 at_across of_uprights v p at = at.0
 at_across of_levels v p at = at.1
-
-pub at_along : (axis : Axis) (v : Point) (p : PlanePoint) → IsAt v p → plane_along axis p ≡ along axis v *ℤ p.d
-at_along of_uprights v p at =
-    let up = at.1 in
-    let down = solve 2 (λ y d. (⊝ y) ⊗ d ≗ ⊝ (y ⊗ d)) tt v.y p.d in
-    omega linear
-at_along of_levels v p at = at.0
 
 module _ (axis : Axis) (c : ℤ) (es : List CountedEdge) (settled : IsSettled es) (low high : ℤ)
     (covered : IsCovered axis c es low high) where

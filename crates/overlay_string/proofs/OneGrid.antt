@@ -1,5 +1,5 @@
 -- The multiples of a step in a span are one ascending list, and points have one box; tiles are slices along its lines.
-use Rattle.std.proofs.Common.{◌≡◌, inl, inr, ℤ, ◌<ℤ◌, List, [], ◌++◌, map, sym, ap₂, subst, ◌∙◌}
+use Rattle.std.proofs.Common.{◌≡◌, inl, inr, ℤ, ◌<ℤ◌, List, ◌++◌, map, sym, ap₂, subst, ◌∙◌}
 use Rattle.std.specs.List.{Contains}
 use Rattle.std.proofs.lemmas.List.Elements.{All-weaker}
 use Rattle.overlay_geom.specs.Plane.{Point}
@@ -12,6 +12,7 @@ use Rattle.overlay_string.specs.Grids.{IsGridPlace, AreGridPlaces, AreLinesAcros
 use Rattle.overlay_string.specs.OneGrid.{OneGrid, OneTiling}
 use Rattle.overlay_string.specs.Spans.{Span, Bounds, IsBoxOf}
 use Rattle.overlay_string.proofs.Boxes.{one_span}
+use Rattle.overlay_string.proofs.LinesAcross.{no_box}
 
 -- ---- places
 
@@ -38,10 +39,6 @@ one_box : (ps : List Point) (b c : Bounds) → IsBoxOf ps b → IsBoxOf ps c →
 one_box ps b c of of' = ap₂ {C = Bounds} (λ x y. record { x = x; y = y })
     (one_span (map (λ (p : Point). p.x) ps) b.x c.x of.x of'.x)
     (one_span (map (λ (p : Point). p.y) ps) b.y c.y of.y of'.y)
-
--- and no points none
-no_box : (b : Bounds) → ¬ (IsBoxOf [] b)
-no_box b of = elim of.x.has_least.1 [ ]
 
 pub one_grid : OneGrid
 one_grid wide high ps lines others (inl (none, no_line)) (inl (none', no_line')) = no_line ∙ sym no_line'

@@ -21,9 +21,9 @@ use Rattle.overlay_plane.proofs.Entries.{all_of_entries, Contains-map, Contains-
 use Rattle.overlay_plane.proofs.LaterEntries.{Contains-cases}
 use Rattle.overlay_plane.proofs.OrbitsApart.{is_step_of_decides}
 use Rattle.overlay_plane.specs.Orbits.{is_step_of}
+use Rattle.overlay_arrange.proofs.RuledContents.{zero_is_empty}
 use Rattle.overlay_arrange.specs.Rules.{is_filled}
 use Rattle.overlay_arrange.specs.declared.fill_rule.FillRule.{FillRule}
-use Rattle.overlay_arrange.specs.declared.fill_rule.FillRule.TheVariants.{EvenOdd, NonZero, Positive, Negative}
 use Rattle.overlay_arrange.specs.declared.options.ContourDirection.TheVariants.{CounterClockwise}
 use Rattle.overlay_slice.specs.Bound.{PassesAnchor}
 use Rattle.overlay_slice.specs.FilledSides.{AreFilledSides, IsInOneOrbit}
@@ -50,13 +50,6 @@ use Rattle.overlay_string.proofs.OneSideOfLines.{IsFirstMet, ShareOrbit, on_one_
 use Rattle.overlay_string.proofs.PointsOnSteps.{of_points}
 use Rattle.overlay_string.proofs.StaysBeyond.{IsFilled, of_both}
 
--- no rule fills where nothing winds
-none_filled : (fill : FillRule) → is_filled fill (pos 0) ≡ false
-none_filled EvenOdd = refl
-none_filled NonZero = refl
-none_filled Positive = refl
-none_filled Negative = refl
-
 -- a contour of a shape has a step
 has_step : (shape : List (List Point)) → IsOutlineWithHoles CounterClockwise shape → (ps : List Point) →
     Contains shape ps → (s : Step) × Contains (steps_of ps) s
@@ -81,7 +74,7 @@ module _ (solver : Solver) (width : Width) (fill : FillRule) (wide high : ℤ) (
   sides_are : AreFilledSides (is_filled fill) subj_of es left sides
   sides_are = filled_sides_of_edges (is_filled fill) subj_of es sliced.balanced
 
-  filled : (s : Step) → Contains sides s → IsFilled (is_filled fill) (none_filled fill) subj_of es sliced.balanced s
+  filled : (s : Step) → Contains sides s → IsFilled (is_filled fill) (zero_is_empty fill) subj_of es sliced.balanced s
   filled s c = let is = sides_are.sides s c in record { edge = is.edge; along_it = is.along; filled = is.filled }
 
   first_met : (s t : Step) → Contains sides s → IsNextStep sides left s t → IsFirstMet es s t
@@ -134,7 +127,7 @@ module _ (solver : Solver) (width : Width) (fill : FillRule) (wide high : ℤ) (
 
       -- where the box has no height, or no width, there is no orbit
       no_orbit_level : b.y.greatest ≤ℤ b.y.least → (walk : List Step) → ¬ (IsOrbit sides left walk)
-      no_orbit_level flat walk orbit = no_orbit_on_line (is_filled fill) (none_filled fill) subj_of es sliced.balanced
+      no_orbit_level flat walk orbit = no_orbit_on_line (is_filled fill) (zero_is_empty fill) subj_of es sliced.balanced
           b.y.least (inl (λ e at. let low = All-contains (IsEdgeInHalf (above b.y.least)) es e in_box.low_y at in
           let high = All-contains (IsEdgeInHalf (below b.y.greatest)) es e in_box.high_y at in
           let a = low.0 in
@@ -144,7 +137,8 @@ module _ (solver : Solver) (width : Width) (fill : FillRule) (wide high : ℤ) (
           (omega linear, omega linear))) sides walk orbit filled
 
       no_orbit_upright : b.x.greatest ≤ℤ b.x.least → (walk : List Step) → ¬ (IsOrbit sides left walk)
-      no_orbit_upright flat walk orbit = no_orbit_on_line (is_filled fill) (none_filled fill) subj_of es sliced.balanced
+      no_orbit_upright flat walk orbit = no_orbit_on_line (is_filled fill) (zero_is_empty fill)
+          subj_of es sliced.balanced
           b.x.least (inr (λ e at. let low = All-contains (IsEdgeInHalf (right_of b.x.least)) es e in_box.low_x at in
           let high = All-contains (IsEdgeInHalf (left_of b.x.greatest)) es e in_box.high_x at in
           let a = low.0 in
@@ -160,7 +154,7 @@ module _ (solver : Solver) (width : Width) (fill : FillRule) (wide high : ℤ) (
           let low = All-contains (IsEdgeInHalf (right_of b.x.least)) es f.edge in_box.low_x f.along_it.entry in
           let high = All-contains (IsEdgeInHalf (left_of b.x.greatest)) es f.edge in_box.high_x f.along_it.entry in
           ⊎_elim (λ both. both) (λ both. both)
-          (of_both (is_filled fill) (none_filled fill) subj_of es sliced.balanced s f
+          (of_both (is_filled fill) (zero_is_empty fill) subj_of es sliced.balanced s f
           (λ p. IsIn b.x p.x) (λ p. IsIn b.x p.x)
           (inl (record { low = low.0; high = high.0 }, record { low = low.1; high = high.1 })))
 
@@ -170,7 +164,7 @@ module _ (solver : Solver) (width : Width) (fill : FillRule) (wide high : ℤ) (
           let low = All-contains (IsEdgeInHalf (above b.y.least)) es f.edge in_box.low_y f.along_it.entry in
           let high = All-contains (IsEdgeInHalf (below b.y.greatest)) es f.edge in_box.high_y f.along_it.entry in
           ⊎_elim (λ both. both) (λ both. both)
-          (of_both (is_filled fill) (none_filled fill) subj_of es sliced.balanced s f
+          (of_both (is_filled fill) (zero_is_empty fill) subj_of es sliced.balanced s f
           (λ p. IsIn b.y p.y) (λ p. IsIn b.y p.y)
           (inl (record { low = low.0; high = high.0 }, record { low = low.1; high = high.1 })))
 
@@ -213,7 +207,7 @@ module _ (solver : Solver) (width : Width) (fill : FillRule) (wide high : ℤ) (
         beside_upright ps tile c at = by_lt_z b.y.least b.y.greatest
             (λ some. ⊎_elim (λ beyond. inl (of_points (λ q. c ≤ℤ q.x) ps tile.step tile.among beyond))
             (λ before. inr (of_points (λ q. q.x ≤ℤ c) ps tile.step tile.among before))
-            (on_one_side (is_filled fill) (none_filled fill) subj_of es sliced.balanced sides filled first_met
+            (on_one_side (is_filled fill) (zero_is_empty fill) subj_of es sliced.balanced sides filled first_met
             of_uprights
             c (neg_ℤ b.y.greatest) (neg_ℤ b.y.least) (covered_upright c at some) (steps_of ps) tile.are_sides
             tile.share))
@@ -225,7 +219,8 @@ module _ (solver : Solver) (width : Width) (fill : FillRule) (wide high : ℤ) (
         beside_level ps tile c at = by_lt_z b.x.least b.x.greatest
             (λ some. ⊎_elim (λ beyond. inl (of_points (λ q. c ≤ℤ q.y) ps tile.step tile.among beyond))
             (λ before. inr (of_points (λ q. q.y ≤ℤ c) ps tile.step tile.among before))
-            (on_one_side (is_filled fill) (none_filled fill) subj_of es sliced.balanced sides filled first_met of_levels
+            (on_one_side (is_filled fill) (zero_is_empty fill) subj_of es sliced.balanced sides
+            filled first_met of_levels
             c b.x.least b.x.greatest (covered_level c at some) (steps_of ps) tile.are_sides tile.share))
             (λ flat. let shared = tile.share tile.step tile.step tile.among tile.among in
             absurd (no_orbit_upright flat shared.walk shared.orbit))
@@ -246,13 +241,13 @@ module _ (solver : Solver) (width : Width) (fill : FillRule) (wide high : ℤ) (
         not_both_ways : (s : Step) → Contains sides s → RunsAlongGrid wide high b s →
             ¬ (IsInOneOrbit sides s (reversed_step s))
         not_both_ways s c (inl (at, to)) is = by_lt_z b.y.least b.y.greatest
-            (λ some. parted (is_filled fill) (none_filled fill) subj_of es sliced.balanced sides filled first_met
+            (λ some. parted (is_filled fill) (zero_is_empty fill) subj_of es sliced.balanced sides filled first_met
             of_uprights
             s.from.x (neg_ℤ b.y.greatest) (neg_ℤ b.y.least) (covered_upright s.from.x at some) s c refl to
             (record { walk = is.walk; orbit = is.orbit; has_one = is.has_one; has_other = is.has_other }))
             (λ flat. no_orbit_level flat is.walk is.orbit)
         not_both_ways s c (inr (at, to)) is = by_lt_z b.x.least b.x.greatest
-            (λ some. parted (is_filled fill) (none_filled fill) subj_of es sliced.balanced sides filled first_met
+            (λ some. parted (is_filled fill) (zero_is_empty fill) subj_of es sliced.balanced sides filled first_met
             of_levels
             s.from.y b.x.least b.x.greatest (covered_level s.from.y at some) s c refl to
             (record { walk = is.walk; orbit = is.orbit; has_one = is.has_one; has_other = is.has_other }))
