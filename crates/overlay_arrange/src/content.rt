@@ -1,7 +1,7 @@
 //! The counted edges that a builder holds, and their weight.
 
-ghost use Rattle.std.specs.Prelude.{◌≡◌, ◌^◌, ◌<◌, ◌≤◌, ◌⊎◌, [], ◌∷◌, ◌++◌, map, length, take};
-ghost use Rattle.std.specs.Prelude.{IfOk, IfErr, OnOk, OnErr, IsOkUnless, IsErrOf};
+ghost use Rattle.std.specs.Prelude.{◌≡◌, ◌↔◌, ◌+◌, ◌^◌, ◌<◌, ◌≤◌, ◌⊎◌, [], ◌∷◌, ◌++◌, map, length, take};
+ghost use Rattle.std.specs.Prelude.{IfOk, IfErr, OnOk, OnErr, IsOkUnless, IsErrOf, IsTrue};
 ghost use Rattle.overlay_geom.specs.Edges.{weight};
 ghost use Rattle.overlay_geom.specs.Merged.{IsMerged};
 ghost use Rattle.overlay_geom.specs.Settled.{IsSettled};
@@ -99,7 +99,7 @@ impl<I: IntNumber, C: EdgeCount, A: Allocator> Content<I, C, A> {
         ensures only { IfErr result (λ e. (e ≡ OverlayError.Memory) ⊎ (e ≡ OverlayError.TooManyEdges)) }
     {
         let added = edge.count.weight();
-        if added >= WEIGHT_LIMIT - self.weight {
+        if reaches_limit(self.weight, added) {
             return Err(OverlayError::TooManyEdges);
         }
         self.edges.push(edge)?;
@@ -126,7 +126,7 @@ impl<I: IntNumber, C: EdgeCount, A: Allocator> Content<I, C, A> {
         ensures only { IfErr result (λ e. (e ≡ OverlayError.Memory) ⊎ (e ≡ OverlayError.TooManyEdges)) }
     {
         let added = edge.count.weight();
-        if WEIGHT_LIMIT - self.weight <= added {
+        if reaches_limit(self.weight, added) {
             return Err(OverlayError::TooManyEdges);
         }
         self.edges.reserve(1)?;
@@ -197,4 +197,12 @@ impl<I: IntNumber, C: EdgeCount, A: Allocator> Content<I, C, A> {
     {
         Graph::of_balanced(self.edges.allocator().clone()?, &self.edges, fill_rule)
     }
+}
+
+// Returns whether a content of this weight reaches the limit with the weight of an added edge.
+fn reaches_limit(weight: u32, added: u32) -> bool
+    requires { weight < 2 ^ 31 }
+    ensures { IsTrue result ↔ 2 ^ 31 ≤ weight + added }
+{
+    added >= WEIGHT_LIMIT - weight
 }

@@ -59,7 +59,13 @@ fn is_balanced_at<I: IntNumber, C: EdgeCount>(
     ensures { IsTrue result
         ↔ IsBalancedAt (plain_edges I.whole C.counts edges.now) (plain_point I.whole point) }
 {
-    let sums = sums_at(edges, point);
+    are_zero(sums_at(edges, point))
+}
+
+/// Returns whether both sums are 0.
+fn are_zero(sums: Sums) -> bool
+    ensures { IsTrue result ↔ (sums.subj ≡ pos 0) × (sums.clip ≡ pos 0) }
+{
     sums.subj == 0 && sums.clip == 0
 }
 

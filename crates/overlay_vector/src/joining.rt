@@ -109,7 +109,17 @@ fn are_joinable<I: IntNumber, D: OverlayEdgeData>(
     compare_points(w.a, v.b).is_eq()
         && cross_at(v.a, v.b, w.b).sign().is_eq()
         && w.fill == v.fill
-        && v.edge_data == w.edge_data
+        && have_equal_data(v, w)
+}
+
+// Whether both edges have equal data.
+fn have_equal_data<I: IntNumber, D: OverlayEdgeData>(
+    v: DataVectorEdge<I, D>,
+    w: DataVectorEdge<I, D>,
+) -> bool
+    ensures { result ≡ D.eq v.edge_data w.edge_data }
+{
+    v.edge_data == w.edge_data
 }
 
 // One edge for both, with the data of the first.
