@@ -1,5 +1,7 @@
 pub mod Clipped
 pub mod ComeBack
+pub mod EachFault
+pub mod EarlyFaults
 pub mod Endings
 pub mod Hierarchies
 pub mod Listed
