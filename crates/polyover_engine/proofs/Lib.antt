@@ -3,6 +3,7 @@ pub mod Clips
 pub mod Endings
 pub mod Located
 pub mod OneExit
+pub mod OneInsides
 pub mod OneShown
 pub mod OneText
 pub mod OneUnresolved

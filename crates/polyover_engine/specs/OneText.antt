@@ -1,15 +1,18 @@
 -- The text of an answer is determined by the arrangement that it is of: where points on one line stay, and else up to
 -- which of them is dropped first. Rounds that round each point of the plane alike lead to one arrangement.
-use Rattle.std.specs.Prelude.{◌≡◌, ℕ, true, List}
+use Rattle.std.specs.Prelude.{◌≡◌, ℕ, true, List, [], ◌∷◌, All}
 use Rattle.overlay_arrange.specs.declared.fill_rule.FillRule.{FillRule}
 use Rattle.overlay_extract.specs.Determined.{ShowOneList}
+use Rattle.overlay_geom.specs.Plane.{IsOff, in_plane}
+use Rattle.overlay_relate.specs.Locations.{shapes_edges}
 use Rattle.polyover_engine.specs.Answers.{Answers}
+use Rattle.polyover_engine.specs.Subjects.{subject_of}
 use Rattle.polyover_text.specs.Grammar.{GivenFigures}
 use Rattle.polyover_text.specs.declared.query.ClipQuery.{ClipQuery}
 use Rattle.polyover_text.specs.declared.query.OverlayQuery.{OverlayQuery}
 use Rattle.polyover_text.specs.declared.query.TilesQuery.{TilesQuery}
 use Rattle.polyover_text.specs.declared.query.Query.TheVariants.{Edges, Overlay, Hierarchy, Relate, ClipLines}
-use Rattle.polyover_text.specs.declared.query.Query.TheVariants.{Slice, Tiles}
+use Rattle.polyover_text.specs.declared.query.Query.TheVariants.{Slice, Tiles, Contains}
 
 -- ---- overlays
 
@@ -65,3 +68,11 @@ abbrev pub OneTextOfTiles : Type 0
 OneTextOfTiles = (fs : GivenFigures) (query : TilesQuery) (first second : List ℕ) (a : Answers fs (Tiles query) first)
     (b : Answers fs (Tiles query) second) →
     a.2.sliced.sliced.arrangement ≡ b.2.sliced.sliced.arrangement → first ≡ second
+
+-- ---- points
+
+-- one text tells which points are inside the subject, where each is on none of its edges
+abbrev pub OneTextOfInsides : Type 0
+OneTextOfInsides = (fs : GivenFigures) (first second : List ℕ) →
+    All (λ p. IsOff (shapes_edges (subject_of fs.contours ∷ [])) (in_plane p)) fs.points →
+    Answers fs Contains first → Answers fs Contains second → first ≡ second

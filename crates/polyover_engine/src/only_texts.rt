@@ -3,7 +3,7 @@
 ghost use Rattle.polyover_engine.specs.OneText.{ShapesShowOneList, OneTextOfOverlay};
 ghost use Rattle.polyover_engine.specs.OneText.{HierarchiesShowOneList, OneTextOfHierarchy};
 ghost use Rattle.polyover_engine.specs.OneText.{OneTextOfEdges, OneTextOfRelations, OneTextOfClip};
-ghost use Rattle.polyover_engine.specs.OneText.{OneTextOfSlices, OneTextOfTiles};
+ghost use Rattle.polyover_engine.specs.OneText.{OneTextOfSlices, OneTextOfTiles, OneTextOfInsides};
 
 /// Two answers of an overlay of one arrangement show one list of shapes. They have one text where points on one line
 /// stay.
@@ -30,4 +30,9 @@ pub fn one_text_of_lines()
     ensures clip { OneTextOfClip }
     ensures slices { OneTextOfSlices }
     ensures tiles { OneTextOfTiles }
+{}
+
+/// One text tells which points are inside the subject, where none is on its edges.
+pub fn one_text_of_insides()
+    ensures { OneTextOfInsides }
 {}
