@@ -2,6 +2,8 @@ pub mod AskedPoints
 pub mod Asking
 pub mod Clipped
 pub mod ComeBack
+pub mod EachFault
+pub mod EarlyFaults
 pub mod Endings
 pub mod Hierarchies
 pub mod Listed

@@ -1,24 +1,26 @@
 -- What is wrong with the arguments of an overlay is told by one status: a number that stands for nothing, and then the
 -- first fault of the arrays.
-use Rattle.std.proofs.Common.{◌≡◌, inl, inr, ℕ, ℤ, refl, ap, arith}
+use Rattle.std.proofs.Common.{◌≡◌, inl, inr, ℕ, ℤ, refl, arith}
+use Rattle.i_overlay.specs.OneShot.{MayRefusePaths}
+use Rattle.overlay_geom.specs.declared.error.OverlayError.{OverlayError}
 use Rattle.polyover_c.specs.declared.fault.Fault.{Fault}
-use Rattle.polyover_c.specs.declared.fault.Fault.TheVariants as fault
-use Rattle.polyover_c.proofs.OneTest.{no_fault, one_fault}
-use Rattle.polyover_c.specs.Asked.{AreKnown, IsUnknown}
-use Rattle.polyover_c.specs.Determined.{OneFault, FaultyArgumentsHaveNoAnswer}
-use Rattle.polyover_c.specs.Given.{Contours, AreGiven, IsOneFaulty}
-use Rattle.polyover_c.specs.Statuses.{status_of_fault}
+use Rattle.polyover_c.specs.Asked.{solver_of, AreKnown, IsUnknown}
+use Rattle.polyover_c.specs.Determined.{TellsOfArguments, OneFault, FaultyArgumentsHaveNoAnswer}
+use Rattle.polyover_c.specs.Given.{Contours, paths_given, AreGiven, IsOneFaulty}
+use Rattle.polyover_c.specs.Overlays.{IsOverlayRefused}
 use Rattle.polyover_c.specs.declared.numbers.OptionNumbers.{OptionNumbers}
 use Rattle.polyover_c.specs.declared.status.Status.{Status}
 use Rattle.polyover_c.specs.declared.status.Status.TheVariants.{Done, Memory, BadEnds, OutOfRange}
 use Rattle.polyover_c.specs.declared.status.Status.TheVariants.{NotResolved, BadRule, BadFill, BadOption}
 use Rattle.polyover_c.specs.declared.status.Status.TheVariants.{NotSettled, TooManyEdges, TooSmall}
+use Rattle.polyover_c.proofs.EarlyFaults.{FaultsAreApart, one_refusal, no_answer_then}
+use Rattle.polyover_c.proofs.OneTest.{no_fault, one_fault}
 
 -- ---- numbers
 
 module _ {U : Type 0} (rule fill : ℕ) (options : OptionNumbers U) where
   -- the first number that stands for nothing is one
-  one_unknown : (s t : Status) → IsUnknown rule fill options s → IsUnknown rule fill options t → s ≡ t
+  pub one_unknown : (s t : Status) → IsUnknown rule fill options s → IsUnknown rule fill options t → s ≡ t
   one_unknown Done t a b = absurd a
   one_unknown Memory t a b = absurd a
   one_unknown BadEnds t a b = absurd a
@@ -62,7 +64,7 @@ module _ {U : Type 0} (rule fill : ℕ) (options : OptionNumbers U) where
   one_unknown TooSmall t a b = absurd a
 
   -- and then not all are known
-  not_known : (s : Status) → IsUnknown rule fill options s → ¬ (AreKnown rule fill options)
+  pub not_known : (s : Status) → IsUnknown rule fill options s → ¬ (AreKnown rule fill options)
   not_known Done a known = a
   not_known Memory a known = a
   not_known BadEnds a known = a
@@ -91,153 +93,51 @@ module _ {I : Type 0} (whole : I → ℤ) (limit : ℕ) (subject clip : Contours
   not_given f (inl a) first second = no_fault whole limit subject.coordinates subject.ends first f a
   not_given f (inr (given, a)) first second = no_fault whole limit clip.coordinates clip.ends second f a
 
+  abbrev pub AreBothGiven : Type 0
+  AreBothGiven = AreGiven whole limit subject × AreGiven whole limit clip
+
+  -- so the faults of a call on both are apart, where numbers are tested first
+  pub both_apart : (unknown : Status → Type 0) (known : Type 0) → ((s t : Status) → unknown s → unknown t → s ≡ t) →
+      ((s : Status) → unknown s → ¬ known) →
+      FaultsAreApart unknown known (IsOneFaulty whole limit subject clip) AreBothGiven
+  both_apart unknown known one not = record {
+    one_unknown = one;
+    not_known = not;
+    one_own = one_faulty;
+    not_given = λ f own given. not_given f own given.0 given.1;
+  }
+
 -- ---- the laws
 
+module _ {I U : Type 0} (whole : I → ℤ) (limit rule fill : ℕ) (options : OptionNumbers U)
+    (subject clip : Contours I) where
+  abbrev MayBoth : OverlayError → Type 0
+  MayBoth e = AreGiven whole limit subject × (AreGiven whole limit clip
+      × MayRefusePaths (solver_of options.solver) (paths_given whole subject clip) e)
+
+  apart : FaultsAreApart (IsUnknown rule fill options) (AreKnown rule fill options)
+      (IsOneFaulty whole limit subject clip) (AreBothGiven whole limit subject clip)
+  apart = both_apart whole limit subject clip (IsUnknown rule fill options) (AreKnown rule fill options)
+      (one_unknown rule fill options) (not_known rule fill options)
+
+  one_of_overlay : (s t : Status) → TellsOfArguments s → IsOverlayRefused whole limit rule fill options subject clip s →
+      IsOverlayRefused whole limit rule fill options subject clip t → s ≡ t
+  one_of_overlay = one_refusal (IsUnknown rule fill options) (AreKnown rule fill options)
+      (IsOneFaulty whole limit subject clip) (AreBothGiven whole limit subject clip) apart MayBoth
+      (λ e m. (m.0, m.1.0))
+
+  none_of_overlay : (s : Status) → TellsOfArguments s →
+      IsOverlayRefused whole limit rule fill options subject clip s → AreKnown rule fill options →
+      ¬ (AreBothGiven whole limit subject clip)
+  none_of_overlay = no_answer_then (IsUnknown rule fill options) (AreKnown rule fill options)
+      (IsOneFaulty whole limit subject clip) (AreBothGiven whole limit subject clip) apart MayBoth
+      (λ e m. (m.0, m.1.0))
+
 pub one_fault_of_overlays : {I U : Type 0} (whole : I → ℤ) (limit : ℕ) → OneFault U whole limit
-one_fault_of_overlays whole limit rule fill options subject clip Done t tells tells' a b =
-    absurd tells
-one_fault_of_overlays whole limit rule fill options subject clip Memory t tells tells' a b =
-    absurd tells
-one_fault_of_overlays whole limit rule fill options subject clip BadEnds Done tells tells' a b =
-    absurd tells'
-one_fault_of_overlays whole limit rule fill options subject clip BadEnds Memory tells tells' a b =
-    absurd tells'
-one_fault_of_overlays whole limit rule fill options subject clip BadEnds BadEnds tells tells' a b =
-    ap status_of_fault (one_faulty whole limit subject clip fault.Ends fault.Ends a.1 b.1)
-one_fault_of_overlays whole limit rule fill options subject clip BadEnds OutOfRange tells tells' a b =
-    ap status_of_fault (one_faulty whole limit subject clip fault.Ends fault.Range a.1 b.1)
-one_fault_of_overlays whole limit rule fill options subject clip BadEnds NotResolved tells tells' a b =
-    absurd tells'
-one_fault_of_overlays whole limit rule fill options subject clip BadEnds BadRule tells tells' a b =
-    absurd (not_known rule fill options BadRule b a.0)
-one_fault_of_overlays whole limit rule fill options subject clip BadEnds BadFill tells tells' a b =
-    absurd (not_known rule fill options BadFill b a.0)
-one_fault_of_overlays whole limit rule fill options subject clip BadEnds BadOption tells tells' a b =
-    absurd (not_known rule fill options BadOption b a.0)
-one_fault_of_overlays whole limit rule fill options subject clip BadEnds NotSettled tells tells' a b =
-    absurd tells'
-one_fault_of_overlays whole limit rule fill options subject clip BadEnds TooManyEdges tells tells' a b =
-    absurd tells'
-one_fault_of_overlays whole limit rule fill options subject clip BadEnds TooSmall tells tells' a b =
-    absurd tells'
-one_fault_of_overlays whole limit rule fill options subject clip OutOfRange Done tells tells' a b =
-    absurd tells'
-one_fault_of_overlays whole limit rule fill options subject clip OutOfRange Memory tells tells' a b =
-    absurd tells'
-one_fault_of_overlays whole limit rule fill options subject clip OutOfRange BadEnds tells tells' a b =
-    ap status_of_fault (one_faulty whole limit subject clip fault.Range fault.Ends a.1 b.1)
-one_fault_of_overlays whole limit rule fill options subject clip OutOfRange OutOfRange tells tells' a b =
-    ap status_of_fault (one_faulty whole limit subject clip fault.Range fault.Range a.1 b.1)
-one_fault_of_overlays whole limit rule fill options subject clip OutOfRange NotResolved tells tells' a b =
-    absurd tells'
-one_fault_of_overlays whole limit rule fill options subject clip OutOfRange BadRule tells tells' a b =
-    absurd (not_known rule fill options BadRule b a.0)
-one_fault_of_overlays whole limit rule fill options subject clip OutOfRange BadFill tells tells' a b =
-    absurd (not_known rule fill options BadFill b a.0)
-one_fault_of_overlays whole limit rule fill options subject clip OutOfRange BadOption tells tells' a b =
-    absurd (not_known rule fill options BadOption b a.0)
-one_fault_of_overlays whole limit rule fill options subject clip OutOfRange NotSettled tells tells' a b =
-    absurd tells'
-one_fault_of_overlays whole limit rule fill options subject clip OutOfRange TooManyEdges tells tells' a b =
-    absurd tells'
-one_fault_of_overlays whole limit rule fill options subject clip OutOfRange TooSmall tells tells' a b =
-    absurd tells'
-one_fault_of_overlays whole limit rule fill options subject clip NotResolved t tells tells' a b =
-    absurd tells
-one_fault_of_overlays whole limit rule fill options subject clip BadRule Done tells tells' a b =
-    absurd tells'
-one_fault_of_overlays whole limit rule fill options subject clip BadRule Memory tells tells' a b =
-    absurd tells'
-one_fault_of_overlays whole limit rule fill options subject clip BadRule BadEnds tells tells' a b =
-    absurd (not_known rule fill options BadRule a b.0)
-one_fault_of_overlays whole limit rule fill options subject clip BadRule OutOfRange tells tells' a b =
-    absurd (not_known rule fill options BadRule a b.0)
-one_fault_of_overlays whole limit rule fill options subject clip BadRule NotResolved tells tells' a b =
-    absurd tells'
-one_fault_of_overlays whole limit rule fill options subject clip BadRule BadRule tells tells' a b =
-    one_unknown rule fill options BadRule BadRule a b
-one_fault_of_overlays whole limit rule fill options subject clip BadRule BadFill tells tells' a b =
-    one_unknown rule fill options BadRule BadFill a b
-one_fault_of_overlays whole limit rule fill options subject clip BadRule BadOption tells tells' a b =
-    one_unknown rule fill options BadRule BadOption a b
-one_fault_of_overlays whole limit rule fill options subject clip BadRule NotSettled tells tells' a b =
-    absurd tells'
-one_fault_of_overlays whole limit rule fill options subject clip BadRule TooManyEdges tells tells' a b =
-    absurd tells'
-one_fault_of_overlays whole limit rule fill options subject clip BadRule TooSmall tells tells' a b =
-    absurd tells'
-one_fault_of_overlays whole limit rule fill options subject clip BadFill Done tells tells' a b =
-    absurd tells'
-one_fault_of_overlays whole limit rule fill options subject clip BadFill Memory tells tells' a b =
-    absurd tells'
-one_fault_of_overlays whole limit rule fill options subject clip BadFill BadEnds tells tells' a b =
-    absurd (not_known rule fill options BadFill a b.0)
-one_fault_of_overlays whole limit rule fill options subject clip BadFill OutOfRange tells tells' a b =
-    absurd (not_known rule fill options BadFill a b.0)
-one_fault_of_overlays whole limit rule fill options subject clip BadFill NotResolved tells tells' a b =
-    absurd tells'
-one_fault_of_overlays whole limit rule fill options subject clip BadFill BadRule tells tells' a b =
-    one_unknown rule fill options BadFill BadRule a b
-one_fault_of_overlays whole limit rule fill options subject clip BadFill BadFill tells tells' a b =
-    one_unknown rule fill options BadFill BadFill a b
-one_fault_of_overlays whole limit rule fill options subject clip BadFill BadOption tells tells' a b =
-    one_unknown rule fill options BadFill BadOption a b
-one_fault_of_overlays whole limit rule fill options subject clip BadFill NotSettled tells tells' a b =
-    absurd tells'
-one_fault_of_overlays whole limit rule fill options subject clip BadFill TooManyEdges tells tells' a b =
-    absurd tells'
-one_fault_of_overlays whole limit rule fill options subject clip BadFill TooSmall tells tells' a b =
-    absurd tells'
-one_fault_of_overlays whole limit rule fill options subject clip BadOption Done tells tells' a b =
-    absurd tells'
-one_fault_of_overlays whole limit rule fill options subject clip BadOption Memory tells tells' a b =
-    absurd tells'
-one_fault_of_overlays whole limit rule fill options subject clip BadOption BadEnds tells tells' a b =
-    absurd (not_known rule fill options BadOption a b.0)
-one_fault_of_overlays whole limit rule fill options subject clip BadOption OutOfRange tells tells' a b =
-    absurd (not_known rule fill options BadOption a b.0)
-one_fault_of_overlays whole limit rule fill options subject clip BadOption NotResolved tells tells' a b =
-    absurd tells'
-one_fault_of_overlays whole limit rule fill options subject clip BadOption BadRule tells tells' a b =
-    one_unknown rule fill options BadOption BadRule a b
-one_fault_of_overlays whole limit rule fill options subject clip BadOption BadFill tells tells' a b =
-    one_unknown rule fill options BadOption BadFill a b
-one_fault_of_overlays whole limit rule fill options subject clip BadOption BadOption tells tells' a b =
-    one_unknown rule fill options BadOption BadOption a b
-one_fault_of_overlays whole limit rule fill options subject clip BadOption NotSettled tells tells' a b =
-    absurd tells'
-one_fault_of_overlays whole limit rule fill options subject clip BadOption TooManyEdges tells tells' a b =
-    absurd tells'
-one_fault_of_overlays whole limit rule fill options subject clip BadOption TooSmall tells tells' a b =
-    absurd tells'
-one_fault_of_overlays whole limit rule fill options subject clip NotSettled t tells tells' a b =
-    absurd tells
-one_fault_of_overlays whole limit rule fill options subject clip TooManyEdges t tells tells' a b =
-    absurd tells
-one_fault_of_overlays whole limit rule fill options subject clip TooSmall t tells tells' a b =
-    absurd tells
+one_fault_of_overlays whole limit rule fill options subject clip s t tells tells' a b =
+    one_of_overlay whole limit rule fill options subject clip s t tells a b
 
 pub faulty_arguments_have_no_answer : {I U : Type 0} (whole : I → ℤ) (limit : ℕ) →
     FaultyArgumentsHaveNoAnswer U whole limit
-faulty_arguments_have_no_answer whole limit rule fill options subject clip Done tells a known first second =
-    absurd tells
-faulty_arguments_have_no_answer whole limit rule fill options subject clip Memory tells a known first second =
-    absurd tells
-faulty_arguments_have_no_answer whole limit rule fill options subject clip BadEnds tells a known first second =
-    not_given whole limit subject clip fault.Ends a.1 first second
-faulty_arguments_have_no_answer whole limit rule fill options subject clip OutOfRange tells a known first second =
-    not_given whole limit subject clip fault.Range a.1 first second
-faulty_arguments_have_no_answer whole limit rule fill options subject clip NotResolved tells a known first second =
-    absurd tells
-faulty_arguments_have_no_answer whole limit rule fill options subject clip BadRule tells a known first second =
-    not_known rule fill options BadRule a known
-faulty_arguments_have_no_answer whole limit rule fill options subject clip BadFill tells a known first second =
-    not_known rule fill options BadFill a known
-faulty_arguments_have_no_answer whole limit rule fill options subject clip BadOption tells a known first second =
-    not_known rule fill options BadOption a known
-faulty_arguments_have_no_answer whole limit rule fill options subject clip NotSettled tells a known first second =
-    absurd tells
-faulty_arguments_have_no_answer whole limit rule fill options subject clip TooManyEdges tells a known first second =
-    absurd tells
-faulty_arguments_have_no_answer whole limit rule fill options subject clip TooSmall tells a known first second =
-    absurd tells
+faulty_arguments_have_no_answer whole limit rule fill options subject clip s tells a known first second =
+    none_of_overlay whole limit rule fill options subject clip s tells a known (first, second)

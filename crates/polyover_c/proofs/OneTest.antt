@@ -23,12 +23,12 @@ module _ {I : Type 0} (whole : I → ℤ) (limit : ℕ) (cs : List I) where
     one_fault Range Ends a b = absurd (both_ways (are_ends ends (length cs)) b a.0)
     one_fault Range Range a b = refl
 
-  no_fault_of_points : ArePoints whole limit cs → (f : Fault) → ¬ (PointsHaveOwnFault whole limit cs f)
+  pub no_fault_of_points : ArePoints whole limit cs → (f : Fault) → ¬ (PointsHaveOwnFault whole limit cs f)
   no_fault_of_points are Memory fault = fault
   no_fault_of_points are Ends fault = fault are.even
   no_fault_of_points are Range fault = fault.1 are.within
 
-  one_fault_of_points : (f g : Fault) → PointsHaveOwnFault whole limit cs f → PointsHaveOwnFault whole limit cs g →
+  pub one_fault_of_points : (f g : Fault) → PointsHaveOwnFault whole limit cs f → PointsHaveOwnFault whole limit cs g →
       f ≡ g
   one_fault_of_points Memory g a b = absurd a
   one_fault_of_points Ends Memory a b = absurd b

@@ -3,6 +3,7 @@ pub mod Arrays
 pub mod Asked
 pub mod Clipped
 pub mod Determined
+pub mod EachFault
 pub mod Given
 pub mod Held
 pub mod Hierarchies

@@ -22,6 +22,7 @@ mod linked_answer;
 pub mod links;
 mod locate;
 mod numbers;
+pub mod only_faults;
 pub mod only_puts;
 pub mod options;
 mod overlay;

@@ -3,9 +3,13 @@ pub mod Clips
 pub mod Endings
 pub mod Located
 pub mod OneExit
+pub mod OneInsides
+pub mod OneShown
+pub mod OneText
 pub mod OneUnresolved
 pub mod Queries
 pub mod Refusals
+pub mod RuledPaths
 pub mod Slices
 pub mod Subjects
 pub mod TurnsTaken

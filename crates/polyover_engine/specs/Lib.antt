@@ -5,6 +5,7 @@ pub mod Clips
 pub mod Determined
 pub mod Engine
 pub mod Exits
+pub mod OneText
 pub mod ReadAll
 pub mod Reading
 pub mod Subjects

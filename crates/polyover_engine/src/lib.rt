@@ -10,6 +10,7 @@ pub mod engine;
 pub mod exit;
 mod hierarchy;
 pub mod only_exits;
+pub mod only_texts;
 mod overlay;
 mod points;
 mod predicate_builder;
