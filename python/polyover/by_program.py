@@ -8,7 +8,8 @@ from .contour import double_area
 from .errors import NotResolved
 from .grid import misfit
 from .program import BadLine, answer
-from .text import FILLS, LOCATIONS, RELATIONS, ROUNDS, RULES, coordinate, edges_in, lines_of, paths_in, shapes_in
+from .text import FILLS, LOCATIONS, RELATIONS, ROUNDS, RULES, coordinate, edges_in, items_of, lines_of, paths_in
+from .text import shapes_in
 
 NAME = "program"
 
@@ -43,7 +44,7 @@ def hierarchy(subject: Any, clip: Any, rule: str, fill: str, look: Any) -> tuple
 def simplify(subject: Any, fill: str, look: Any) -> list[Any]:
     """The shapes that contours are simplified to: those of an overlay, or one simple contour as it is given, or
     reversed. The program has no such command: that a contour is simple is told here."""
-    contours = [[(coordinate(x), coordinate(y)) for x, y in contour] for contour in subject]
+    contours = [[(coordinate(x), coordinate(y)) for x, y in items_of(contour)] for contour in subject]
     shapes = overlay(contours, (), "subject", fill, look)
     if len(contours) != 1 or look.minimum_area or not shapes or not is_simple(contours[0]):
         return shapes
@@ -98,7 +99,7 @@ def is_resolved(shape: Any) -> bool:
 
 def locate(shape: Any, points: Any) -> bytearray:
     """Where each point lies: the place of its word in `LOCATIONS`."""
-    given = lines_of("subject", shape) + "".join(lines_of("point", [[point]]) for point in points)
+    given = lines_of("subject", shape) + "".join(lines_of("point", [[point]]) for point in items_of(points))
     try:
         return bytearray(map(LOCATIONS.index, answer(f"{given}run locate\n").split()))
     except BadLine as bad:

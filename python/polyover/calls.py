@@ -11,7 +11,7 @@ from .contour import room_of, shifted
 from .errors import BadInput, NotSettled, PolyoverWarning
 from .flat import Flat, FlatShapes, is_whole_path
 from .shapes import Paths, Shapes
-from .text import FILLS, LOCATIONS, RULES, SNAPPED, SOLVERS, coordinate, known, whole
+from .text import FILLS, LOCATIONS, RULES, SNAPPED, SOLVERS, coordinate, items_of, known, whole
 from .told import Told
 
 AREA_LIMIT = 2**127 - 1
@@ -136,9 +136,9 @@ def placed(**groups: list[list[Any]]) -> Iterator[None]:
         raise
 
 
-def check_coordinates(name: str, number: int, path: list[Any]) -> None:
+def check_coordinates(name: str, number: int, path: Any) -> None:
     """That the coordinates of a path are whole numbers in the range."""
-    for at, point in enumerate(path, 1):
+    for at, point in enumerate(items_of(path), 1):
         try:
             for value in point:
                 coordinate(value)
@@ -239,7 +239,7 @@ def relate(subject: Any, clip: Any, fill: str = "nonzero", *, solver: str = SNAP
     fill, subject, clip = known(FILLS, fill, "fill rule"), listed("subject", subject), listed("clip", clip)
     solver = solver_of(solver)
     with placed(subject=subject, clip=clip):
-        whole_points = [[[(coordinate(x), coordinate(y)) for x, y in path] for path in it] for it in (subject, clip)]
+        whole_points = [[[(coordinate(x), coordinate(y)) for x, y in items_of(path)] for path in it] for it in (subject, clip)]
     finest = power = room_of([path for paths in whole_points for path in paths])
     while True:
         try:

@@ -7,9 +7,12 @@ from typing import Any, Iterable, Literal, overload
 from . import by_library, calls
 from .errors import BadInput, LibraryMissing
 from .library import HeldShape
-from .program import LIBRARY
 from .text import FILLS, LOCATIONS, SNAPPED, known
 
+MISSING = (
+    "no library that has prepared shapes, and the program has none: the library of this version is in a release's wheel, "
+    "or scripts/build or make -C c builds it"
+)
 IS_INSIDE = bytes(word == "inside" for word in LOCATIONS).ljust(256, b"\0")
 
 
@@ -28,7 +31,7 @@ class Prepared:
         self._held: HeldShape | None = None
         fill, solver, shape = known(FILLS, fill, "fill rule"), calls.solver_of(solver), calls.listed("shape", shape)
         if not by_library.can("prepare"):
-            raise LibraryMissing(f"the library has prepared shapes, and is not there, or is an older one. {LIBRARY}")
+            raise LibraryMissing(MISSING)
         with calls.placed(shape=shape):
             self._held = by_library.prepare(shape, fill, solver)
 

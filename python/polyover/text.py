@@ -51,9 +51,15 @@ def coordinate(value: Any) -> int:
     return number
 
 
+def items_of(path: Points) -> Points:
+    """The points of a path. (Python's own arrays of two dimensions can't be gone over.)"""
+    return path.tolist() if isinstance(path, memoryview) else path
+
+
 def lines_of(kind: str, paths: Iterable[Points]) -> str:
     """A line of an input for each path."""
-    return "".join(f"{kind}{''.join(f' {coordinate(x)} {coordinate(y)}' for x, y in path)}\n" for path in paths)
+    points = map(items_of, paths)
+    return "".join(f"{kind}{''.join(f' {coordinate(x)} {coordinate(y)}' for x, y in path)}\n" for path in points)
 
 
 def printed_path(points: Points) -> str:

@@ -13,7 +13,7 @@ from polyover import library
 from polyover.text import FILLS, SOLVERS
 
 from .rows import FRAME, HALL, NESTED, OTHER, SQUARE, UNSETTLED
-from .there import ask_library_alone, ask_program_alone, with_library, with_program
+from .there import ask_library_alone, asked_alone, with_library
 
 try:
     import numpy
@@ -220,18 +220,17 @@ class Refused(unittest.TestCase):
             prepared.locate(far)
         self.assertEqual(prepared.locate([(2, 2)]), [IN])
 
-    @with_program
     def test_the_program_alone(self):
-        ask_program_alone(self)
+        asked_alone(self, POLYOVER_PROGRAM="/nowhere/polyover")
         for owner in (polyover.Prepared, polyover.Scaled(1).prepared):
-            with self.assertRaisesRegex(polyover.LibraryMissing, "prepared shapes: the library has"):
+            with self.assertRaisesRegex(polyover.LibraryMissing, "no library that has prepared shapes"):
                 owner([SQUARE])
 
     @with_library
     def test_an_older_library(self):
         ask_library_alone(self)
         with mock.patch.object(library.library(), "names", library.library().names - {"polyover_prepare"}):
-            with self.assertRaisesRegex(polyover.LibraryMissing, "prepared shapes"):
+            with self.assertRaisesRegex(polyover.LibraryMissing, "no library that has prepared shapes"):
                 polyover.Prepared([SQUARE])
 
 
