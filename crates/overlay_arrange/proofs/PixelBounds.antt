@@ -85,19 +85,9 @@ module _ (e : Edge) (v : Point) (cross : ℤ) (value : cross ≡ cross_at e.a e.
   test : cond (int_lt e.a.x e.b.x) (is_gt low && is_kept) (is_ge low && is_lt high) ≡ line_meets e v
   test = ap₂ (λ s t. cond (int_lt e.a.x e.b.x) s t) wide_test upright_test
 
-  module _ (wide first : Bool) (wide_is : wide ≡ int_lt e.a.x e.b.x) where
-    pub wide_met : wide ≡ true → first ≡ is_gt low → first ≡ true → (r : Bool) → r ≡ is_kept → r ≡ line_meets e v
-    wide_met is first_is met r r_is = r_is
-        ∙ ap₂ (λ s t. cond s (t && is_kept) (is_ge low && is_lt high)) (sym is ∙ wide_is) (sym met ∙ first_is) ∙ test
-
-    pub wide_missed : wide ≡ true → first ≡ is_gt low → first ≡ false → first ≡ line_meets e v
-    wide_missed is first_is missed = missed
-        ∙ ap₂ (λ s t. cond s (t && is_kept) (is_ge low && is_lt high)) (sym is ∙ wide_is) (sym missed ∙ first_is) ∙ test
-
-    pub upright_met : wide ≡ false → first ≡ is_ge low → first ≡ true → (r : Bool) → r ≡ is_lt high → r ≡ line_meets e v
-    upright_met is first_is met r r_is = r_is
-        ∙ ap₂ (λ s t. cond s (is_gt low && is_kept) (t && is_lt high)) (sym is ∙ wide_is) (sym met ∙ first_is) ∙ test
-
-    pub upright_missed : wide ≡ false → first ≡ is_ge low → first ≡ false → first ≡ line_meets e v
-    upright_missed is first_is missed = missed
-        ∙ ap₂ (λ s t. cond s (is_gt low && is_kept) (t && is_lt high)) (sym is ∙ wide_is) (sym missed ∙ first_is) ∙ test
+  -- it is so by the tests of the edge
+  pub bounds_tell : (wide rises : Bool) → wide ≡ int_lt e.a.x e.b.x → rises ≡ int_lt e.a.y e.b.y →
+      cond wide (is_gt low && cond rises (is_lt high) (is_le high)) (is_ge low && is_lt high) ≡ line_meets e v
+  bounds_tell wide rises wide_is rises_is =
+      ap₂ (λ s t. cond s (is_gt low && cond t (is_lt high) (is_le high)) (is_ge low && is_lt high)) wide_is rises_is
+      ∙ test

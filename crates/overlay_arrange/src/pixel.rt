@@ -1,7 +1,7 @@
 //! Test whether an edge meets the pixel of a whole point: whether some point of the edge rounds to it.
 
-ghost use Rattle.std.specs.Prelude.{◌≡◌, pos, ◌*ℤ◌, ◌-ℤ◌, int_lt, int_le, cond};
-ghost use Rattle.std.specs.Ordering.{int_cmp, is_lt, is_le};
+ghost use Rattle.std.specs.Prelude.{◌≡◌, pos, ◌*ℤ◌, ◌-ℤ◌, int_le, cond, ◌&&◌};
+ghost use Rattle.std.specs.Ordering.{int_cmp, is_lt, is_le, is_gt, is_ge};
 ghost use Rattle.overlay_geom.specs.Edges.{ends_of};
 ghost use Rattle.overlay_geom.specs.Points.{plain_point, InRange};
 ghost use Rattle.overlay_plane.specs.SnapPoints.{half_girth, is_amid, is_in_box, line_meets, meets_pixel};
@@ -54,8 +54,17 @@ fn line_meets<I: IntNumber, C: EdgeCount>(e: &CountedEdge<I, C>, v: IntPoint<I>)
     let cross = cross_at(e.a, e.b, v);
     let low = order_to_low(e, cross);
     let high = order_to_high(e, cross);
-    if is_less(e.a.x, e.b.x) {
-        low.is_gt() && is_inside(e, high)
+    is_between(is_less(e.a.x, e.b.x), is_less(e.a.y, e.b.y), low, high)
+}
+
+/// Returns whether a number that compares so with the bounds of an edge lies between them. If the edge is not `wide`,
+/// it is upright, and the lower bound lies between.
+fn is_between(wide: bool, rises: bool, low: Ordering, high: Ordering) -> bool
+    ensures { result ≡ cond wide
+        (is_gt low && cond rises (is_lt high) (is_le high)) (is_ge low && is_lt high) }
+{
+    if wide {
+        low.is_gt() && is_inside(rises, high)
     } else {
         low.is_ge() && high.is_lt()
     }
@@ -63,14 +72,10 @@ fn line_meets<I: IntNumber, C: EdgeCount>(e: &CountedEdge<I, C>, v: IntPoint<I>)
 
 /// Returns whether a number that compares as `high` with the upper bound of an edge keeps to the bound. The edge is not
 /// upright. Where it rises, the number stays below the bound.
-fn is_inside<I: IntNumber, C: EdgeCount>(e: &CountedEdge<I, C>, high: Ordering) -> bool
-    ensures { result ≡ cond (int_lt (I.whole e.now.a.y) (I.whole e.now.b.y)) (is_lt high) (is_le high) }
+fn is_inside(rises: bool, high: Ordering) -> bool
+    ensures { result ≡ cond rises (is_lt high) (is_le high) }
 {
-    if is_less(e.a.y, e.b.y) {
-        high.is_lt()
-    } else {
-        high.is_le()
-    }
+    if rises { high.is_lt() } else { high.is_le() }
 }
 
 /// Compares twice the number with the width plus the height of the edge.

@@ -3,6 +3,7 @@
 
 ghost use Rattle.std.specs.Prelude.{◌≡◌, ◌⊎◌, ℕ, ◌<◌, ◌≤◌, ℤ, pos, ◌*ℤ◌, ◌-ℤ◌, ◌≤ℤ◌, length, cond, int_lt, IsTrue};
 ghost use Rattle.std.specs.Prelude.{OnOk, IsOkUnless};
+ghost use Rattle.std.specs.Ordering.{is_lt};
 ghost use Rattle.overlay_geom.specs.Edges.{ends_of};
 ghost use Rattle.overlay_geom.specs.Points.{plain_point, InRange};
 ghost use Rattle.overlay_arrange.specs.Content.{plain_edge, IsHeld};
@@ -20,6 +21,7 @@ use overlay_geom::number::IntNumber;
 use overlay_geom::point::IntPoint;
 use overlay_geom::vector::cross_at;
 use std::alloc::Allocator;
+use std::cmp::Ordering;
 
 // First step, in places, of the search for a point that lies above an edge.
 const FIRST: usize = 8;
@@ -228,7 +230,15 @@ fn is_far_below<I: IntNumber, C: EdgeCount>(e: &CountedEdge<I, C>, v: IntPoint<I
     requires point { InRange I.limit (plain_point I.whole v) }
     ensures { result ≡ is_far_below (ends_of (plain_edge I.whole C.counts e.now)) (plain_point I.whole v) }
 {
-    order_to_low(e, cross_at(e.a, e.b, v)).is_lt()
+    is_under(order_to_low(e, cross_at(e.a, e.b, v)))
+}
+
+/// Returns whether a number that compares as `low` with the lower bound of an edge lies below it. A line touches the
+/// pixel where it is equal.
+fn is_under(low: Ordering) -> bool
+    ensures { result ≡ is_lt low }
+{
+    low.is_lt()
 }
 
 /// Returns whether the point lies so far above the line of the edge that the line passes below its pixel.
