@@ -16,6 +16,7 @@ use overlay_arrange::content::Content;
 use overlay_arrange::data::CountWithData;
 use overlay_arrange::fill::{fills_of_balanced, fills_with_trees_from};
 use overlay_arrange::settle::is_settled;
+use overlay_arrange::sort_leaders::order_by_leaders;
 use overlay_arrange::sort_numbers::order_by_numbers;
 use overlay_builder::boolean::passing;
 use overlay_builder::builder_core::BuilderCore;
@@ -58,6 +59,16 @@ fn places_down(memory: Memory<'_>) -> Answer<Vec<usize, Memory<'_>>> {
     Ok(places)
 }
 
+// The places of the squares and those behind them, in turn.
+fn places_in_turn(memory: Memory<'_>) -> Answer<Vec<usize, Memory<'_>>> {
+    let mut places = Vec::with_capacity(memory, 2 * PATHS)?;
+    for place in 0..PATHS {
+        places.push(place)?;
+        places.push(PATHS + place)?;
+    }
+    Ok(places)
+}
+
 fn check_edges<I: Width>(trial: &Trial<'_, impl Abort>) -> Result<(), Fail> {
     let memory = trial.memory;
     let mut held = content::<I>(memory)?;
@@ -86,6 +97,12 @@ fn check_edges<I: Width>(trial: &Trial<'_, impl Abort>) -> Result<(), Fail> {
         || places_down(memory),
         |it| order_by_numbers(it, PATHS, |place| *place),
         |it| Ok(it[..] == places_down(memory)?[..]),
+    )?;
+    trial.refuse_each(
+        "overlay_arrange::order_by_leaders",
+        || places_in_turn(memory),
+        |it| order_by_leaders(it, 2, |p, q| p.cmp(q)),
+        |it| Ok(it[..] == places_in_turn(memory)?[..]),
     )
 }
 

@@ -6,6 +6,7 @@ mod data;
 mod edges;
 mod fills;
 mod graph;
+mod leaders;
 mod numbers;
 mod rounds;
 mod snapping;

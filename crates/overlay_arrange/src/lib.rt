@@ -29,6 +29,7 @@ mod rounds;
 pub mod settle;
 mod snap;
 mod snapping;
+pub mod sort_leaders;
 pub mod sort_numbers;
 pub mod sort_runs;
 mod spans;

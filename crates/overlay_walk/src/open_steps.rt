@@ -14,13 +14,16 @@ ghost use Rattle.overlay_walk.specs.Steps.{IsByFrom, IsLong};
 use crate::hand::Hand;
 use crate::leftmost::{first_open, places_by_start};
 use crate::next::place_of_next;
-use crate::step::{Step, is_forward};
+use crate::step::Step;
 use overlay_arrange::edge::compare_points;
-use overlay_arrange::sort_runs::bring_forward;
+use overlay_arrange::sort_leaders::order_by_leaders;
 use overlay_geom::error::OverlayError;
 use overlay_geom::number::IntNumber;
 use std::alloc::Allocator;
 use std::marker::Model;
+
+// Greatest number of steps for each forward step up to which they are put in order before they are sorted.
+const MOST_STEPS: usize = 4;
 
 /// Steps between different points in range, with marks of those that are left.
 #[derive(Drop)]
@@ -141,14 +144,16 @@ impl<I: IntNumber, A: Allocator + Clone> OpenSteps<I, A> {
     }
 }
 
-/// Sorts the steps by the points that they leave. It first moves forward steps to the front: steps along sorted edges
-/// then leave sorted points.
-fn sort_steps<I: IntNumber, A: Allocator>(steps: &mut Vec<Step<I>, A>) -> Result<(), OverlayError>
+/// Sorts the steps by the points that they leave. It first moves them near their places in the order: of steps along
+/// sorted edges, those that lead forward are in order.
+fn sort_steps<I: IntNumber, A: Allocator + Clone>(
+    steps: &mut Vec<Step<I>, A>,
+) -> Result<(), OverlayError>
     ensures permutation { IsPermutation steps.old.items steps.new.items }
     ensures order { OnOk result (IsByFrom (plain_steps I.whole steps.new.items)) }
     ensures err { IsOkUnless result OverlayError.Memory }
 {
-    bring_forward(steps, |s| is_forward(s));
+    order_by_leaders(steps, MOST_STEPS, |s, t| compare_points(s.from, t.from))?;
     steps.sort_by(|s, t| compare_points(s.from, t.from))?;
     Ok(())
 }
