@@ -1,5 +1,6 @@
 //! Tests of `overlay_walk`: walks along the steps of an arrangement.
 
+mod bound;
 mod counted;
 mod groups;
 mod kept;

@@ -73,7 +73,7 @@ module _ {I : Type 0} (whole : I → ℤ) (limit : ℕ) (points : List I) (old n
       subst (λ es. AreLocatedIn whole es points old newer) (sym same) b.1.1.1 in (
         a.0 ∙ sym b.0,
         first.written ∙ ap (λ ns. written_over ns old) (one_told p.edges (plain_points whole (points_of points))
-        first.numbers second.numbers first.tell second.tell) ∙ sym second.written,
+            first.numbers second.numbers first.tell second.tell) ∙ sym second.written,
       )
   one_of_edges p q same (inl a) (inr b) = absurd (told_or_refused whole limit points old t a.1.0 a.1.1.0 b.1)
   one_of_edges p q same (inr a) (inl b) = absurd (told_or_refused whole limit points old s b.1.0 b.1.1.0 a.1)

@@ -5,7 +5,7 @@ use Rattle.i_overlay.specs.OneShot.{MayRefusePaths}
 use Rattle.overlay_builder.specs.GivenPaths.{paths_for}
 use Rattle.overlay_arrange.specs.declared.options.ShapeType.TheVariants.{Subject}
 use Rattle.overlay_geom.specs.declared.error.OverlayError.{OverlayError}
-use Rattle.overlay_simplify.specs.Alone.{MayRefuseAlone}
+use Rattle.i_overlay.specs.Alone.{MayRefuseAlone}
 use Rattle.overlay_string.specs.OneShot.{MayRefusePaths as MayRefuseStrings}
 use Rattle.polyover_c.specs.Asked.{solver_of, AreKnown, IsUnknown}
 use Rattle.polyover_c.specs.Clipped.{AreClips, AreClipChoices, AreClipNumbers, IsUnknownClip}

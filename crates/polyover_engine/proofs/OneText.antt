@@ -16,7 +16,7 @@ use Rattle.overlay_string.specs.ClipPaths.{ArePathsOf}
 use Rattle.overlay_string.specs.ClipPieces.{clip_pieces}
 use Rattle.overlay_string.specs.StringSlices.{IsSlicedWhole}
 use Rattle.overlay_string.proofs.OneClip.{one_clip}
-use Rattle.overlay_tiles.proofs.OneGrid.{one_tiling}
+use Rattle.overlay_string.proofs.OneGrid.{one_tiling}
 use Rattle.polyover_text.specs.Grammar.{paths_of}
 use Rattle.polyover_text.specs.Printed.{edge_lines, lines_of_shapes, lines_of_paths, relation_lines}
 use Rattle.polyover_engine.specs.Answers.{link_lines}

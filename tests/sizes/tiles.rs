@@ -1,0 +1,55 @@
+//! A plate cut into tiles, and the lines of its grid.
+
+use crate::figures::{COUNT, point};
+use i_overlay::fill_rule::FillRule;
+use i_overlay::i_shape::int::path::PathRef;
+use i_overlay::solver::Solver;
+use overlay_string::tiles::grid::{Grid, grid_fits};
+use overlay_string::tiles::lines::grid_lines;
+use overlay_string::tiles::places::{are_few, grid_places};
+use overlay_string::tiles::slice::{slice_by_grid, slice_by_grid_with_solver};
+use overlay_string::tiles::span::IntSpan;
+use std::process::Abort;
+use std::test::Fail;
+
+const RULE: FillRule = FillRule::NonZero;
+
+// Fifty by ten cells.
+#[test]
+fn cells_of_a_plate(rt: HostRuntime) -> Result<(), Fail> {
+    let alloc = rt.alloc();
+    let points = [point(0, 0), point(150, 0), point(150, 20), point(0, 20)];
+    let (shape, grid) = (
+        PathRef::new(&points),
+        Grid {
+            width: 3,
+            height: 2,
+        },
+    );
+    assert!(&rt; grid_fits(&shape, grid));
+    assert!(&rt; grid_lines(alloc, &shape, grid)?.len() == 49 + 9);
+    let snapped = Solver::SNAPPED;
+    for shapes in [
+        slice_by_grid(alloc, &shape, grid, RULE)?,
+        slice_by_grid_with_solver(alloc, &shape, grid, RULE, snapped)?,
+    ] {
+        assert!(&rt; shapes.len() == COUNT);
+        for cell in &shapes {
+            assert!(&rt; cell.len() == 1 && cell[0].len() == 4);
+        }
+    }
+    Ok(())
+}
+
+// A thousand places are few, and one more is not; places are given however many there are.
+#[test]
+fn places_of_a_grid(rt: HostRuntime) -> Result<(), Fail> {
+    let up_to = |greatest| IntSpan { least: 0, greatest };
+    assert!(&rt; are_few(3, up_to(3001)) && !are_few(3, up_to(3004)));
+    let places = grid_places(rt.alloc(), 3, up_to(6001))?;
+    assert!(&rt; places.len() == 2000);
+    for number in 0..2000 {
+        assert!(&rt; places[number] == 3 * number as i32 + 3);
+    }
+    Ok(())
+}
