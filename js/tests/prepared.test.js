@@ -90,6 +90,10 @@ test("the range", () => {
   // (contours of one kind are asked by points of another)
   located([half], [[0, 0], [1, 0], [-1, 0]], places.slice(0, 3));
   located([SQUARE], [[LIMIT, 0n], [4n, 1n]], [OUT, ON]);
+  // (each number of 32 bits is in the range of 64)
+  const [least, most] = [-(2 ** 31), 2 ** 31 - 1];
+  const wide = polyover.prepare(new Flat(new Int32Array([least, least, most, least, least, most]), [3]));
+  assert.deepEqual(wide.locate(new Int32Array([least, most, 0, -1, 0, 0, most, least])), new Uint8Array([2, 2, 0, 2]));
 });
 
 test("arrays and geometries", () => {
@@ -136,8 +140,8 @@ test("what is refused", () => {
   refused(() => polyover.prepare([SQUARE], { fill: "odd" }), 'unknown fill rule "odd"');
   refused(() => polyover.prepare([SQUARE], { solver: "exact" }), 'unknown solver "exact"');
   refused(() => polyover.prepare([SQUARE], { answer: "lists" }), 'unknown option "answer": one of fill, solver');
-  const wide = new Flat(new Int32Array([0, 0, 1, 2 ** 30, 5, 5]), [3]);
-  refused(() => polyover.prepare(wide), "shape: contour 1, point 2: 1073741824 is out of range");
+  const wide = new Flat(new BigInt64Array([0n, 0n, 1n, LIMIT + 1n, 5n, 5n]), [3]);
+  refused(() => polyover.prepare(wide), "shape: contour 1, point 2: 4611686018427387904 is out of range");
   assert.throws(() => polyover.prepare(UNSETTLED, { solver: "rounds" }), NotSettled);
   const prepared = polyover.prepare([SQUARE]);
   refused(() => prepared.locate(3), "points: 3 in the place of a list of points");
@@ -157,7 +161,7 @@ test("what is refused", () => {
 test("memory is given back, and other calls run meanwhile", async () => {
   const fresh = await load();
   const kept = fresh.prepare(HALL);
-  for (let times = 0; times < 20_000; times++) {
+  for (let times = 0; times < 5_000; times++) {
     const prepared = fresh.prepare(FRAME, { fill: "evenodd" });
     assert.deepEqual(prepared.locate([[1, 0]]), [ON]);
     prepared.free();

@@ -3,6 +3,8 @@
 from __future__ import annotations
 
 from ctypes import c_size_t, c_uint32
+from functools import lru_cache
+from struct import iter_unpack
 from typing import Any, Callable, Sequence
 
 from .errors import LibraryMissing, NotResolved
@@ -17,20 +19,27 @@ RULE_NUMBERS = {name: number for number, name in enumerate(RULES)}
 FILL_NUMBERS = {name: number for number, name in enumerate(FILLS)}
 SOLVER_NUMBERS = {name: number for number, name in enumerate(SOLVERS)}
 Found = Callable[[Held], Any]
-# of the other calls each takes the function of its own name that gives a result
-TAKES = {"tiles": "slice_result", "is_resolved": "resolved", **{name: name for name in ("relate", "locate", "prepare")}}
+RESULTS = ("overlay", "hierarchy", "simplify", "edges", "clip", "slice")
+# the function of the library that each call takes
+TAKES = {
+    **{name: f"polyover_{name}_result" for name in RESULTS},
+    **{name: f"polyover_{name}" for name in ("relate", "locate", "prepare")},
+    "tiles": "polyover_slice_result",
+    "is_resolved": "polyover_resolved",
+}
 
 
 def can(call: str) -> bool:
     """Whether there is a library, and it has the function that the call takes."""
     found = found_library()
-    return found is not None and f"polyover_{TAKES.get(call, call + '_result')}" in found.names
+    return found is not None and TAKES.get(call) in found.names
 
 
+@lru_cache(maxsize=256)
 def options(look: Any) -> Options:
-    """The options of an overlay."""
+    """The options of an overlay, which are only read."""
     high, low = divmod(look.minimum_area, 2**64)
-    return Options(bool(look.clockwise), bool(look.keep), not look.ogc, SOLVER_NUMBERS[look.solver], high, low)
+    return Options(look.clockwise, look.keep, not look.ogc, SOLVER_NUMBERS[look.solver], high, low)
 
 
 def library() -> Library:
@@ -44,9 +53,9 @@ def library() -> Library:
 # ---- answers in arrays
 
 
-def points_in(numbers: Any) -> list[tuple[int, int]]:
+def points_in(numbers: Any) -> list[Any]:
     """The points of an array of coordinates."""
-    return list(zip(numbers[0::2], numbers[1::2]))
+    return list(iter_unpack("2q", numbers))
 
 
 def parted(items: list[Any], ends: Sequence[int]) -> list[Any]:
@@ -71,7 +80,7 @@ def flat_paths(held: Held) -> Flat:
 
 def flat_shapes(held: Held) -> FlatShapes:
     """The shapes of an answer, where they are."""
-    return FlatShapes(flat_paths(held), held.shape_ends)
+    return FlatShapes.answered(flat_paths(held), held.shape_ends)
 
 
 # ---- the calls
@@ -147,6 +156,7 @@ def tiles(shape: Any, width: int, height: int, fill: str, solver: str, found: Fo
     """The shapes into which the cells of a grid cut a shape: it is sliced along the lines of the grid."""
     asked = library()
     contours = asked.contours(shape)
+    asked.check_range(contours)
     numbers = contours.numbers
     xs, ys = zip(*points_in(numbers)) if numbers else ((), ())
     return sliced(asked, contours, grid_lines(width, height, xs, ys), fill, solver, found)
@@ -166,9 +176,9 @@ def locate(shape: Any, points: Any) -> bytearray:
     asked, unresolved = library(), c_size_t()
     contours, queries = asked.contours(shape), asked.contours([points])
     found = bytearray(queries.coordinate_count // 2)
-    room = address_of(memoryview(found))
-    given = queries.coordinates or 0, queries.coordinate_count
-    status = asked.call("polyover_locate", contours, *given, room[0], len(found), unresolved)
+    room, _ = address_of(found)
+    given = queries.coordinates, queries.coordinate_count
+    status = asked.call("polyover_locate", contours, *given, room, len(found), unresolved)
     if status == Status.NOT_RESOLVED:
         raise NotResolved(unresolved.value)
     check(status)

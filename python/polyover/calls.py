@@ -3,8 +3,7 @@
 from __future__ import annotations
 
 import warnings
-from contextlib import contextmanager
-from typing import Any, Iterable, Iterator, Literal, NamedTuple, overload
+from typing import Any, Iterable, Literal, NamedTuple, overload
 
 from . import by_library, by_program
 from .contour import room_of, shifted
@@ -35,7 +34,7 @@ def look_of(ogc: bool, clockwise: bool, keep: bool, minimum_area: Any, solver: s
     area = whole(minimum_area)
     if not 0 <= area <= AREA_LIMIT:
         raise BadInput(f"the minimum area {minimum_area} is not from 0 to {AREA_LIMIT}")
-    return Look(ogc, clockwise, keep, area, solver_of(solver))
+    return Look(bool(ogc), bool(clockwise), bool(keep), area, solver_of(solver))
 
 
 def solver_of(solver: object) -> str:
@@ -75,20 +74,30 @@ def listed(name: str, paths: Any, told: Told | None = None) -> Any:
     is left out, if it is counted in `told`, and else a fault."""
     if isinstance(paths, Flat):
         return paths
-    lists = []
-    for number, path in enumerate(iterated(name, paths, f"a list of {kind_of(name)}s"), 1):
-        place = place_of(name, number)
-        if is_whole_path(path):
-            lists.append(path)
-            continue
-        points = iterated(place, path, "a list of points")
-        try:
-            for _, _ in points:
-                pass
-        except (TypeError, ValueError):
-            points = [checked_point(f"{place}, point {at}", point, told) for at, point in enumerate(points, 1)]
-        lists.append(points)
-    return lists
+    if not isinstance(paths, (list, tuple)):
+        paths = iterated(name, paths, f"a list of {kind_of(name)}s")
+    return [path if is_good(path) else listed_points(name, number, path, told) for number, path in enumerate(paths, 1)]
+
+
+def is_good(path: Any) -> bool:
+    """Whether a path is an array of whole points, or a list of points of two members."""
+    if not isinstance(path, (list, tuple)):
+        return is_whole_path(path)
+    try:
+        for _, _ in path:
+            pass
+    except (TypeError, ValueError):
+        return False
+    return True
+
+
+def listed_points(name: str, number: int, path: Any, told: Told | None) -> list[Any]:
+    """The points of a path of another kind."""
+    place = place_of(name, number)
+    points = iterated(place, path, "a list of points")
+    if is_good(points):
+        return points
+    return [checked_point(f"{place}, point {at}", point, told) for at, point in enumerate(points, 1)]
 
 
 def kind_of(name: str) -> str:
@@ -124,16 +133,20 @@ def checked_point(place: str, point: Any, told: Told | None) -> Any:
     return members[:2]
 
 
-@contextmanager
-def placed(**groups: list[list[Any]]) -> Iterator[None]:
+class placed:  # pylint: disable=invalid-name
     """Names the place of the first coordinate that is no whole number in the range, where that is a fault."""
-    try:
-        yield
-    except BadInput:
-        for name, paths in groups.items():
-            for number, path in enumerate(paths, 1):
-                check_coordinates(name, number, path)
-        raise
+
+    def __init__(self, **groups: Any) -> None:
+        self.groups = groups
+
+    def __enter__(self) -> None:
+        pass
+
+    def __exit__(self, kind: type[BaseException] | None, *_: object) -> None:
+        if kind is not None and issubclass(kind, BadInput):
+            for name, paths in self.groups.items():
+                for number, path in enumerate(paths, 1):
+                    check_coordinates(name, number, path)
 
 
 def check_coordinates(name: str, number: int, path: Any) -> None:

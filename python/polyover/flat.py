@@ -51,16 +51,18 @@ def checked_buffer(what: str, thing: Any, formats: tuple[str, ...]) -> memoryvie
     return found if found.ndim == 1 else found.cast("B").cast("q")
 
 
-def address_of(buffer: memoryview) -> tuple[int, Any]:
-    """Where the numbers of a buffer are, and what has to stay as long."""
-    if buffer.nbytes == 0:
-        return 0, buffer
-    if not buffer.readonly:
-        return addressof(c_char.from_buffer(buffer)), buffer
-    found = getattr(buffer.obj, "__array_interface__", None)
+def address_of(items: Any) -> tuple[int, Any]:
+    """Where the numbers of an array or a buffer are, and what has to stay as long."""
+    if isinstance(items, array):
+        return items.buffer_info()[0], items
+    if not len(items):
+        return 0, items
+    if isinstance(items, bytearray) or not items.readonly:
+        return addressof(c_char.from_buffer(items)), items
+    found = getattr(items.obj, "__array_interface__", None)
     if found:
-        return int(found["data"][0]), buffer
-    kept = bytearray(buffer.cast("B"))
+        return int(found["data"][0]), items
+    kept = bytearray(items.cast("B"))
     return addressof(c_char.from_buffer(kept)), kept
 
 
@@ -75,6 +77,9 @@ class Flat:
 
     `coordinates` and `ends` are memoryviews, which `numpy.asarray` takes without a copy; going over it gives
     lists. Raises BadInput where the arrays are of another kind, or the ends do not rise to the number of points."""
+
+    # (what the library is passed, once it has been)
+    passed: Any = None
 
     def __init__(self, coordinates: Any, ends: Any) -> None:
         self.numbers = checked_buffer("coordinates", coordinates, WHOLE)
@@ -118,6 +123,13 @@ class FlatShapes:
 
     def __init__(self, contours: Flat, shape_ends: Any) -> None:
         self.contours, self.shape_ends = contours, checked_buffer("shape ends", shape_ends, COUNTS)
+
+    @classmethod
+    def answered(cls, contours: Flat, shape_ends: memoryview) -> FlatShapes:
+        """The shapes of an answer of the library."""
+        made = cls.__new__(cls)
+        made.contours, made.shape_ends = contours, shape_ends
+        return made
 
     @classmethod
     def of(cls, shapes: Iterable[list[Any]]) -> FlatShapes:

@@ -4,9 +4,10 @@ from __future__ import annotations
 
 import os
 from array import array
-from ctypes import CDLL, POINTER, Structure, byref, c_size_t, c_ubyte, c_uint32, c_uint64, c_void_p, sizeof
+from ctypes import CDLL, POINTER, Structure, c_size_t, c_ubyte, c_uint32, c_uint64, c_void_p, sizeof
 from enum import IntEnum
 from functools import lru_cache
+from itertools import chain
 from pathlib import Path
 from struct import error as StructError
 from struct import pack
@@ -22,7 +23,11 @@ VARIABLE = "POLYOVER_LIBRARY"
 HELD = Path(__file__).resolve().with_name("libpolyover.so")
 # (a wheel holds the library; a clone has it where scripts/build, or make -C c, leaves it)
 BUILT = str(HELD if HELD.is_file() else HELD.parents[2] / "out" / HELD.name)
+KEYS = os.fsencode(VARIABLE), os.fsencode(program.VARIABLE)
+# (paths at which there is a library)
+FOUND: set[str] = set()
 COORDINATES, SIZES, BYTES = "q", "Q" if sizeof(c_size_t) == 8 else "I", "B"
+ITEM_SIZES = {kind: array(kind).itemsize for kind in (COORDINATES, SIZES, BYTES)}
 
 
 class Status(IntEnum):
@@ -42,7 +47,8 @@ class Status(IntEnum):
 
 
 FAULTS = {Status.MEMORY: OutOfMemory, Status.NOT_SETTLED: NotSettled, Status.TOO_MANY_EDGES: TooManyEdges}
-# (none of these comes, since all that they tell of is tested before a call)
+OUT_OF_RANGE = "a coordinate is out of range"
+# (of these no other comes than that: all that they tell of is tested before a call)
 WRONG = {Status.BAD_ENDS, Status.OUT_OF_RANGE, Status.BAD_RULE, Status.BAD_FILL, Status.BAD_OPTION}
 
 
@@ -87,16 +93,15 @@ class Held:
 
     def __init__(self, free: Callable[[Any], None]) -> None:
         self.free, self.result = free, Result()
-        self.pointer = byref(self.result)
 
     def __del__(self) -> None:
-        self.free(self.pointer)
+        self.free(self.result)
 
     def numbers(self, kind: str, place: int | None, count: int) -> memoryview:
         """That many numbers of a kind at a place."""
         if not count:
             return memoryview(array(kind))
-        items: Any = (c_ubyte * (count * array(kind).itemsize)).from_address(place or 0)
+        items: Any = (c_ubyte * (count * ITEM_SIZES[kind])).from_address(place or 0)
         # (what looks at these items keeps them, and they keep the answer)
         items.answer = self
         return memoryview(items).cast("B").cast(kind)
@@ -140,7 +145,8 @@ class Contours(Structure):
     def __init__(self, numbers: Any, ends: Any) -> None:
         # (the fields hold no more than addresses: the arrays have to stay as long)
         self.numbers, self.ends_of_each = numbers, ends
-        (coordinates, kept), (places, also_kept) = map(address_of, map(memoryview, (numbers, ends)))
+        coordinates, kept = address_of(numbers)
+        places, also_kept = address_of(ends)
         self.kept = kept, also_kept
         super().__init__(coordinates, len(numbers), places, len(ends))
 
@@ -181,14 +187,13 @@ FUNCTIONS = {
 FREES = {"polyover_free", "polyover_prepared_free"}
 
 
-def address(items: Any) -> int:
-    """Where the items of an array are."""
-    return int(items.buffer_info()[0])
-
-
-def passed(argument: Any) -> Any:
-    """An argument as C takes it."""
-    return byref(argument) if isinstance(argument, (Structure, c_uint32, c_size_t)) else argument
+def coordinates_of(points: Any) -> list[Any]:
+    """The coordinates of points, each of two members, in a row."""
+    if not isinstance(points, (list, tuple)):
+        points = list(points)
+    numbers = list(chain.from_iterable(points))
+    # (a point that has been gone over before has no members any more)
+    return numbers if len(numbers) == 2 * len(points) else [number for x, y in points for number in (x, y)]
 
 
 def check(status: int) -> None:
@@ -201,7 +206,7 @@ def check(status: int) -> None:
     if known in FAULTS:
         raise FAULTS[known](FAULTS[known].__doc__)
     if known in WRONG:
-        raise BadInput(f"the library answers {known.name}")
+        raise BadInput(OUT_OF_RANGE if known == Status.OUT_OF_RANGE else f"the library answers {known.name}")
     raise PolyoverError(f"the library answers the status {known}")
 
 
@@ -219,55 +224,55 @@ class Library:
             function.argtypes, function.restype = FUNCTIONS[name], None if name in FREES else c_uint32
 
     def numbers(self, given: list[Any]) -> Any:
-        """An array of coordinates, which are whole numbers in the coordinate range."""
+        """An array of coordinates, which are whole numbers."""
         try:
-            numbers = array(COORDINATES, pack(f"{len(given)}q", *given))
-            is_good = self.functions.polyover_in_range(address(numbers), len(numbers))
+            return array(COORDINATES, pack(f"{len(given)}q", *given))
         except StructError:
-            is_good = False
-        # (of bad ones this names the first)
-        return numbers if is_good else array(COORDINATES, map(coordinate, given))
+            # (of bad ones this names the first)
+            return array(COORDINATES, map(coordinate, given))
 
     def contours(self, paths: Any) -> Contours:
         """Contours, or open paths, as the library takes them: arrays without a copy, where all is in one."""
         if isinstance(paths, Flat):
-            return self.in_range(Contours(paths.numbers, paths.counts))
-        buffers = [whole_path(path) for path in paths]
+            if paths.passed is None:
+                paths.passed = Contours(paths.numbers, paths.counts)
+            return paths.passed  # type: ignore[no-any-return]
+        buffers = [None if type(path) is list else whole_path(path) for path in paths]
         if any(found is not None for found in buffers):
             return self.joined(paths, buffers)
-        numbers, ends = [], []
+        numbers: list[Any] = []
+        ends = []
         for path in paths:
-            numbers += [number for x, y in path for number in (x, y)]
+            numbers += coordinates_of(path)
             ends.append(len(numbers) // 2)
         return Contours(self.numbers(numbers), array(SIZES, ends))
 
     def joined(self, paths: Any, buffers: list[memoryview | None]) -> Contours:
         """Arrays of points, of which each has a buffer, and lists of them, in one array; an array alone as it is."""
         if len(buffers) == 1 and buffers[0] is not None:
-            return self.in_range(Contours(row_of(buffers[0]), array(SIZES, [len(buffers[0])])))
+            return Contours(row_of(buffers[0]), array(SIZES, [len(buffers[0])]))
         numbers, ends = array(COORDINATES), array(SIZES)
         for path, found in zip(paths, buffers):
             if found is None:
-                numbers.extend(self.numbers([number for x, y in path for number in (x, y)]))
+                numbers.extend(self.numbers(coordinates_of(path)))
             elif found.nbytes:
                 numbers.frombytes(found.cast("B"))
             ends.append(len(numbers) // 2)
-        return self.in_range(Contours(numbers, ends))
+        return Contours(numbers, ends)
 
-    def in_range(self, contours: Contours) -> Contours:
-        """The contours, whose coordinates are tested."""
+    def check_range(self, contours: Contours) -> None:
+        """That the coordinates are in the range: each call tests that itself."""
         if not self.functions.polyover_in_range(contours.coordinates or 0, contours.coordinate_count):
-            raise BadInput("coordinates are out of range")
-        return contours
+            raise BadInput(OUT_OF_RANGE)
 
     def call(self, name: str, *arguments: Any) -> int:
-        """The status with which a function ends."""
-        return int(getattr(self.functions, name)(*map(passed, arguments)))
+        """The status with which a function ends. (Of a struct ctypes hands over where it is.)"""
+        return getattr(self.functions, name)(*arguments)  # type: ignore[no-any-return]
 
     def answer(self, name: str, *given: Any) -> Held:
         """What a function answers; or raises what its status stands for."""
         held = Held(self.functions.polyover_free)
-        check(self.call(name, *given, held.pointer))
+        check(self.call(name, *given, held.result))
         return held
 
 
@@ -275,18 +280,17 @@ class HeldShape:
     """A prepared shape, where the library has it: its memory is freed once nothing refers to this."""
 
     def __init__(self, asked: Library, fill: int, solver: int, contours: Contours) -> None:
-        self.asked, shape = asked, PreparedShape()
-        self.pointer = byref(shape)
-        check(asked.call("polyover_prepare", fill, solver, contours, self.pointer))
-        finalize(self, asked.functions.polyover_prepared_free, self.pointer)
+        self.asked, self.shape = asked, PreparedShape()
+        check(asked.call("polyover_prepare", fill, solver, contours, self.shape))
+        finalize(self, asked.functions.polyover_prepared_free, self.shape)
 
     def locate(self, points: Any) -> bytearray:
         """A number for each point, which tells where it lies."""
         queries = self.asked.contours([points])
         found = bytearray(queries.coordinate_count // 2)
-        room = address_of(memoryview(found))
-        given = queries.coordinates or 0, queries.coordinate_count
-        check(self.asked.call("polyover_prepared_locate", self.pointer, *given, room[0], len(found)))
+        room, _ = address_of(found)
+        given = queries.coordinates, queries.coordinate_count
+        check(self.asked.call("polyover_prepared_locate", self.shape, *given, room, len(found)))
         return found
 
 
@@ -296,11 +300,22 @@ def loaded(path: str) -> Library:
     return Library(path)
 
 
+def is_plain() -> bool:
+    """Whether the environment names neither a library nor a program. Its own dictionary, where there is one, tells that
+    in a hundredth of the time."""
+    held = getattr(os.environ, "_data", None)
+    return isinstance(held, dict) and KEYS[0] not in held and KEYS[1] not in held
+
+
 def library() -> Library | None:
     """The library that POLYOVER_LIBRARY names; or else, if POLYOVER_PROGRAM names no program, the one beside the
     module or in out/; or none where none is."""
-    named = os.environ.get(VARIABLE)
-    if named:
-        return loaded(named if os.path.isabs(named) else os.path.abspath(named))
-    is_wanted = not os.environ.get(program.VARIABLE)
-    return loaded(BUILT) if is_wanted and os.path.isfile(BUILT) else None
+    if not is_plain():
+        named = os.environ.get(VARIABLE)
+        if named:
+            return loaded(named if os.path.isabs(named) else os.path.abspath(named))
+        if os.environ.get(program.VARIABLE):
+            return None
+    if BUILT not in FOUND and os.path.isfile(BUILT):
+        FOUND.add(BUILT)
+    return loaded(BUILT) if BUILT in FOUND else None
