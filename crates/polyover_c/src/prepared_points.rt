@@ -49,6 +49,7 @@ fn tested_room<I: OverlayInt>(points: &[I], locations: &[u8]) -> Result<(), Stat
 }
 
 // Writes the number of each point's location into the first places.
+#[tactic(auto, using(crate::proofs::AskedPoints::place_within, crate::proofs::AskedPoints::none_told))]
 fn write_locations<I: OverlayInt, E: FormOf<IntEdge<I>>, B: FormOf<Block<I>>>(
     parts: &HeldParts<E, B>,
     points: &[I],
@@ -61,11 +62,11 @@ fn write_locations<I: OverlayInt, E: FormOf<IntEdge<I>>, B: FormOf<Block<I>>>(
         locations.new }
 {
     for at in 0..count_points(points) {
-        let point = IntPoint {
-            x: points[2 * at],
-            y: points[2 * at + 1],
-        };
-        let location = locate_in(parts.edges, parts.blocks, parts.groups, point);
+        let place = 2 * at;
+        let next = place + 1;
+        let x = points[place];
+        let y = points[next];
+        let location = locate_in(parts.edges, parts.blocks, parts.groups, IntPoint { x, y });
         locations[at] = number_of(location);
     }
 }

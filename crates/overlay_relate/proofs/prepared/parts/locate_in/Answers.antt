@@ -36,7 +36,8 @@ returns-in-Boundary-clause-by_edges g c =
     let e = plain_edge whole c.value-edge.result in
     let lt : c.loop-at.at < length edges = search rules in
     on_some (plain_edges whole (map meant edges)) p c.loop-at.at e (rw (length-map, length-map) lt)
-    (form_at (plain_edge whole) meant edges c.loop-at.at c.index-edges-at.result c.value-edge.result lt c.index-edges-at.is c.value-edge.ensures)
+    (form_at (plain_edge whole) meant edges c.loop-at.at c.index-edges-at.result c.value-edge.result lt
+    c.index-edges-at.is c.value-edge.ensures)
     (subst (IsLocatedBy (e ∷ []) p) c.in-Boundary.is c.location_by.ensures)
 
 pub returns-in-Boundary-clause-located : goal.returns-in-Boundary-clause-located
@@ -57,8 +58,8 @@ loop-at-preserved g c =
     let t = c.loop-at.is_inside in
     let lt : at < length edges = search rules in
     let within : at < length es = rw (length-map, length-map) lt in
-    let is : get_or es at e ≡ e = form_at (plain_edge whole) meant edges at c.index-edges-at.result c.value-edge.result lt c.index-edges-at.is
-    c.value-edge.ensures in
+    let is : get_or es at e ≡ e = form_at (plain_edge whole) meant edges at c.index-edges-at.result c.value-edge.result
+    lt c.index-edges-at.is c.value-edge.ensures in
     elim c.match-location_by.branch [
       | in-Inside w ↦ subst (λ s. IsCounted es p (at + 1) s) (sym w.is_inside-is)
           (counted_inside es p at t c.loop-at.invariant e within is
