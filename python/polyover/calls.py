@@ -252,7 +252,9 @@ def relate(subject: Any, clip: Any, fill: str = "nonzero", *, solver: str = SNAP
     fill, subject, clip = known(FILLS, fill, "fill rule"), listed("subject", subject), listed("clip", clip)
     solver = solver_of(solver)
     with placed(subject=subject, clip=clip):
-        whole_points = [[[(coordinate(x), coordinate(y)) for x, y in items_of(path)] for path in it] for it in (subject, clip)]
+        whole_points = [
+            [[(coordinate(x), coordinate(y)) for x, y in items_of(path)] for path in it] for it in (subject, clip)
+        ]
     finest = power = room_of([path for paths in whole_points for path in paths])
     while True:
         try:
