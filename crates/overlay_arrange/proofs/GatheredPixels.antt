@@ -1,7 +1,8 @@
 -- A loop over edges that gathers the hot points whose pixels each meets: the points that an edge adds, and those of all
 -- edges.
-use Rattle.std.proofs.Common.{◌≡◌, ⊎_elim, inl, inr, ℕ, ◌+◌, ◌<◌, ◌≤◌, true, List, [], ◌∷◌, ◌++◌, AllPairs}
-use Rattle.std.proofs.Common.{Contains, filter, length, get_or, pos, sym, ap, ◌∙◌, subst, arith}
+use Rattle.std.proofs.Common.{◌≡◌, ⊎_elim, inl, inr, ℕ, ◌+◌, ◌<◌, ◌≤◌, true, ◌≤ℤ◌, List, [], ◌∷◌, ◌++◌}
+use Rattle.std.proofs.Common.{AllPairs, Contains, filter, length, get_or, slice_range, pos, sym, ap, ◌∙◌, subst, arith}
+use Rattle.std.proofs.lemmas.Bool.{cases_lt}
 use Rattle.std.proofs.lemmas.List.{append-nil, append_assoc, get_or_default}
 use Rattle.std.proofs.lemmas.List.Elements.{All-contains, Contains-append_cases, Contains-append_left}
 use Rattle.std.proofs.lemmas.List.Elements.{Contains-append_right}
@@ -10,17 +11,21 @@ use Rattle.overlay_geom.specs.Plane.{Point}
 use Rattle.overlay_geom.specs.Edges.{CountedEdge, ends_of}
 use Rattle.overlay_geom.proofs.Entries.{Contains-cases, Contains-head, Contains-later}
 use Rattle.overlay_geom.proofs.Merging.{AllPairs-head, AllPairs-tail}
+use Rattle.overlay_geom.proofs.Signs.{linear}
 use Rattle.overlay_plane.specs.CutPoints.{comes_first}
 use Rattle.overlay_plane.specs.SnapPoints.{hot_points, meets_pixel}
 use Rattle.overlay_plane.proofs.Entries.{all_of_entries, Contains-filter, Contains-from_filter, Contains-from_map}
 use Rattle.overlay_plane.proofs.Entries.{Contains-map}
 use Rattle.overlay_plane.proofs.InOrderLists.{Contains-in_order, Contains-put_in_order}
 use Rattle.overlay_arrange.specs.Cut.{IsEndOf}
-use Rattle.overlay_arrange.specs.HotPoints.{points_at, AddsMet, AreHotPoints, AreRanksNear, AreSnappedBefore}
+use Rattle.overlay_arrange.specs.HotPoints.{points_at, AddsMet, AreHotPoints, AreLeftBefore, AreRanksNear}
+use Rattle.overlay_arrange.specs.HotPoints.{AreMetAmong, AreRightFrom, AreSnappedBefore}
 use Rattle.overlay_arrange.specs.Meetings.{AreByPlace, IsAt, IsEndOrMet, Meeting}
 use Rattle.overlay_arrange.specs.SnapMeetings.{AreSnapMeetings}
 use Rattle.overlay_arrange.proofs.GatheredMeetings.{at_or_before, one_entry}
+use Rattle.overlay_arrange.proofs.LedThrough.{from_ranged, ranged}
 use Rattle.overlay_arrange.proofs.PairMeetings.{only_entry}
+use Rattle.overlay_arrange.proofs.PassedCorners.{met_amid}
 
 -- ---- pairs of two lists
 
@@ -106,11 +111,41 @@ module _ (i : ℕ) (e : CountedEdge) where
       met : Point → Meeting
       met v = record { place = i; point = v }
 
--- ---- the meetings of all edges
+-- ---- the points among which those stand whose pixels an edge meets
 
 -- the point that stands for none
 abbrev pub origin : Point
 origin = record { x = pos 0; y = pos 0 }
+
+module _ (vs : List Point) (e : CountedEdge) where
+  -- those at the ranks
+  pub ranked_among : (near : List ℕ) → AreRanksNear vs e near → AreMetAmong vs e (points_at vs near)
+  ranked_among near ranks = record {
+    within = λ v at.
+        let k = Contains-from_map (λ k. get_or vs k origin) near v at in
+        let inside = ranks.within k.0 k.1 in
+        (k.0, inside, get_or_default vs k.0 v origin inside ∙ k.2);
+    all = λ v at meets. subst (Contains (points_at vs near)) (get_or_default vs at.0 origin v at.1 ∙ at.2)
+        (Contains-map (λ k. get_or vs k origin) near at.0 (ranks.all at.0 v (at.1, at.2) meets));
+  }
+
+  -- those from a place left of which all others lie, up to one from which on they lie right of the edge
+  pub span_among : (low high : ℕ) → e.a.x ≤ℤ e.b.x → AreLeftBefore vs e.a.x low → high ≤ length vs →
+      AreRightFrom vs e.b.x high → AreMetAmong vs e (slice_range vs low high)
+  span_among low high forward lefts within rights = record {
+    within = λ v at. let place = from_ranged vs low high v within at in (place.0, place.3.0, place.3.1);
+    all = λ v at meets.
+        let amid = met_amid e v forward meets in
+        let past : low ≤ at.0 = ⊎_elim (λ (less : at.0 < low).
+        absurd (let left = lefts.left at.0 v less (at.1, at.2) in let from = amid.0 in omega (linear, left, from)))
+        (λ (le : low ≤ at.0). le) (cases_lt at.0 low) in
+        let less : at.0 < high = ⊎_elim (λ (lt : at.0 < high). lt) (λ (le : high ≤ at.0).
+        absurd (let right = rights at.0 v le (at.1, at.2) in let to = amid.1 in omega (linear, right, to)))
+        (cases_lt at.0 high) in
+        ranged vs low high at.0 v past less within (at.1, at.2);
+  }
+
+-- ---- the meetings of all edges
 
 module _ (es : List CountedEdge) (vs : List Point) where
   -- at first nothing is gathered
@@ -120,21 +155,9 @@ module _ (es : List CountedEdge) (vs : List Point) where
     all = λ i e lt. absurd (omega (arith, lt));
   }
 
-  module _ (i : ℕ) (e : CountedEdge) (at_e : IsAt es i e) (near : List ℕ) (ranks : AreRanksNear vs e near)
-      {old new : List Meeting} (before : AreSnappedBefore es vs i old) (adds : AddsMet i e (points_at vs near) old new)
+  module _ (i : ℕ) (e : CountedEdge) (at_e : IsAt es i e) (us : List Point) (among : AreMetAmong vs e us)
+      {old new : List Meeting} (before : AreSnappedBefore es vs i old) (adds : AddsMet i e us old new)
     where
-      -- a point at one of the ranks is one of the points
-      at_rank : (v : Point) → Contains (points_at vs near) v → Contains vs v
-      at_rank v at =
-          let k = Contains-from_map (λ k. get_or vs k origin) near v at in
-          let inside = ranks.within k.0 k.1 in
-          (k.0, inside, get_or_default vs k.0 v origin inside ∙ k.2)
-
-      -- a point whose pixel the edge meets is at one of the ranks
-      has_rank : (v : Point) → Contains vs v → meets_pixel (ends_of e) v ≡ true → Contains (points_at vs near) v
-      has_rank v at meets = subst (Contains (points_at vs near)) (get_or_default vs at.0 origin v at.1 ∙ at.2)
-          (Contains-map (λ k. get_or vs k origin) near at.0 (ranks.all at.0 v (at.1, at.2) meets))
-
       -- one edge more is snapped
       pub one_snapped : AreSnappedBefore es vs (i + 1) new
       one_snapped = record {
@@ -142,7 +165,7 @@ module _ (es : List CountedEdge) (vs : List Point) where
             (λ there. let l = before.led m there in (let lt = l.0 in omega (arith, lt), l.1))
             (λ led. let l = adds.led m led in (
               (let is = l.0 in omega (arith, is)),
-              (e, subst (λ n. IsAt es n e) (sym l.0) at_e, at_rank m.point l.1, l.2),
+              (e, subst (λ n. IsAt es n e) (sym l.0) at_e, among.within m.point l.1, l.2),
             ))
             (Contains-append_cases old adds.more m (subst (λ ms. Contains ms m) adds.added at));
         all = λ k f lt at_f v at meets. ⊎_elim (λ (is : k ≡ i). here k f at_f v at meets is)
@@ -162,7 +185,7 @@ module _ (es : List CountedEdge) (vs : List Point) where
               (λ there. inr (subst (λ ms. Contains ms (record { place = k; point = v })) (sym adds.added)
               (subst (λ n. Contains (old ++ adds.more) (record { place = n; point = v })) (sym is)
               (Contains-append_right old adds.more (record { place = i; point = v }) there))))
-              (adds.all v (has_rank v at met) met)
+              (adds.all v (among.all v at met) met)
 
       -- the meetings are still sorted by their places
       pub by_place_more : AreByPlace old → AreByPlace new

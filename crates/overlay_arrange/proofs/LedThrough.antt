@@ -27,7 +27,7 @@ use Rattle.overlay_arrange.proofs.GatheredMeetings.{one_entry}
 -- ---- the points of a run
 
 -- a part of a list has the entries at its places
-ranged : {X : Type 0} (xs : List X) (low high k : ℕ) (x : X) → low ≤ k → k < high → high ≤ length xs → IsAt xs k x →
+pub ranged : {X : Type 0} (xs : List X) (low high k : ℕ) (x : X) → low ≤ k → k < high → high ≤ length xs → IsAt xs k x →
     Contains (slice_range xs low high) x
 ranged xs low high k x past inside within at = (
   k - low,
@@ -37,7 +37,7 @@ ranged xs low high k x past inside within at = (
 )
 
 -- no other item is in the range
-from_ranged : {X : Type 0} (xs : List X) (low high : ℕ) (x : X) → high ≤ length xs →
+pub from_ranged : {X : Type 0} (xs : List X) (low high : ℕ) (x : X) → high ≤ length xs →
     Contains (slice_range xs low high) x →
     (k : ℕ) × (low ≤ k) × (k < high) × IsAt xs k x
 from_ranged xs low high x within at =

@@ -1,7 +1,7 @@
 -- Between which bounds twice a cross product lies where the line of an edge passes through a pixel: the bounds as sums
 -- of two differences of coordinates, and the test of the line as comparisons with them.
 use Rattle.std.proofs.Common.{◌≡◌, Bool, true, false, cond, ◌&&◌, ℤ, pos, ◌+ℤ◌, ◌-ℤ◌, ◌*ℤ◌, int_lt, int_le}
-use Rattle.std.proofs.Common.{refl, sym, ap, ap₂, ◌∙◌, arith}
+use Rattle.std.proofs.Common.{refl, ap, ap₂, ◌∙◌, arith}
 use Rattle.std.proofs.lemmas.Int.{ints}
 use Rattle.std.specs.Ordering.{is_lt, is_le, is_gt, is_ge, int_cmp}
 use Rattle.std.specs.declared.cmp.Ordering.{Ordering}

@@ -7,9 +7,10 @@ use Rattle.std.proofs.lemmas.Nat.{div-add-mod'}
 use Rattle.std.proofs.Math.Nat.{add-mod_right, div-lt_iff_lt-mul, le-div_iff_mul-le}
 use Rattle.overlay_geom.specs.Plane.{Point}
 use Rattle.overlay_geom.specs.Edges.{CountedEdge, ends_of}
+use Rattle.overlay_geom.proofs.Signs.{linear}
 use Rattle.overlay_plane.specs.SnapPoints.{meets_pixel}
 use Rattle.overlay_arrange.specs.Extents.{Extent, extent_of_point, ArePointsByStrips}
-use Rattle.overlay_arrange.specs.HotPoints.{AreRanksNear, IsSpanOf}
+use Rattle.overlay_arrange.specs.HotPoints.{AreLeftBefore, AreRanksNear, AreRightFrom}
 use Rattle.overlay_arrange.specs.Meetings.{IsAt}
 use Rattle.overlay_arrange.specs.PixelRuns.{AddsRun, AreUpwards, IsPlaceOf}
 use Rattle.overlay_arrange.proofs.ExtentBlocks.{same_block}
@@ -51,30 +52,30 @@ module _ (vs : List Point) (e : CountedEdge) (width : ℕ) (ss : List Extent) (b
         (let le : at / width ≤ s.first / width = omega (arith, strip, behind) in le) in
         omega (arith, first, whole)
 
-    module _ (low high : ℕ) (forward : e.a.x ≤ℤ e.b.x) (spans : IsSpanOf vs e low high) where
-      -- the rank of a point whose pixel the edge meets is in its span
-      rank_in_span : (k : ℕ) (v : Point) → IsAt vs k v → meets_pixel (ends_of e) v ≡ true → (low ≤ k) × (k < high)
-      rank_in_span k v at_v meets = let x = met_amid e v forward meets in spans.all k v at_v x.0 x.1
-
-      -- before the strip in which the span begins there is none
-      pub search_begun : (at : ℕ) → at % width ≡ 0 → at ≤ low → AreRanksBefore vs e ss at []
-      search_begun at begun before = record {
+    module _ (forward : e.a.x ≤ℤ e.b.x) where
+      -- before the strip in which the edge's span begins there is none
+      pub search_begun : (low at : ℕ) → AreLeftBefore vs e.a.x low → at % width ≡ 0 → at ≤ low →
+          AreRanksBefore vs e ss at []
+      search_begun low at lefts begun before = record {
         within = λ k has. absurd (omega (arith, has.1));
         all = λ k s v less at_s at_v meets.
             let first = place_before at k s begun at_s less in
-            let past = (rank_in_span s.first v at_v meets).0 in
-            absurd (omega (arith, first, past, before));
+            let left = lefts.left s.first v (omega (arith, first, before)) at_v in
+            let past = (met_amid e v forward meets).0 in
+            absurd (omega (linear, left, past));
       }
 
       -- where all strips of the span have been searched the ranks are found
-      pub search_done : (at : ℕ) (ranks : List ℕ) → high ≤ at → IsStripEnd width (length vs) at →
+      pub search_done : (at : ℕ) (ranks : List ℕ) → AreRightFrom vs e.b.x at → IsStripEnd width (length vs) at →
           length ss ≡ length vs →
           AreRanksBefore vs e ss at ranks → AreRanksNear vs e ranks
-      search_done at ranks past ends count found = record {
+      search_done at ranks rights ends count found = record {
         within = found.within;
         all = λ k v at_v meets.
             let has = extent_there extent_of_point vs ss by_strips.permutation k v at_v in
-            let less : k < at = (let inside = (rank_in_span k v at_v meets).1 in omega (arith, inside, past)) in
+            let less : k < at = ⊎_elim (λ (lt : k < at). lt)
+            (λ (past : at ≤ k). absurd (let right = rights k v past at_v in
+            let up_to = (met_amid e v forward meets).1 in omega (linear, right, up_to))) (cases_lt k at) in
             found.all has.0 (extent_of_point v k) v (stands has.0 k v (has.1, has.2) less) (has.1, has.2) at_v meets;
       }
         where

@@ -1,9 +1,10 @@
 -- The hot points of a list of edges in their order, and a search for those whose pixels an edge meets.
-use Rattle.std.specs.Prelude.{◌≡◌, ℕ, ◌<◌, ◌≤◌, true, pos, ◌≤ℤ◌, List, ◌++◌, map, length, slice_index_or}
+use Rattle.std.specs.Prelude.{◌≡◌, ◌⊎◌, ℕ, ◌<◌, ◌≤◌, true, ℤ, pos, ◌<ℤ◌, List, [], ◌++◌, map, length, slice_index_or}
 use Rattle.std.specs.Prelude.{AllPairs, Contains}
 use Rattle.overlay_geom.specs.Plane.{Point, point_lt}
 use Rattle.overlay_geom.specs.Edges.{CountedEdge, ends_of}
 use Rattle.overlay_plane.specs.SnapPoints.{hot_points, meets_pixel}
+use Rattle.overlay_arrange.specs.Extents.{Extent, ArePointsByStrips}
 use Rattle.overlay_arrange.specs.Meetings.{Meeting, IsAt, IsEndOrMet}
 
 -- the two lists have equal members
@@ -22,22 +23,28 @@ pub record AreHotPoints (es : List CountedEdge) (vs : List Point) : Type 0 where
 
 -- ---- searching
 
--- `First` holds of each of the first k entries, and `Rest` of each entry after them
-pub record IsSplitAt {X : Type 0} (First Rest : X → Type 0) (xs : List X) (k : ℕ) : Type 0 where
-  pub within : k ≤ length xs
-  pub before : (j : ℕ) (x : X) → j < k → IsAt xs j x → First x
-  pub from : (j : ℕ) (x : X) → k ≤ j → IsAt xs j x → Rest x
+-- the first k points lie left of x
+pub record AreLeftBefore (vs : List Point) (x : ℤ) (k : ℕ) : Type 0 where
+  pub within : k ≤ length vs
+  pub left : (j : ℕ) (v : Point) → j < k → IsAt vs j v → v.x <ℤ x
 
--- each point whose x-coordinate lies within those of the edge e has a rank from `low` to below `high`
-pub record IsSpanOf (vs : List Point) (e : CountedEdge) (low high : ℕ) : Type 0 where
-  pub ordered : low ≤ high
-  pub within : high ≤ length vs
-  pub all : (k : ℕ) (v : Point) → IsAt vs k v → e.a.x ≤ℤ v.x → v.x ≤ℤ e.b.x → (low ≤ k) × (k < high)
+-- the points from rank k on lie right of x
+abbrev pub AreRightFrom : List Point → ℤ → ℕ → Type 0
+AreRightFrom vs x k = (j : ℕ) (v : Point) → k ≤ j → IsAt vs j v → x <ℤ v.x
+
+-- they are the boxes of the points in strips, or there are none yet
+abbrev pub AreStripsIfAny : List Point → ℕ → List Extent → Type 0
+AreStripsIfAny vs width ss = (ss ≡ []) ⊎ ArePointsByStrips vs width ss
 
 -- ranks of points, including each point whose pixel the edge e meets
 pub record AreRanksNear (vs : List Point) (e : CountedEdge) (ranks : List ℕ) : Type 0 where
   pub within : (k : ℕ) → Contains ranks k → k < length vs
   pub all : (k : ℕ) (v : Point) → IsAt vs k v → meets_pixel (ends_of e) v ≡ true → Contains ranks k
+
+-- points of vs alone, and each of them whose pixel the edge e meets
+pub record AreMetAmong (vs : List Point) (e : CountedEdge) (us : List Point) : Type 0 where
+  pub within : (v : Point) → Contains us v → Contains vs v
+  pub all : (v : Point) → Contains vs v → meets_pixel (ends_of e) v ≡ true → Contains us v
 
 -- the points at the ranks
 abbrev pub points_at : List Point → List ℕ → List Point

@@ -1,18 +1,19 @@
 //! The whole points through which snap rounding leads the edges of a list: the hot points whose pixels they meet.
 
-ghost use Rattle.std.specs.Prelude.{◌≡◌, ◌∷◌, [], ◌<◌, ◌<ℤ◌, ◌≤ℤ◌, All, length, IfOk, OnOk, IsOkUnless};
+ghost use Rattle.std.specs.Prelude.{◌≡◌, ◌∷◌, [], ◌+◌, ◌<◌, ◌≤◌, All, length, IsTrue, false};
+ghost use Rattle.std.specs.Prelude.{slice_range, IfOk, OnOk, IsOkUnless};
 ghost use Rattle.overlay_geom.specs.Points.{plain_point, plain_points};
 ghost use Rattle.overlay_arrange.specs.Content.{plain_edge, plain_edges, IsHeld};
 ghost use Rattle.overlay_arrange.specs.Extents.{plain_extents, ArePointsByStrips};
-ghost use Rattle.overlay_arrange.specs.HotPoints.{points_at, AddsMet, AreHotPoints, ArePointsAscending, AreRanksNear};
-ghost use Rattle.overlay_arrange.specs.HotPoints.{IsSpanOf, IsSplitAt};
+ghost use Rattle.overlay_arrange.specs.HotPoints.{points_at, AddsMet, AreHotPoints, AreLeftBefore, AreMetAmong};
+ghost use Rattle.overlay_arrange.specs.HotPoints.{ArePointsAscending, AreRanksNear, AreRightFrom, AreStripsIfAny};
 ghost use Rattle.overlay_arrange.specs.Meetings.{plain_meetings, AreByPlace};
 ghost use Rattle.overlay_arrange.specs.SnapMeetings.{AreSnapMeetings};
 
 use crate::count::EdgeCount;
 use crate::crossing::is_end_of;
 use crate::edge::CountedEdge;
-use crate::extents::Extent;
+use crate::extents::{Extent, is_less};
 use crate::meetings::Meeting;
 use crate::near::on_by;
 use crate::pixel::meets_pixel;
@@ -22,6 +23,9 @@ use overlay_geom::error::OverlayError;
 use overlay_geom::number::IntNumber;
 use overlay_geom::point::IntPoint;
 use std::alloc::Allocator;
+
+// Number of points in the span of an edge up to which they are tested one by one; more are searched by strips.
+const FEW: usize = 16;
 
 /// Returns the hot points whose pixels each edge meets, as its meetings, sorted by the places of the edges. An edge's
 /// own ends are left out. The only refusal is `Memory`.
@@ -39,17 +43,91 @@ pub(crate) fn gather_snapped<I: IntNumber, C: EdgeCount, A: Allocator + Clone>(
 {
     // (a quarter as wide as strips of edges)
     let width = strip_width(length_of_spans(edges, hot) / 16);
-    let strips = points_by_strips(alloc.clone()?, hot, width)?;
+    let mut strips = Vec::new(alloc.clone()?);
     let mut near = Vec::new(alloc.clone()?);
     let mut points = Vec::new(alloc.clone()?);
     let mut meetings = Vec::new(alloc);
+    let mut low = 0;
+    // (strips do not pay for a few long spans)
+    let mut spare = hot.len();
     for i in 0..edges.len() {
         let e = &edges[i];
-        find_ranks(&mut near, hot, width, &strips, e)?;
-        take_points(&mut points, hot, &near)?;
+        low = count_left_of(hot, e.a.x, low);
+        take_near(
+            &mut points,
+            &mut near,
+            &mut strips,
+            hot,
+            width,
+            e,
+            low,
+            spare,
+        )?;
         push_snapped(&mut meetings, i, e, &points)?;
+        spare = spare_behind(spare, !strips.is_empty(), points.len());
     }
     Ok(meetings)
+}
+
+/// Returns how many points beyond `FEW` an edge may still test, all edges together, after one that tested `count`. It
+/// is nothing once strips are made.
+fn spare_behind(spare: usize, has_strips: bool, count: usize) -> usize {
+    if has_strips {
+        0
+    } else {
+        spare.saturating_sub(count.saturating_sub(FEW))
+    }
+}
+
+/// Replaces the list by points among which those stand whose pixels the edge meets: all in its span, if there are at
+/// most `FEW` and `spare` of them, or those that strips find. The first `low` points lie left of the edge.
+fn take_near<I: IntNumber, C: EdgeCount, A: Allocator + Clone>(
+    points: &mut Vec<IntPoint<I>, A>,
+    near: &mut Vec<usize, A>,
+    strips: &mut Vec<Extent<I>, A>,
+    hot: &[IntPoint<I>],
+    width: usize,
+    e: &CountedEdge<I, C>,
+    low: usize,
+    spare: usize,
+) -> Result<(), OverlayError>
+    requires some { 0 < width }
+    requires one { IsHeld I.limit (plain_edge I.whole C.counts e.now) }
+    requires ascending { ArePointsAscending (plain_points I.whole hot.now) }
+    requires strips { AreStripsIfAny (plain_points I.whole hot.now) width (plain_extents I.whole strips.old.items) }
+    requires left { AreLeftBefore (plain_points I.whole hot.now) (I.whole e.now.a.x) low }
+    ensures ok { OnOk result (AreMetAmong (plain_points I.whole hot.now) (plain_edge I.whole C.counts e.now)
+        (plain_points I.whole points.new.items)) }
+    ensures strips { OnOk result
+        (AreStripsIfAny (plain_points I.whole hot.now) width (plain_extents I.whole strips.new.items)) }
+    ensures err { IsOkUnless result OverlayError.Memory }
+{
+    let high = place_up_to(hot, e.b.x, low, spare.saturating_add(FEW));
+    if goes_on(hot, e.b.x, high) {
+        make_strips(strips, hot, width)?;
+        find_ranks(near, hot, width, strips, e, low)?;
+        take_points(points, hot, near)
+    } else {
+        take_range(points, hot, low, high)
+    }
+}
+
+/// Makes the strips of the points, unless they are made already.
+fn make_strips<I: IntNumber, A: Allocator + Clone>(
+    strips: &mut Vec<Extent<I>, A>,
+    hot: &[IntPoint<I>],
+    width: usize,
+) -> Result<(), OverlayError>
+    requires some { 0 < width }
+    requires strips { AreStripsIfAny (plain_points I.whole hot.now) width (plain_extents I.whole strips.old.items) }
+    ensures ok { OnOk result
+        (ArePointsByStrips (plain_points I.whole hot.now) width (plain_extents I.whole strips.new.items)) }
+    ensures err { IsOkUnless result OverlayError.Memory }
+{
+    if strips.is_empty() {
+        *strips = points_by_strips(strips.allocator().clone()?, hot, width)?;
+    }
+    Ok(())
 }
 
 /// Returns the total number of points neither left nor right of an edge, over a sample of edges at equal distances. It
@@ -57,71 +135,107 @@ pub(crate) fn gather_snapped<I: IntNumber, C: EdgeCount, A: Allocator + Clone>(
 fn length_of_spans<I: IntNumber, C: EdgeCount>(
     edges: &[CountedEdge<I, C>],
     hot: &[IntPoint<I>],
-) -> usize
-    requires held { All (IsHeld I.limit) (plain_edges I.whole C.counts edges.now) }
-    requires ascending { ArePointsAscending (plain_points I.whole hot.now) }
-{
+) -> usize {
     let distance = (edges.len() / SAMPLES).saturating_add(1);
     let mut length: usize = 0;
     for k in 0..SAMPLES {
         let i = k.saturating_mul(distance);
         if i < edges.len() {
-            let (low, high) = span_of(hot, &edges[i]);
-            length = length.saturating_add(high - low);
+            length = length.saturating_add(length_of_span(hot, &edges[i]));
         }
     }
     length
 }
 
+/// Returns the number of points neither left nor right of the edge. It only serves as an estimate.
+fn length_of_span<I: IntNumber, C: EdgeCount>(hot: &[IntPoint<I>], e: &CountedEdge<I, C>) -> usize {
+    let low = hot.partition_point(|v| v.x.compare(e.a.x).is_lt());
+    let high = hot.partition_point(|v| v.x.compare(e.b.x).is_le());
+    high.saturating_sub(low)
+}
+
+/// Returns the number of points left of x, which come before all others. It is fast if `from` is little less.
+fn count_left_of<I: IntNumber>(hot: &[IntPoint<I>], x: I, from: usize) -> usize
+    requires { ArePointsAscending (plain_points I.whole hot.now) }
+    ensures { AreLeftBefore (plain_points I.whole hot.now) (I.whole x) result }
+{
+    let mut at = if is_behind_left(hot, x, from) {
+        from
+    } else {
+        0
+    };
+    while at < hot.len() && is_less(hot[at].x, x) {
+        at += 1;
+    }
+    at
+}
+
+/// Returns whether there is a point before the rank, and it lies left of x.
+fn is_behind_left<I: IntNumber>(hot: &[IntPoint<I>], x: I, rank: usize) -> bool
+    requires { ArePointsAscending (plain_points I.whole hot.now) }
+    ensures { IsTrue result → AreLeftBefore (plain_points I.whole hot.now) (I.whole x) rank }
+{
+    0 < rank && is_left(hot, x, rank - 1)
+}
+
+/// Returns whether there is a point at the rank, and it lies left of x.
+fn is_left<I: IntNumber>(hot: &[IntPoint<I>], x: I, rank: usize) -> bool
+    requires { ArePointsAscending (plain_points I.whole hot.now) }
+    ensures { IsTrue result → AreLeftBefore (plain_points I.whole hot.now) (I.whole x) (rank + 1) }
+{
+    rank < hot.len() && is_less(hot[rank].x, x)
+}
+
+/// Returns the rank, from `from` on, of the first point that lies right of x, or a lower rank if `most` points come
+/// before it.
+fn place_up_to<I: IntNumber>(hot: &[IntPoint<I>], x: I, from: usize, most: usize) -> usize
+    requires { from ≤ length hot.now }
+    ensures ordered { from ≤ result }
+    ensures within { result ≤ length hot.now }
+{
+    let end = on_by(from, most, hot.len());
+    let mut at = from;
+    while at < end && !is_less(x, hot[at].x) {
+        at += 1;
+    }
+    at
+}
+
+/// Returns whether there is a point at the rank, and it does not lie right of x.
+fn goes_on<I: IntNumber>(hot: &[IntPoint<I>], x: I, rank: usize) -> bool
+    requires { ArePointsAscending (plain_points I.whole hot.now) }
+    ensures within { IsTrue result → rank < length hot.now }
+    ensures right { (result ≡ false) → AreRightFrom (plain_points I.whole hot.now) (I.whole x) rank }
+{
+    rank < hot.len() && !is_less(x, hot[rank].x)
+}
+
 /// Finds the ranks of the hot points whose pixels the edge may meet: in each strip of its span, those near its line.
+/// The first `low` points lie left of the edge.
 fn find_ranks<I: IntNumber, C: EdgeCount, A: Allocator>(
     near: &mut Vec<usize, A>,
     hot: &[IntPoint<I>],
     width: usize,
     strips: &[Extent<I>],
     e: &CountedEdge<I, C>,
+    low: usize,
 ) -> Result<(), OverlayError>
     requires one { IsHeld I.limit (plain_edge I.whole C.counts e.now) }
     requires ascending { ArePointsAscending (plain_points I.whole hot.now) }
     requires strips { ArePointsByStrips (plain_points I.whole hot.now) width (plain_extents I.whole strips.now) }
+    requires left { AreLeftBefore (plain_points I.whole hot.now) (I.whole e.now.a.x) low }
     ensures ok { OnOk result (AreRanksNear
         (plain_points I.whole hot.now) (plain_edge I.whole C.counts e.now) near.new.items) }
     ensures err { IsOkUnless result OverlayError.Memory }
 {
-    let (low, high) = span_of(hot, e);
     near.clear();
     let mut at = low / width * width;
-    while at < high {
+    while goes_on(hot, e.b.x, at) {
         let end = on_by(at, width, hot.len());
         push_run(near, strips, e, hot[at].x, hot[end - 1].x, at, end)?;
         at = end;
     }
     Ok(())
-}
-
-/// Returns the range of ranks of the points that lie neither left nor right of the edge.
-fn span_of<I: IntNumber, C: EdgeCount>(hot: &[IntPoint<I>], e: &CountedEdge<I, C>) -> (usize, usize)
-    requires one { IsHeld I.limit (plain_edge I.whole C.counts e.now) }
-    requires ascending { ArePointsAscending (plain_points I.whole hot.now) }
-    ensures { IsSpanOf (plain_points I.whole hot.now) (plain_edge I.whole C.counts e.now) result.0 result.1 }
-{
-    (count_left_of(hot, e.a.x), count_up_to(hot, e.b.x))
-}
-
-/// Returns the number of points left of x, which come before all others.
-fn count_left_of<I: IntNumber>(hot: &[IntPoint<I>], x: I) -> usize
-    requires { ArePointsAscending (plain_points I.whole hot.now) }
-    ensures { IsSplitAt (λ v. v.x <ℤ I.whole x) (λ v. I.whole x ≤ℤ v.x) (plain_points I.whole hot.now) result }
-{
-    hot.partition_point(|v| v.x.compare(x).is_lt())
-}
-
-/// Returns the number of points not right of x.
-fn count_up_to<I: IntNumber>(hot: &[IntPoint<I>], x: I) -> usize
-    requires { ArePointsAscending (plain_points I.whole hot.now) }
-    ensures { IsSplitAt (λ v. v.x ≤ℤ I.whole x) (λ v. I.whole x <ℤ v.x) (plain_points I.whole hot.now) result }
-{
-    hot.partition_point(|v| v.x.compare(x).is_le())
 }
 
 /// Replaces the list by the points at the ranks. These lie far apart in memory, so one loop that only reads them lets
@@ -141,6 +255,24 @@ fn take_points<I: IntNumber, A: Allocator>(
         let rank = ranks[k];
         points.push(hot[rank])?;
     }
+    Ok(())
+}
+
+/// Replaces the list by the points of a range of ranks.
+fn take_range<I: IntNumber, A: Allocator>(
+    points: &mut Vec<IntPoint<I>, A>,
+    hot: &[IntPoint<I>],
+    low: usize,
+    high: usize,
+) -> Result<(), OverlayError>
+    requires ordered { low ≤ high }
+    requires within { high ≤ length hot.now }
+    ensures ok { OnOk result (plain_points I.whole points.new.items
+        ≡ slice_range (plain_points I.whole hot.now) low high) }
+    ensures err { IsOkUnless result OverlayError.Memory }
+{
+    points.clear();
+    points.extend_from_slice(&hot[low..high])?;
     Ok(())
 }
 

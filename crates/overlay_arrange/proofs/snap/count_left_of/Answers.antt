@@ -1,19 +1,15 @@
--- The test passes for the first points alone.
-use Rattle.std.proofs.Common.{◌≡◌, rules}
-use Rattle.std.specs.Ordering.{is_lt, int_cmp}
-use Rattle.std.proofs.Common.{◌∙◌}
-use Rattle.std.proofs.lemmas.List.Sorted.{IsPartitionPoint-from_clause}
-use Rattle.overlay_geom.proofs.Comparisons.{is_lt-int_cmp}
-use Rattle.overlay_arrange.proofs.HotRanks.{is_left, left-parted, split_left}
+-- One more point lies left of x.
+use Rattle.std.proofs.Common.{◌<ℤ◌, get_or, sym, ◌∙◌, subst}
+use Rattle.overlay_geom.specs.declared.point.IntPoint.{IntPoint}
+use Rattle.overlay_plane.proofs.Tests.{lt_from_test}
+use Rattle.overlay_arrange.proofs.HotRanks.{left_up_to}
 use Rattle.overlay_arrange.proofs.snap.count_left_of.Goals as goal
 
-pub returns : goal.returns
-returns g c =
+pub loop-at-preserved : goal.loop-at-preserved
+loop-at-preserved g c =
     let whole = g.I.IntNumber.whole in
-    let vs = c.args.hot.now in
-    let x = whole c.args.x in
-    split_left whole vs c.requires x c.partition_point.result c.partition_point.ensures.bound
-    (IsPartitionPoint-from_clause (is_left whole vs c.requires x) _ _ c.partition_point.ensures.partitioned
-    (left-parted whole vs c.requires x) (λ a r q k.
-    let answer : r ≡ is_lt (int_cmp (whole a.0.now.x) x) = search rules in
-    (answer ∙ is_lt-int_cmp (whole a.0.now.x) x, search rules)))
+    let v = c.index-hot-at.result in
+    left_up_to whole c.args.hot.now c.requires (whole c.args.x) c.loop-at.at v c.loop-at-test.true c.index-hot-at.is
+    (subst (λ (u : IntPoint _). whole u.x <ℤ whole c.args.x) (sym c.index-hot-at.is)
+    (lt_from_test (whole (get_or c.args.hot.now c.loop-at.at v).x) (whole c.args.x)
+    (sym c.is_less.ensures ∙ c.if-is_less.true)))

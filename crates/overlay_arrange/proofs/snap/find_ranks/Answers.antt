@@ -16,23 +16,21 @@ use Rattle.overlay_arrange.proofs.RankSearches.{AreRanksBefore, IsStripEnd, sear
 use Rattle.overlay_arrange.proofs.RankSearches.{strip_upwards}
 use Rattle.overlay_arrange.proofs.snap.find_ranks.Goals as goal
 
-pub loop-at-init : goal.loop-at-init
-loop-at-init g c =
+pub loop-end-init : goal.loop-end-init
+loop-end-init g c =
     let whole = g.I.IntNumber.whole in
     let vs = plain_points whole c.args.hot.now in
     let e = plain_edge whole g.C.EdgeCount.counts c.args.e.now in
     let width = c.args.width in
-    let low = c.span_of-low.result.0 in
-    let high = c.span_of-low.result.1 in
+    let low = c.args.low in
     let start = low / width * width in
     let count = length-map c.args.hot.now (plain_point whole) in
     let before : start ≤ low = div-mul-le_self low width in (
-      (let ordered = c.span_of-low.ensures.ordered in let up_to = c.span_of-low.ensures.within in
-          omega (arith, before, ordered, up_to, count)),
+      (let up_to = c.requires.left.within in omega (arith, before, up_to, count)),
       inl (mul-mod_left (low / width) width),
       subst (AreRanksBefore vs e (plain_extents whole c.args.strips.now) start) (sym c.clear.ensures.items)
-          (search_begun vs e width (plain_extents whole c.args.strips.now) c.requires.strips low high
-          ((Decides-point_lt e.a e.b).0 c.requires.one.forward).x c.span_of-low.ensures start
+          (search_begun vs e width (plain_extents whole c.args.strips.now) c.requires.strips
+          ((Decides-point_lt e.a e.b).0 c.requires.one.forward).x low start c.requires.left
           (mul-mod_left (low / width) width) before),
     )
 
@@ -49,39 +47,37 @@ push_run-requires-clause-within g c =
     omega (arith, up_to, of_points, of_strips, moved, count)
 
 -- the place looked at begins a strip
-begins : (width all at high : ℕ) → IsStripEnd width all at → at < high → high ≤ all → at % width ≡ 0
-begins width all at high ends less within = ⊎_elim (λ begun. begun)
-    (λ (is : at ≡ all). absurd (omega (arith, is, less, within))) ends
+begins : (width all at : ℕ) → IsStripEnd width all at → at < all → at % width ≡ 0
+begins width all at ends less = ⊎_elim (λ begun. begun) (λ (is : at ≡ all). absurd (omega (arith, is, less))) ends
 
 pub push_run-requires-clause-upwards : goal.push_run-requires-clause-upwards
 push_run-requires-clause-upwards g c =
     let whole = g.I.IntNumber.whole in
     let vs = plain_points whole c.args.hot.now in
-    let at = c.loop-at.at in
+    let at = c.loop-end.at in
     let count = length-map c.args.hot.now (plain_point whole) in
     strip_upwards vs (plain_edge whole g.C.EdgeCount.counts c.args.e.now) c.args.width
     (plain_extents whole c.args.strips.now) c.requires.strips at c.on_by-end.result
-    (begins c.args.width (length vs) at c.span_of-low.result.1 c.loop-at.invariant.1 c.loop-at-test.true
-    c.span_of-low.ensures.within)
+    (begins c.args.width (length vs) at c.loop-end.invariant.1
+    (let less = c.goes_on.ensures.within c.loop-end-test.true in omega (arith, less, count)))
     (⊎_elim (λ (all : c.on_by-end.result ≡ length c.args.hot.now). inl (omega (arith, all, count))) (λ next. inr next)
     c.on_by-end.ensures.ends) c.on_by-end.ensures.no_further
 
-pub loop-at-preserved : goal.loop-at-preserved
-loop-at-preserved g c =
+pub loop-end-preserved : goal.loop-end-preserved
+loop-end-preserved g c =
     let whole = g.I.IntNumber.whole in
     let hot = c.args.hot.now in
     let vs = plain_points whole hot in
     let e = plain_edge whole g.C.EdgeCount.counts c.args.e.now in
     let ss = plain_extents whole c.args.strips.now in
     let width = c.args.width in
-    let at = c.loop-at.at in
+    let at = c.loop-end.at in
     let end = c.on_by-end.result in
     let count = length-map hot (plain_point whole) in
-    let less = c.loop-at-test.true in
-    let begun = begins width (length vs) at c.span_of-low.result.1 c.loop-at.invariant.1 less
-    c.span_of-low.ensures.within in
+    let less = c.goes_on.ensures.within c.loop-end-test.true in
+    let begun = begins width (length vs) at c.loop-end.invariant.1 (omega (arith, less, count)) in
     let up_to = c.on_by-end.ensures.up_to in
-    let added : ℤ → ℤ → Type 0 = λ left right. AddsRun left right e ss at end c.loop-at.near.items
+    let added : ℤ → ℤ → Type 0 = λ left right. AddsRun left right e ss at end c.loop-end.near.items
     c.push_run.new.near.items in
     let adds = subst (λ (a : IntPoint _). added (whole a.x) (whole c.index-hot-end.result.x)) (sym c.index-hot-at.is)
     (subst (λ (b : IntPoint _). added (whole (get_or hot at c.index-hot-at.result).x) (whole b.x))
@@ -92,10 +88,10 @@ loop-at-preserved g c =
       ⊎_elim (λ (all : end ≡ length vs). inr all)
           (λ (next : end ≡ at + width). inl (ap (λ n. n % width) next ∙ add-mod_right at width ∙ begun)) ends,
       strip_searched vs e width ss c.requires.strips at end begun ends (whole c.index-hot-at.result.x)
-          (whole c.index-hot-end.result.x) c.loop-at.near.items c.push_run.new.near.items adds
+          (whole c.index-hot-end.result.x) c.loop-end.near.items c.push_run.new.near.items adds
           (λ k v past inside at_v. amid_points whole hot c.requires.ascending at k (end - 1) c.index-hot-at.result
           c.index-hot-end.result v past (omega (arith, inside)) (omega (arith, up_to, inside)) c.index-hot-at.is
-          c.index-hot-end.is at_v) c.loop-at.invariant.2,
+          c.index-hot-end.is at_v) c.loop-end.invariant.2,
     )
 
 pub returns-clause-ok : goal.returns-clause-ok
@@ -104,8 +100,7 @@ returns-clause-ok g c =
     let vs = plain_points whole c.args.hot.now in
     let e = plain_edge whole g.C.EdgeCount.counts c.args.e.now in
     let ss = plain_extents whole c.args.strips.now in
-    search_done vs e c.args.width ss c.requires.strips c.span_of-low.result.0 c.span_of-low.result.1
-    ((Decides-point_lt e.a e.b).0 c.requires.one.forward).x c.span_of-low.ensures c.loop-at.at c.loop-at.near.items
-    c.loop-at-test.false c.loop-at.invariant.1
+    search_done vs e c.args.width ss c.requires.strips ((Decides-point_lt e.a e.b).0 c.requires.one.forward).x
+    c.loop-end.at c.loop-end.near.items (c.goes_on.ensures.right c.loop-end-test.false) c.loop-end.invariant.1
     (length_permutation (extents_of_points vs) ss c.requires.strips.permutation ∙ as_many_placed extent_of_point vs)
-    c.loop-at.invariant.2
+    c.loop-end.invariant.2

@@ -6,13 +6,13 @@ use Rattle.overlay_arrange.specs.Extents.{plain_extents}
 use Rattle.overlay_arrange.proofs.RankSearches.{AreRanksBefore, IsStripEnd}
 use Rattle.overlay_arrange.proofs.snap.find_ranks.Given as goal
 
-abbrev pub invariant-loop-at : goal.invariant-loop-at
-invariant-loop-at g l =
+abbrev pub invariant-loop-end : goal.invariant-loop-end
+invariant-loop-end g l =
     let whole = g.I.IntNumber.whole in
     (l.at ≤ length l.hot)
     × IsStripEnd l.width (length (plain_points whole l.hot)) l.at
     × AreRanksBefore (plain_points whole l.hot) (plain_edge whole g.C.EdgeCount.counts l.e)
     (plain_extents whole l.strips) l.at l.near.items
 
-abbrev pub decreases-loop-at : goal.decreases-loop-at
-decreases-loop-at g l = length l.hot - l.at
+abbrev pub decreases-loop-end : goal.decreases-loop-end
+decreases-loop-end g l = length l.hot - l.at

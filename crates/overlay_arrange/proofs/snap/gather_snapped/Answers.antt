@@ -1,42 +1,25 @@
 -- Each edge adds its points.
-use Rattle.std.proofs.Common.{◌<◌, List, Contains, length, sym, ap, ◌∙◌, subst, arith}
+use Rattle.std.proofs.Common.{List, ap, subst, arith}
 use Rattle.std.proofs.lemmas.List.{length-map}
 use Rattle.overlay_geom.specs.Plane.{Point}
-use Rattle.overlay_geom.specs.Points.{plain_point, plain_points}
+use Rattle.overlay_geom.specs.Points.{plain_points}
 use Rattle.overlay_geom.proofs.Mapped.{All-mapped_at}
-use Rattle.overlay_plane.proofs.Entries.{all_of_entries}
 use Rattle.overlay_arrange.specs.Content.{plain_edge, plain_edges, IsHeld}
-use Rattle.overlay_arrange.specs.Extents.{plain_extents, ArePointsByStrips}
-use Rattle.overlay_arrange.specs.HotPoints.{points_at, AddsMet}
+use Rattle.overlay_arrange.specs.HotPoints.{AddsMet}
 use Rattle.overlay_arrange.specs.Meetings.{plain_meetings}
 use Rattle.overlay_arrange.proofs.GatheredMeetings.{placed_in_mapped}
 use Rattle.overlay_arrange.proofs.GatheredPixels.{all_snapped, by_place_more, one_snapped}
 use Rattle.overlay_arrange.proofs.snap.gather_snapped.Goals as goal
 
-pub find_ranks-requires-clause-one : goal.find_ranks-requires-clause-one
-find_ranks-requires-clause-one g c =
+pub take_near-requires-clause-one : goal.take_near-requires-clause-one
+take_near-requires-clause-one g c =
     All-mapped_at (IsHeld g.I.IntNumber.limit) (plain_edge g.I.IntNumber.whole g.C.EdgeCount.counts) c.args.edges.now
     c.loop-i.i c.index-edges-i.result c.loop-i-test.true c.index-edges-i.is c.requires.held
-
-pub find_ranks-requires-clause-strips : goal.find_ranks-requires-clause-strips
-find_ranks-requires-clause-strips g c =
-    let whole = g.I.IntNumber.whole in
-    let vs = plain_points whole c.args.hot.now in
-    subst (λ ss. ArePointsByStrips vs c.strip_width-width.result (plain_extents whole ss))
-    (sym c.deref.ensures.value) c.in_ok-strips.ensures.ok
 
 pub push_snapped-requires : goal.push_snapped-requires
 push_snapped-requires g c =
     All-mapped_at (IsHeld g.I.IntNumber.limit) (plain_edge g.I.IntNumber.whole g.C.EdgeCount.counts) c.args.edges.now
     c.loop-i.i c.index-edges-i.result c.loop-i-test.true c.index-edges-i.is c.requires.held
-
-pub take_points-requires : goal.take_points-requires
-take_points-requires g c =
-    all_of_entries (λ k. k < length c.args.hot.now) c.deref-in-loop-i.result.now
-    (λ k at. let l = length-map c.args.hot.now (plain_point g.I.IntNumber.whole) in
-    let has = subst (λ ks. Contains ks k) c.deref-in-loop-i.ensures.value at in
-    let less = c.in_ok-find_ranks.ensures.ok.within k has in
-    omega (arith, l, less))
 
 pub loop-i-preserved : goal.loop-i-preserved
 loop-i-preserved g c =
@@ -46,15 +29,15 @@ loop-i-preserved g c =
     let vs = plain_points whole c.args.hot.now in
     let i = c.loop-i.i in
     let e = plain c.index-edges-i.result in
-    let near = c.find_ranks.new.near.items in
     let at_e = placed_in_mapped plain c.args.edges.now i c.index-edges-i.result c.loop-i-test.true
     c.index-edges-i.is in
+    let us = plain_points whole c.take_near.new.points.items in
     let adds = subst (λ (us : List Point). AddsMet i e us (plain_meetings whole c.loop-i.meetings.items)
-    (plain_meetings whole c.push_snapped.new.meetings.items))
-    (ap (plain_points whole) c.deref-in-loop-i-2.ensures.value ∙ c.in_ok-take_points.ensures.ok
-    ∙ ap (points_at vs) c.deref-in-loop-i.ensures.value) c.in_ok-push_snapped.ensures.ok in (
-      one_snapped es vs i e at_e near c.in_ok-find_ranks.ensures.ok c.loop-i.invariant.0 adds,
-      by_place_more es vs i e at_e near c.in_ok-find_ranks.ensures.ok c.loop-i.invariant.0 adds c.loop-i.invariant.1,
+    (plain_meetings whole c.push_snapped.new.meetings.items)) (ap (plain_points whole) c.deref.ensures.value)
+    c.in_ok-push_snapped.ensures.ok in (
+      one_snapped es vs i e at_e us c.in_ok-take_near.ensures.ok c.loop-i.invariant.0 adds,
+      by_place_more es vs i e at_e us c.in_ok-take_near.ensures.ok c.loop-i.invariant.0 adds c.loop-i.invariant.1,
+      c.in_ok-take_near.ensures.strips,
     )
 
 pub returns-clause-ok : goal.returns-clause-ok
