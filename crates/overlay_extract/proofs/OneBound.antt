@@ -12,15 +12,12 @@ use Rattle.overlay_plane.specs.KeptContours.{CanBeBound}
 use Rattle.overlay_plane.specs.RoledContours.{Role, outline, own_hole, free_hole, Contour, is_own_hole_of, is_free_hole}
 use Rattle.overlay_plane.specs.Turn.{Hand}
 use Rattle.overlay_plane.proofs.OneHoleRound.{one_found}
+use Rattle.overlay_extract.proofs.HolesPlaced.{with_shape}
 
 -- two lists have the same at the holes whose shape is to be found
 abbrev pub AgreeAtHoles : List Contour → List (Option ℕ) → List (Option ℕ) → Type 0
 AgreeAtHoles contours shapes others = (i : ℕ) (c : Contour) → slice_get contours i ≡ Some c → c.role ≡ free_hole →
     slice_index_or shapes i None ≡ slice_index_or others i None
-
--- the contour, bound to a shape
-abbrev bound_to : Contour → Option ℕ → BoundContour
-bound_to c shape = record { contour = c; shape = shape }
 
 abbrev steps_in : BoundContour → List Step
 steps_in b = b.contour.steps
@@ -41,7 +38,7 @@ own_alike n (c ∷ cs) (s ∷ ss) (t ∷ ts) l m =
     second = filter (λ b. is_own_hole_of n b.contour.role) (contours_bound cs ts)
 
     by : (b : Bool) → map steps_in first ≡ map steps_in second →
-        map steps_in (cond b (bound_to c s ∷ first) first) ≡ map steps_in (cond b (bound_to c t ∷ second) second)
+        map steps_in (cond b (with_shape c s ∷ first) first) ≡ map steps_in (cond b (with_shape c t ∷ second) second)
     by true same = ap (λ ws. c.steps ∷ ws) same
     by false same = same
 
@@ -62,17 +59,17 @@ found_alike n (c ∷ cs) (s ∷ ss) (t ∷ ts) l m agree =
     second = filter (λ b. is_free_hole b.contour.role && is_number n b.shape) (contours_bound cs ts)
 
     by_test : (b : Bool) → map steps_in first ≡ map steps_in second →
-        map steps_in (cond b (bound_to c s ∷ first) first) ≡ map steps_in (cond b (bound_to c t ∷ second) second)
+        map steps_in (cond b (with_shape c s ∷ first) first) ≡ map steps_in (cond b (with_shape c t ∷ second) second)
     by_test true same = ap (λ ws. c.steps ∷ ws) same
     by_test false same = same
 
     by : (r : Role) → (r ≡ free_hole → s ≡ t) → map steps_in first ≡ map steps_in second →
-        map steps_in (cond (is_free_hole r && is_number n s) (bound_to c s ∷ first) first)
-        ≡ map steps_in (cond (is_free_hole r && is_number n t) (bound_to c t ∷ second) second)
+        map steps_in (cond (is_free_hole r && is_number n s) (with_shape c s ∷ first) first)
+        ≡ map steps_in (cond (is_free_hole r && is_number n t) (with_shape c t ∷ second) second)
     by (outline k) one same = same
     by (own_hole k) one same = same
     by free_hole one same = by_test (is_number n s) same
-        ∙ ap (λ u. map steps_in (cond (is_number n u) (bound_to c t ∷ second) second)) (one refl)
+        ∙ ap (λ u. map steps_in (cond (is_number n u) (with_shape c t ∷ second) second)) (one refl)
 
 module _ (bound others : List BoundContour) (own : (n : ℕ) → own_holes bound n ≡ own_holes others n)
     (found : (n : ℕ) → found_holes bound n ≡ found_holes others n) where
