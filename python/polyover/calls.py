@@ -6,9 +6,9 @@ import warnings
 from typing import Any, Iterable, Literal, NamedTuple, overload
 
 from . import by_library, by_program
-from .contour import room_of, shifted
+from .contour import WholePath, room_of, shifted
 from .errors import BadInput, NotSettled, PolyoverWarning
-from .flat import Flat, FlatShapes, is_whole_path
+from .flat import Flat, FlatShapes, whole_path
 from .shapes import Paths, Shapes
 from .text import FILLS, LOCATIONS, RULES, SNAPPED, SOLVERS, coordinate, items_of, known, whole
 from .told import Told
@@ -70,21 +70,26 @@ def flat_of(paths: list[Any]) -> Flat:
 
 
 def listed(name: str, paths: Any, told: Told | None = None) -> Any:
-    """Lists of points of two members, of a group of paths; arrays of whole points stay. What points have beyond x and y
-    is left out, if it is counted in `told`, and else a fault."""
+    """Lists of points of two members, of a group of paths, and buffers of arrays of whole points. What points have
+    beyond x and y is left out, if it is counted in `told`, and else a fault."""
     if isinstance(paths, Flat):
         return paths
     if not isinstance(paths, (list, tuple)):
         paths = iterated(name, paths, f"a list of {kind_of(name)}s")
-    return [path if is_good(path) else listed_points(name, number, path, told) for number, path in enumerate(paths, 1)]
+    found: list[Any] = []
+    for number, path in enumerate(paths, 1):
+        if isinstance(path, (list, tuple)):
+            found.append(path if are_pairs(path) else listed_points(name, number, path, told))
+        else:
+            buffer = whole_path(path)
+            found.append(listed_points(name, number, path, told) if buffer is None else buffer)
+    return found
 
 
-def is_good(path: Any) -> bool:
-    """Whether a path is an array of whole points, or a list of points of two members."""
-    if not isinstance(path, (list, tuple)):
-        return is_whole_path(path)
+def are_pairs(points: Any) -> bool:
+    """Whether a list has points of two members."""
     try:
-        for _, _ in path:
+        for _, _ in points:
             pass
     except (TypeError, ValueError):
         return False
@@ -95,7 +100,7 @@ def listed_points(name: str, number: int, path: Any, told: Told | None) -> list[
     """The points of a path of another kind."""
     place = place_of(name, number)
     points = iterated(place, path, "a list of points")
-    if is_good(points):
+    if are_pairs(points):
         return points
     return [checked_point(f"{place}, point {at}", point, told) for at, point in enumerate(points, 1)]
 
@@ -238,6 +243,11 @@ def edges(
         return list(asked("edges").edges(subject, clip, fill, solver))
 
 
+def whole_path_of(path: Any) -> WholePath:
+    """The points of a path as ints, in the range."""
+    return [(coordinate(x), coordinate(y)) for x, y in items_of(path)]
+
+
 def relations_as_given(subject: list[Any], clip: list[Any], fill: str, solver: str) -> dict[str, bool]:
     """Returns which relations hold of the arrangement of the contours as they are."""
     return dict(asked("relate").relate(subject, clip, fill, solver))
@@ -252,9 +262,7 @@ def relate(subject: Any, clip: Any, fill: str = "nonzero", *, solver: str = SNAP
     fill, subject, clip = known(FILLS, fill, "fill rule"), listed("subject", subject), listed("clip", clip)
     solver = solver_of(solver)
     with placed(subject=subject, clip=clip):
-        whole_points = [
-            [[(coordinate(x), coordinate(y)) for x, y in items_of(path)] for path in it] for it in (subject, clip)
-        ]
+        whole_points = [[whole_path_of(path) for path in paths] for paths in (subject, clip)]
     finest = power = room_of([path for paths in whole_points for path in paths])
     while True:
         try:

@@ -38,11 +38,6 @@ def row_of(points: memoryview) -> memoryview:
     return points.cast("B").cast("q") if points.nbytes else memoryview(array("q"))
 
 
-def is_whole_path(thing: Any) -> bool:
-    """Whether a thing is such an array."""
-    return whole_path(thing) is not None
-
-
 def checked_buffer(what: str, thing: Any, formats: tuple[str, ...]) -> memoryview:
     """The buffer of an array of numbers of 64 bits, as one row."""
     found = buffer_of(thing)

@@ -237,7 +237,7 @@ class Library:
             if paths.passed is None:
                 paths.passed = Contours(paths.numbers, paths.counts)
             return paths.passed  # type: ignore[no-any-return]
-        buffers = [None if type(path) is list else whole_path(path) for path in paths]
+        buffers = [None if isinstance(path, (list, tuple)) else whole_path(path) for path in paths]
         if any(found is not None for found in buffers):
             return self.joined(paths, buffers)
         numbers: list[Any] = []

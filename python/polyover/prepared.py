@@ -10,8 +10,8 @@ from .library import HeldShape
 from .text import FILLS, LOCATIONS, SNAPPED, known
 
 MISSING = (
-    "no library that has prepared shapes, and the program has none: the library of this version is in the wheel of a "
-    "release, or scripts/build or make -C c builds it"
+    "no library that has prepared shapes, and the program has none: "
+    "the library of this version is in a release's wheel, or scripts/build or make -C c builds it"
 )
 IS_INSIDE = bytes(word == "inside" for word in LOCATIONS).ljust(256, b"\0")
 

@@ -16,6 +16,7 @@ from .numbers import ratio_of
 from .prepared import Prepared
 from .reading import Lines, Polygons, lines_in, polygons_in
 from .shapes import Paths, Shapes
+from .text import items_of
 from .told import Told
 
 Group = Any
@@ -91,7 +92,7 @@ class Scaled:
             return [whole for whole, _ in paths.contours(self.whole_path)]
         if isinstance(paths, Lines):
             return paths.whole(self.whole_path)
-        given = [path if isinstance(path, (list, tuple)) else list(path) for path in paths]
+        given = [path if isinstance(path, (list, tuple)) else list(items_of(path)) for path in paths]
         try:
             points = iter(self.whole_path([point for path in given for point in path]))
             return [list(islice(points, len(path))) for path in given]

@@ -52,11 +52,33 @@ class Arrays(unittest.TestCase):
         for given in (flat([SQUARE]), shapes, shapes.contours):
             self.assertEqual(polyover.Scaled(1).overlay(given), polyover.overlay([SQUARE]))
 
+    def test_buffers_of_two_dimensions(self):
+        bar = memoryview(array("q", [value for point in BAR[0] for value in point])).cast("B").cast("q", (4, 2))
+        self.assertEqual(polyover.overlay(FRAME, [bar], "xor"), polyover.overlay(FRAME, BAR, "xor"))
+        self.assertEqual(polyover.relate(FRAME, [bar.toreadonly()]), polyover.relate(FRAME, BAR))
+        self.assertEqual(polyover.simplify([bar]), polyover.simplify(BAR))
+        self.assertEqual(polyover.locate([bar], bar), ["boundary"] * 4)
+        self.assertEqual(polyover.Scaled(1).overlay([bar]), polyover.overlay(BAR))
+        self.assertEqual(polyover.Scaled(1).locate([bar], bar), ["boundary"] * 4)
+
     def test_an_answer_is_given_again(self):
         shapes = polyover.overlay([SQUARE], [OTHER], "difference", arrays=True)
         joined = polyover.overlay(shapes.contours, [OTHER], "union", arrays=True)
         self.assertEqual(list(joined), polyover.overlay([SQUARE], [OTHER]))
         self.assertEqual(shapes.__geo_interface__, polyover.overlay([SQUARE], [OTHER], "difference").__geo_interface__)
+
+    def test_arrays_that_change(self):
+        given = flat([SQUARE])
+        self.assertEqual(polyover.overlay(given), polyover.overlay([SQUARE]))
+        given.numbers[2] = given.numbers[4] = 8
+        self.assertEqual(list(given), [[(0, 0), (8, 0), (8, 4), (0, 4)]])
+        self.assertEqual(polyover.overlay(given), polyover.overlay([[(0, 0), (8, 0), (8, 4), (0, 4)]]))
+        given.numbers[2] = 2**62
+        for asked in (polyover.overlay, polyover.is_resolved, polyover.edges, polyover.simplify):
+            with self.assertRaisesRegex(polyover.BadInput, "contour 1, point 2: 4611686018427387904 is out of range"):
+                asked(given)
+        with self.assertRaisesRegex(polyover.BadInput, "shape: contour 1, point 2: 4611686018427387904 is out of"):
+            polyover.tiles(given, 1, 1)
 
     def test_faults(self):
         far = array("q", [0, 0, 2**62, 0, 1, 1])
