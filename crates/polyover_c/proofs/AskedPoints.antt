@@ -23,7 +23,15 @@ pub point_read : {I : Type 0} (cs : List I) (n : ℕ) (d : IntPoint I) (x y : I)
 point_read [] n d x y lt first second = absurd (omega (arith, lt))
 point_read (a ∷ []) n d x y lt first second = absurd (omega (arith, lt))
 point_read (a ∷ b ∷ cs) zero d x y lt first second = ap₂ (λ u v. record { x = u; y = v }) (sym first) (sym second)
-point_read (a ∷ b ∷ cs) (suc n) d x y lt first second = point_read cs n d x y (omega (arith, lt)) first second
+point_read (a ∷ b ∷ cs) (suc n) d x y lt first second = point_read cs n d x y (omega (arith, lt))
+    (first ∙ ap (λ k. get_or (a ∷ b ∷ cs) k x) twice) (second ∙ ap (λ k. get_or (a ∷ b ∷ cs) (k + 1) y) twice
+    ∙ ap (λ k. get_or (a ∷ b ∷ cs) k y) behind)
+  where
+    twice : 2 * suc n ≡ suc (suc (2 * n))
+    twice = omega arith
+
+    behind : suc (suc (2 * n)) + 1 ≡ suc (suc (2 * n + 1))
+    behind = omega arith
 
 -- as many coordinates as the places of a point take are there
 pub place_within : {I : Type 0} (cs : List I) (n count : ℕ) → count ≡ length (points_of cs) → n < count →

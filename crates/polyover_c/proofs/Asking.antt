@@ -35,6 +35,16 @@ module _ {I : Type 0} (whole : I → ℤ) (limit : ℕ) (points : List I) (room 
       IsAskingRefused whole limit points room TooSmall
   no_room are short = inr (inr (refl, (are, short)))
 
+  -- ---- how it ends
+
+  pub asked_ends : (p : Parts) (new : List ℕ) → ArePoints whole limit points → HaveRoom points room →
+      AreLocatedIn whole p.edges points room new → AskingEnds whole limit p points room new Done
+  asked_ends p new are has located = inl (refl, (are, (has, located)))
+
+  pub unasked_ends : (p : Parts) (s : Status) → IsAskingRefused whole limit points room s →
+      AskingEnds whole limit p points room room s
+  unasked_ends p s refused = inr (refl, refused)
+
   -- ---- one status
 
   -- points that are told of are not refused

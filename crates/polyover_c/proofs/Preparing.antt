@@ -1,5 +1,5 @@
 -- How preparing ends, and why it is refused.
-use Rattle.std.proofs.Common.{◌≡◌, ◌<◌, ℕ, ℤ, List, map, inl, inr, refl, sym, ap, ◌∙◌, subst}
+use Rattle.std.proofs.Common.{◌≡◌, ◌<◌, ℕ, ℤ, List, [], map, inl, inr, refl, sym, ap, ◌∙◌, subst}
 use Rattle.overlay_arrange.specs.declared.fill_rule.FillRule.{FillRule}
 use Rattle.overlay_arrange.specs.declared.options.ShapeType.TheVariants.{Subject}
 use Rattle.overlay_builder.specs.GivenPaths.{paths_for}
@@ -13,7 +13,7 @@ use Rattle.overlay_relate.specs.declared.blocks.Block.{Block}
 use Rattle.polyover_c.proofs.Asking.{bare_can_be_asked}
 use Rattle.polyover_c.specs.Asked.{fill_of, solver_of}
 use Rattle.polyover_c.specs.Given.{Contours, paths_of, AreGiven}
-use Rattle.polyover_c.specs.Prepared.{Parts, plain_parts, no_parts, CanBeAsked, ArePartsOf, IsPreparingRefused}
+use Rattle.polyover_c.specs.Prepared.{Parts, plain_parts, CanBeAsked, ArePartsOf, IsPreparingRefused}
 use Rattle.polyover_c.specs.Prepared.{PreparingEnds, IsPreparedSo}
 use Rattle.polyover_c.specs.Reading.{HaveFault}
 use Rattle.polyover_c.specs.Statuses.{code_of, status_of_fault, status_of_error}
@@ -40,9 +40,17 @@ module _ {I : Type 0} (whole : I → ℤ) (limit fill solver : ℕ) (given : Con
             ∙ ap (λ gs. plain_parts whole (map edge edges) (map block blocks) (map block gs)) same_groups)) are,
       )
 
-  pub unprepared_ends : (s : Status) → IsPreparingRefused whole limit fill solver given s →
-      PreparingEnds whole limit fill solver given no_parts s
-  unprepared_ends s refused = inr (refl, refused)
+  pub unprepared_ends : {E B : Type 0} (edge : E → IntEdge I) (block : B → Block I) (held : List E)
+      (held_blocks held_groups : List B) (s : Status) → held ≡ [] → held_blocks ≡ [] → held_groups ≡ [] →
+      IsPreparingRefused whole limit fill solver given s →
+      PreparingEnds whole limit fill solver given
+      (plain_parts whole (map edge held) (map block held_blocks) (map block held_groups)) s
+  unprepared_ends edge block held held_blocks held_groups s none no_blocks no_groups refused = inr (
+    ap (λ es. plain_parts whole (map edge es) (map block held_blocks) (map block held_groups)) none
+    ∙ ap (λ bs. plain_parts whole [] (map block bs) (map block held_groups)) no_blocks
+    ∙ ap (λ gs. plain_parts whole [] [] (map block gs)) no_groups,
+    refused,
+  )
 
   pub contours_unprepared : (f : Fault) → fill < 4 → solver < 2 →
       HaveFault whole limit given.coordinates given.ends f →

@@ -16,6 +16,7 @@ use overlay_relate::form::FormOf;
 use overlay_relate::prepared::parts::locate_in;
 
 /// Where each point lies in the prepared shape with these parts, written as a number for each.
+#[tactic(auto, using(crate::proofs::Asking::asked_ends, crate::proofs::Asking::unasked_ends))]
 pub(crate) fn locate_prepared<I: OverlayInt, E: FormOf<IntEdge<I>>, B: FormOf<Block<I>>>(
     parts: &HeldParts<E, B>,
     points: &[I],
@@ -49,7 +50,6 @@ fn tested_room<I: OverlayInt>(points: &[I], locations: &[u8]) -> Result<(), Stat
 }
 
 // Writes the number of each point's location into the first places.
-#[tactic(auto, using(crate::proofs::AskedPoints::place_within, crate::proofs::AskedPoints::none_told))]
 fn write_locations<I: OverlayInt, E: FormOf<IntEdge<I>>, B: FormOf<Block<I>>>(
     parts: &HeldParts<E, B>,
     points: &[I],

@@ -15,7 +15,6 @@ use std::alloc::Global;
 
 /// Hands out the shape that the contours make under the fill rule, prepared to be asked where points lie: the code of a
 /// status. After any but `Done` it has no boundary.
-#[tactic(auto, using(crate::proofs::Preparing::handed_out))]
 #[unsafe(no_mangle)]
 pub extern "C" fn polyover_prepare<'a>(
     alloc: Global,
@@ -62,7 +61,6 @@ pub extern "C" fn polyover_prepared_locate(
 }
 
 /// The same of 32-bit coordinates.
-#[tactic(auto, using(crate::proofs::Preparing::handed_out))]
 #[unsafe(no_mangle)]
 pub extern "C" fn polyover_prepare_32<'a>(
     alloc: Global,

@@ -3,4 +3,4 @@ use Rattle.polyover_c.proofs.Asking.{askings_are_one}
 use Rattle.polyover_c.proofs.laws.one_asking.Goals as goal
 
 pub returns : goal.returns
-returns g c = askings_are_one g.I.whole g.I.limit
+returns g c = askings_are_one g.I.IntNumber.whole g.I.IntNumber.limit
