@@ -1,4 +1,5 @@
--- The points of the contour are written over by themselves reversed; its range stays where it does.
+-- The points of the contour are written over by themselves reversed, and its range stays where it is; or they are
+-- dropped.
 use Rattle.std.proofs.Common.{sym, ap, ◌∙◌, length, arith}
 use Rattle.std.specs.Prelude.{reverse}
 use Rattle.overlay_geom.specs.Flat.{part_in, first_range}
@@ -27,3 +28,6 @@ returns-in-Reversed-clause-no_points g c = λ none.
     let one = c.requires in
     let long = ap length none in
     absurd (omega (arith, one, long))
+
+pub returns-in-NotSimple-clause-no_points : goal.returns-in-NotSimple-clause-no_points
+returns-in-NotSimple-clause-no_points g c = λ none. c.clear.ensures.items
