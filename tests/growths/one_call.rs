@@ -180,12 +180,18 @@ fn check_points<I: Width>(trial: &Trial<'_, impl Abort>) -> Result<(), Fail> {
     let names = ["IntShape::contains_points", "IntShape::locate_points"];
     let shape = squares::<I>(memory, PATHS)?;
     locates(trial, names, &shape)?;
-    let names = ["BorrowedContours::contains_points", "BorrowedContours::locate_points"];
+    let names = [
+        "BorrowedContours::contains_points",
+        "BorrowedContours::locate_points",
+    ];
     locates(trial, names, &BorrowedContours { contours: &shape })?;
     let names = ["IntShapes::contains_points", "IntShapes::locate_points"];
     let shapes = lone_squares::<I>(memory)?;
     locates(trial, names, &shapes)?;
-    let names = ["BorrowedShapes::contains_points", "BorrowedShapes::locate_points"];
+    let names = [
+        "BorrowedShapes::contains_points",
+        "BorrowedShapes::locate_points",
+    ];
     locates(trial, names, &BorrowedShapes { shapes: &shapes })
 }
 

@@ -92,8 +92,10 @@ fn answers_alike<I: OverlayInt, T: IntPointContainment<I>>(
 ) -> Result<bool, Fail> {
     let inside = borrowed.contains_points(alloc, points)?;
     let locations = borrowed.locate_points(alloc, points)?;
-    Ok(inside.as_slice() == answers.inside.as_slice()
-        && locations.as_slice() == answers.locations.as_slice())
+    Ok(
+        inside.as_slice() == answers.inside.as_slice()
+            && locations.as_slice() == answers.locations.as_slice(),
+    )
 }
 
 /// Asks a contour about the points.

@@ -291,7 +291,13 @@ fn parts(rt: HostRuntime) -> Result<(), Fail> {
     let held = PreparedShape::new(alloc, &shape, FillRule::EvenOdd, Solver::SNAPPED)?.into_parts();
     assert!(&rt; held.edges.len() == 6000 && held.blocks.len() == 94 && held.groups.len() == 2);
     for n in 0..1500 {
-        for (x, y, wanted) in [(1, 1, Inside), (3, 1, Outside), (2, 1, Boundary), (0, 2, Boundary), (1, 3, Outside)] {
+        for (x, y, wanted) in [
+            (1, 1, Inside),
+            (3, 1, Outside),
+            (2, 1, Boundary),
+            (0, 2, Boundary),
+            (1, 3, Outside),
+        ] {
             let point = IntPoint::new(4 * n + x, y);
             assert!(&rt; locate_in(&held.edges, &held.blocks, &held.groups, point) == wanted);
         }
