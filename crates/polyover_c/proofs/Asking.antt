@@ -1,17 +1,14 @@
 -- How asking ends, why it is refused, and that its answers are the only ones.
-use Rattle.std.proofs.Common.{◌≡◌, ℕ, ℤ, Bool, List, [], ◌∷◌, map, get_or, inl, inr, refl, sym, ap, ◌∙◌, subst}
+use Rattle.std.proofs.Common.{◌≡◌, ℕ, ℤ, List, [], ◌∷◌, map, get_or, inl, inr, refl, sym, ap, ◌∙◌, subst}
 use Rattle.std.proofs.lemmas.List.{get_or-map, length-map}
 use Rattle.std.proofs.lemmas.List.Elements.{All-nil}
-use Rattle.overlay_geom.specs.Edges.{CountedEdge}
 use Rattle.overlay_geom.specs.Plane.{Point, Edge, in_plane, IsOn}
 use Rattle.overlay_geom.specs.Points.{plain_points}
 use Rattle.overlay_geom.specs.Resolved.{IsLongEdge}
 use Rattle.overlay_relate.proofs.OneLocation.{one_location_by, one_list_of_answers}
 use Rattle.overlay_relate.specs.Answers.{AnswersWhere}
 use Rattle.overlay_relate.specs.Blocks.{IsBlockOf}
-use Rattle.overlay_relate.specs.Bounded.{Bounds}
 use Rattle.overlay_relate.specs.Locations.{IsLocatedBy}
-use Rattle.overlay_relate.specs.declared.location.PointLocation.{PointLocation}
 use Rattle.overlay_relate.specs.declared.location.PointLocation.TheVariants.{Outside}
 use Rattle.polyover_c.specs.Arrays.{points_of, written_over}
 use Rattle.polyover_c.specs.Located.{number_of}
@@ -83,7 +80,7 @@ module _ {I : Type 0} (whole : I → ℤ) (limit : ℕ) (points : List I) (old n
       subst (λ es. AreLocatedIn whole es points old newer) (sym same) b.1.1.1 in (
         a.0 ∙ sym b.0,
         first.written ∙ ap (λ ns. written_over ns old) (one_told p.edges (plain_points whole (points_of points))
-        first.numbers second.numbers first.tell second.tell) ∙ sym second.written,
+            first.numbers second.numbers first.tell second.tell) ∙ sym second.written,
       )
   one_of_edges p q same (inl a) (inr b) = absurd (told_or_refused whole limit points old t a.1.0 a.1.1.0 b.1)
   one_of_edges p q same (inr a) (inl b) = absurd (told_or_refused whole limit points old s b.1.0 b.1.1.0 a.1)

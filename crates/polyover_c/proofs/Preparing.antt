@@ -32,10 +32,13 @@ module _ {I : Type 0} (whole : I → ℤ) (limit fill solver : ℕ) (given : Con
       PreparingEnds whole limit fill solver given
       (plain_parts whole (map edge held) (map block held_blocks) (map block held_groups)) Done
   prepared_ends edge block edges held blocks held_blocks groups held_groups are same same_blocks same_groups =
-      inl (refl, subst (ArePartsOf whole limit fill solver given)
-      (sym (ap (λ es. plain_parts whole (map edge es) (map block held_blocks) (map block held_groups)) same
-      ∙ ap (λ bs. plain_parts whole (map edge edges) (map block bs) (map block held_groups)) same_blocks
-      ∙ ap (λ gs. plain_parts whole (map edge edges) (map block blocks) (map block gs)) same_groups)) are)
+      inl (
+        refl,
+        subst (ArePartsOf whole limit fill solver given)
+            (sym (ap (λ es. plain_parts whole (map edge es) (map block held_blocks) (map block held_groups)) same
+            ∙ ap (λ bs. plain_parts whole (map edge edges) (map block bs) (map block held_groups)) same_blocks
+            ∙ ap (λ gs. plain_parts whole (map edge edges) (map block blocks) (map block gs)) same_groups)) are,
+      )
 
   pub unprepared_ends : {E B : Type 0} (edge : E → IntEdge I) (block : B → Block I) (held : List E)
       (held_blocks held_groups : List B) (s : Status) → held ≡ [] → held_blocks ≡ [] → held_groups ≡ [] →
@@ -44,8 +47,8 @@ module _ {I : Type 0} (whole : I → ℤ) (limit fill solver : ℕ) (given : Con
       (plain_parts whole (map edge held) (map block held_blocks) (map block held_groups)) s
   unprepared_ends edge block held held_blocks held_groups s none no_blocks no_groups refused = inr (
     ap (λ es. plain_parts whole (map edge es) (map block held_blocks) (map block held_groups)) none
-    ∙ ap (λ bs. plain_parts whole [] (map block bs) (map block held_groups)) no_blocks
-    ∙ ap (λ gs. plain_parts whole [] [] (map block gs)) no_groups,
+        ∙ ap (λ bs. plain_parts whole [] (map block bs) (map block held_groups)) no_blocks
+        ∙ ap (λ gs. plain_parts whole [] [] (map block gs)) no_groups,
     refused,
   )
 
