@@ -1,10 +1,10 @@
 -- The locations of points, written one by one.
 use Rattle.std.proofs.Common.{◌≡◌, ◌+◌, ◌*◌, ◌<◌, ◌≤◌, ℕ, zero, suc, ℤ, List, [], ◌∷◌, ◌++◌, length, take, drop}
-use Rattle.std.proofs.Common.{get_or, map, set, refl, sym, ap, ap₂, ◌∙◌, subst, arith}
+use Rattle.std.proofs.Common.{get_or, set, refl, sym, ap, ap₂, ◌∙◌, subst, arith}
 use Rattle.std.proofs.lemmas.List.{length-take-le, length-set, map-append, take_all, take_more_set, drop-set-lt}
 use Rattle.std.proofs.lemmas.List.{drop-drop, take-append-drop}
 use Rattle.overlay_geom.proofs.Mapped.{mapped_more}
-use Rattle.overlay_geom.specs.Plane.{Point, Edge, in_plane}
+use Rattle.overlay_geom.specs.Plane.{Edge, in_plane}
 use Rattle.overlay_geom.specs.Points.{plain_point, plain_points}
 use Rattle.overlay_geom.specs.declared.point.IntPoint.{IntPoint}
 use Rattle.overlay_relate.proofs.Answered.{answers_none, answers_more}

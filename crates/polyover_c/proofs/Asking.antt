@@ -1,17 +1,14 @@
 -- How asking ends, why it is refused, and that its answers are the only ones.
-use Rattle.std.proofs.Common.{◌≡◌, ℕ, ℤ, Bool, List, [], ◌∷◌, map, get_or, inl, inr, refl, sym, ap, ◌∙◌, subst}
+use Rattle.std.proofs.Common.{◌≡◌, ℕ, ℤ, List, [], ◌∷◌, map, get_or, inl, inr, refl, sym, ap, ◌∙◌, subst}
 use Rattle.std.proofs.lemmas.List.{get_or-map, length-map}
 use Rattle.std.proofs.lemmas.List.Elements.{All-nil}
-use Rattle.overlay_geom.specs.Edges.{CountedEdge}
 use Rattle.overlay_geom.specs.Plane.{Point, Edge, in_plane, IsOn}
 use Rattle.overlay_geom.specs.Points.{plain_points}
 use Rattle.overlay_geom.specs.Resolved.{IsLongEdge}
 use Rattle.overlay_relate.proofs.OneLocation.{one_location_by, one_list_of_answers}
 use Rattle.overlay_relate.specs.Answers.{AnswersWhere}
 use Rattle.overlay_relate.specs.Blocks.{IsBlockOf}
-use Rattle.overlay_relate.specs.Bounded.{Bounds}
 use Rattle.overlay_relate.specs.Locations.{IsLocatedBy}
-use Rattle.overlay_relate.specs.declared.location.PointLocation.{PointLocation}
 use Rattle.overlay_relate.specs.declared.location.PointLocation.TheVariants.{Outside}
 use Rattle.polyover_c.specs.Arrays.{points_of, written_over}
 use Rattle.polyover_c.specs.Located.{number_of}

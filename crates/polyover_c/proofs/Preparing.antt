@@ -47,8 +47,8 @@ module _ {I : Type 0} (whole : I → ℤ) (limit fill solver : ℕ) (given : Con
       (plain_parts whole (map edge held) (map block held_blocks) (map block held_groups)) s
   unprepared_ends edge block held held_blocks held_groups s none no_blocks no_groups refused = inr (
     ap (λ es. plain_parts whole (map edge es) (map block held_blocks) (map block held_groups)) none
-    ∙ ap (λ bs. plain_parts whole [] (map block bs) (map block held_groups)) no_blocks
-    ∙ ap (λ gs. plain_parts whole [] [] (map block gs)) no_groups,
+        ∙ ap (λ bs. plain_parts whole [] (map block bs) (map block held_groups)) no_blocks
+        ∙ ap (λ gs. plain_parts whole [] [] (map block gs)) no_groups,
     refused,
   )
 

@@ -1,7 +1,7 @@
 -- Prepared shapes in arrays, what they are made of, and where points lie in them.
 use Rattle.std.specs.Prelude.{◌≡◌, ◌≤◌, ◌⊎◌, ℕ, ℤ, List, [], length, map}
 use Rattle.overlay_arrange.specs.declared.options.ShapeType.TheVariants.{Subject}
-use Rattle.overlay_builder.specs.GivenPaths.{GivenPath, paths_for}
+use Rattle.overlay_builder.specs.GivenPaths.{paths_for}
 use Rattle.overlay_geom.specs.Plane.{Point, Edge}
 use Rattle.overlay_geom.specs.Points.{plain_points}
 use Rattle.overlay_geom.specs.Resolved.{plain_edges}

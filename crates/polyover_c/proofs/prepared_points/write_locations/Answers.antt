@@ -1,5 +1,5 @@
 -- One point more is told of, and all of them.
-use Rattle.std.proofs.Common.{◌≡◌, ◌+◌, ◌≤◌, length, set, refl, sym, subst, arith}
+use Rattle.std.proofs.Common.{◌+◌, ◌<◌, ◌≤◌, set, refl, sym, subst, arith}
 use Rattle.overlay_geom.specs.declared.point.IntPoint.{IntPoint}
 use Rattle.polyover_c.specs.Arrays.{points_of}
 use Rattle.polyover_c.specs.Prepared.{parts_of}
@@ -43,7 +43,7 @@ loop-at-preserved g c =
     let y = c.index-points-next.result in
     let p : IntPoint _ = record { x = x; y = y } in
     let lt = c.loop-at-test.true in
-    let within = subst (λ k. n + 1 ≤ k) c.count_points-at-end.ensures lt in
+    let within = subst (λ k. n < k) c.count_points-at-end.ensures lt in
     subst (λ k. AreToldUpTo whole edges (points_of points) old (n + 1) (set new n k)) (sym c.number_of.ensures)
     (one_told whole edges (points_of points) old n new p c.locate_in-location.result within
     (let room = c.requires.room in omega (arith, room, within))
