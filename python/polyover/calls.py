@@ -120,7 +120,9 @@ def iterated(place: str, things: Any, what: str) -> list[Any]:
     if not isinstance(things, (list, tuple)):
         if isinstance(things, (str, bytes, dict)) or not hasattr(things, "__iter__"):
             raise BadInput(f"{place}: {things!r} in the place of {what}")
-        things = list(things)
+        # (arrays of numbers are numbers of Python sooner than one by one)
+        found = things.tolist() if hasattr(things, "tolist") else None
+        things = found if isinstance(found, list) else list(things)
     return things  # type: ignore[no-any-return]
 
 
