@@ -24,8 +24,8 @@ static void TEST(lie)(const PREPARED *prepared, const NUMBER *points, size_t cou
     polyover_location locations[16];
     for (int turn = 0; turn < 2; turn++) {
         memset(locations, 77, sizeof locations);
-        check(NAME(polyover_prepared_locate)(prepared, points, count, locations, count / 2) == POLYOVER_OK, "it is told",
-              line);
+        const polyover_status status = NAME(polyover_prepared_locate)(prepared, points, count, locations, count / 2);
+        check(status == POLYOVER_OK, "it is told", line);
         for (size_t at = 0; at < 16; at++) {
             const polyover_location is = at >= count / 2 ? 77
                                          : wanted[at] == 'i' ? POLYOVER_INSIDE
@@ -49,8 +49,8 @@ static void TEST(lie_in)(polyover_fill fill, const CONTOURS *contours, const NUM
 
 #define LIE_IN(fill, contours, points, wanted) TEST(lie_in)(fill, &contours, points, wanted, __LINE__)
 
-/* Two squares that overlap. Where the second one runs against the first one, the winding is 1 in the first one alone, -1
- * in the second one alone, and 0 in both; else it is 1, 1 and 2. */
+/* Two squares that overlap. Where the second one runs against the first one, the winding is 1 in the first one alone,
+ * -1 in the second one alone, and 0 in both; else it is 1, 1 and 2. */
 static void TEST(prepared_under_rules)(void) {
     const NUMBER against[] = {0, 0, 4, 0, 4, 4, 0, 4, 2, 2, 2, 6, 6, 6, 6, 2};
     const NUMBER along[] = {0, 0, 4, 0, 4, 4, 0, 4, 2, 2, 6, 2, 6, 6, 2, 6};

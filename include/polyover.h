@@ -14,9 +14,9 @@
  * calls but `polyover_in_range`, `polyover_resolved` and `polyover_locate`.
  *
  * All arrays and structs are the caller's, and nothing is kept after a call; only what a `polyover_result` or a
- * `polyover_prepared` holds is to be freed. Each array behind a `const` is only read. An array of length 0 may be a null
- * pointer, and so may options, for which the default ones are taken then; no other struct may be. What a call writes to
- * lies apart from all else that it is given.
+ * `polyover_prepared` holds is to be freed. Each array behind a `const` is only read. An array of length 0 may be a
+ * null pointer, and so may options, for which the default ones are taken then; no other struct may be. What a call
+ * writes to lies apart from all else that it is given.
  *
  * No call keeps a state, so calls on several threads are safe, as long as nothing is written to what one of them reads.
  * Memory is taken by malloc, realloc and free, so no call is for a signal handler.

@@ -9,6 +9,7 @@ use overlay_geom::point::{IntPoint, in_range};
 use overlay_relate::location::PointLocation;
 use overlay_relate::location::PointLocation::{Boundary, Inside, Outside};
 use overlay_relate::prepared::PreparedShape;
+use overlay_relate::prepared::parts::locate_in;
 use std::alloc::Global;
 use std::process::Abort;
 use std::test::Fail;
@@ -263,6 +264,34 @@ fn many_squares_in_a_row(rt: HostRuntime) -> Result<(), Fail> {
         assert!(&rt; prepared.locate(IntPoint::new(x, 1)) == Boundary);
         assert!(&rt; prepared.locate(IntPoint::new(x + 2, 2)) == Boundary);
         assert!(&rt; prepared.locate(IntPoint::new(x + 1, 3)) == Outside);
+    }
+    Ok(())
+}
+
+// The parts of a shape are asked as the shape is: squares in a row, and a shape without edges.
+#[test]
+fn parts(rt: HostRuntime) -> Result<(), Fail> {
+    let alloc = rt.alloc();
+    let mut shape: IntShape<i32, Global> = Vec::new(alloc);
+    let bare = PreparedShape::new(alloc, &shape, FillRule::EvenOdd, Solver::SNAPPED)?.into_parts();
+    assert!(&rt; bare.edges.is_empty() && bare.blocks.is_empty() && bare.groups.is_empty());
+    let origin = IntPoint::new(0, 0);
+    assert!(&rt; locate_in(&bare.edges, &bare.blocks, &bare.groups, origin) == Outside);
+    for n in 0..1500 {
+        let x = 4 * n;
+        let square = [[x, 0], [x + 2, 0], [x + 2, 2], [x, 2]];
+        shape.push(Vec::from_array(alloc, square.map(|at| IntPoint::new(at[0], at[1])))?)?;
+    }
+    for contour in &shape {
+        assert!(&rt; in_range(contour));
+    }
+    let held = PreparedShape::new(alloc, &shape, FillRule::EvenOdd, Solver::SNAPPED)?.into_parts();
+    assert!(&rt; held.edges.len() == 6000 && held.blocks.len() == 94 && held.groups.len() == 2);
+    for n in 0..1500 {
+        for (x, y, wanted) in [(1, 1, Inside), (3, 1, Outside), (2, 1, Boundary), (0, 2, Boundary), (1, 3, Outside)] {
+            let point = IntPoint::new(4 * n + x, y);
+            assert!(&rt; locate_in(&held.edges, &held.blocks, &held.groups, point) == wanted);
+        }
     }
     Ok(())
 }

@@ -12,6 +12,7 @@ pub mod cut_shape;
 pub mod located_points;
 pub mod numbered_edges;
 pub mod parcels;
+pub mod prepared_location;
 pub mod roads;
 pub mod settled_contour;
 pub mod simple_contours;

@@ -10,7 +10,8 @@ use Rattle.overlay_plane.specs.Predicates.{fills_at}
 use Rattle.overlay_relate.specs.Answers.{AnswersEach}
 use Rattle.overlay_relate.specs.Bounded.{boundary_of}
 use Rattle.overlay_relate.specs.Determined.{OneLocationIn, OneLocationAmong, OneLocationUnder, OneLocationBy}
-use Rattle.overlay_relate.specs.Locations.{IsLocated, IsLocatedIn, IsLocatedAmong, IsLocatedBy, shape_edges, is_in_shape, odd_below}
+use Rattle.overlay_relate.specs.Locations.{IsLocated, IsLocatedIn, IsLocatedAmong}
+use Rattle.overlay_relate.specs.Locations.{shape_edges, is_in_shape, odd_below}
 use Rattle.overlay_relate.specs.declared.location.PointLocation.{PointLocation}
 use Rattle.overlay_relate.specs.declared.location.PointLocation.TheVariants.{Inside, Boundary, Outside}
 

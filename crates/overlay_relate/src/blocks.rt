@@ -114,7 +114,8 @@ pub(crate) fn passed<I: IntNumber, B: FormOf<Block<I>>>(
     p: IntPoint<I>,
 ) -> usize
     requires { 0 < size }
-    ensures { (es : _) → All (IsLongEdge I.limit) es → All (IsBlockOf es) (plain_blocks I.whole (map B.meant blocks.now))
+    ensures { (es : _) → All (IsLongEdge I.limit) es
+        → All (IsBlockOf es) (plain_blocks I.whole (map B.meant blocks.now))
         → AreClear es (plain_point I.whole p) at result }
 {
     let place = at / size;

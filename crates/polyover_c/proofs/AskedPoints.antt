@@ -1,10 +1,10 @@
 -- The locations of points, written one by one.
 use Rattle.std.proofs.Common.{◌≡◌, ◌+◌, ◌*◌, ◌<◌, ◌≤◌, ℕ, zero, suc, ℤ, List, [], ◌∷◌, ◌++◌, length, take, drop}
-use Rattle.std.proofs.Common.{get_or, map, set, refl, sym, ap, ap₂, ◌∙◌, subst, arith}
-use Rattle.std.proofs.lemmas.List.{length-take-le, length-set, map-append, take_all, take_more_set, drop-set-lt, drop-drop}
-use Rattle.std.proofs.lemmas.List.{take-append-drop}
+use Rattle.std.proofs.Common.{get_or, set, refl, sym, ap, ap₂, ◌∙◌, subst, arith}
+use Rattle.std.proofs.lemmas.List.{length-take-le, length-set, map-append, take_all, take_more_set, drop-set-lt}
+use Rattle.std.proofs.lemmas.List.{drop-drop, take-append-drop}
 use Rattle.overlay_geom.proofs.Mapped.{mapped_more}
-use Rattle.overlay_geom.specs.Plane.{Point, Edge, in_plane}
+use Rattle.overlay_geom.specs.Plane.{Edge, in_plane}
 use Rattle.overlay_geom.specs.Points.{plain_point, plain_points}
 use Rattle.overlay_geom.specs.declared.point.IntPoint.{IntPoint}
 use Rattle.overlay_relate.proofs.Answered.{answers_none, answers_more}
@@ -12,7 +12,8 @@ use Rattle.overlay_relate.specs.Answers.{AnswersEach}
 use Rattle.overlay_relate.specs.Bounded.{LiesSo}
 use Rattle.overlay_relate.specs.Locations.{IsLocatedBy}
 use Rattle.overlay_relate.specs.declared.location.PointLocation.{PointLocation}
-use Rattle.polyover_c.specs.Arrays.{points_of, written_over}
+use Rattle.polyover_c.proofs.PointCounts.{points_counted}
+use Rattle.polyover_c.specs.Arrays.{points_of}
 use Rattle.polyover_c.specs.Located.{number_of}
 use Rattle.polyover_c.specs.Prepared.{AreToldIn, AreLocatedIn}
 
@@ -22,7 +23,20 @@ pub point_read : {I : Type 0} (cs : List I) (n : ℕ) (d : IntPoint I) (x y : I)
 point_read [] n d x y lt first second = absurd (omega (arith, lt))
 point_read (a ∷ []) n d x y lt first second = absurd (omega (arith, lt))
 point_read (a ∷ b ∷ cs) zero d x y lt first second = ap₂ (λ u v. record { x = u; y = v }) (sym first) (sym second)
-point_read (a ∷ b ∷ cs) (suc n) d x y lt first second = point_read cs n d x y (omega (arith, lt)) first second
+point_read (a ∷ b ∷ cs) (suc n) d x y lt first second = point_read cs n d x y (omega (arith, lt))
+    (first ∙ ap (λ k. get_or (a ∷ b ∷ cs) k x) twice) (second ∙ ap (λ k. get_or (a ∷ b ∷ cs) (k + 1) y) twice
+    ∙ ap (λ k. get_or (a ∷ b ∷ cs) k y) behind)
+  where
+    twice : 2 * suc n ≡ suc (suc (2 * n))
+    twice = omega arith
+
+    behind : suc (suc (2 * n)) + 1 ≡ suc (suc (2 * n + 1))
+    behind = omega arith
+
+-- as many coordinates as the places of a point take are there
+pub place_within : {I : Type 0} (cs : List I) (n count : ℕ) → count ≡ length (points_of cs) → n < count →
+    2 * n + 1 < length cs
+place_within cs n count same lt = omega (arith, same, lt, points_counted cs)
 
 module _ {I : Type 0} (whole : I → ℤ) (edges : List Edge) (ps : List (IntPoint I)) (old : List ℕ) where
   -- the first points are told of in the first places, and the others stay
@@ -30,6 +44,7 @@ module _ {I : Type 0} (whole : I → ℤ) (edges : List Edge) (ps : List (IntPoi
     pub told : AreToldIn edges (plain_points whole (take n ps)) (take n new)
     pub rest : drop n new ≡ drop n old
     pub counted : length new ≡ length old
+    pub within : n ≤ length ps
 
   pub none_told : AreToldUpTo 0 old
   none_told = record {
@@ -41,6 +56,7 @@ module _ {I : Type 0} (whole : I → ℤ) (edges : List Edge) (ps : List (IntPoi
     };
     rest = refl;
     counted = refl;
+    within = omega arith;
   }
 
   -- one point more
@@ -65,20 +81,21 @@ module _ {I : Type 0} (whole : I → ℤ) (edges : List Edge) (ps : List (IntPoi
         };
         rest = drop-set-lt (n + 1) new n (number_of l) (omega arith) ∙ one_less;
         counted = length-set new n (number_of l) ∙ so_far.counted;
+        within = omega (arith, within);
       }
     where
       one_less : drop (n + 1) new ≡ drop (n + 1) old
       one_less = sym (drop-drop 1 n new) ∙ ap (drop 1) so_far.rest ∙ drop-drop 1 n old
 
   -- all points
-  pub all_told : (n : ℕ) (new : List ℕ) (points : List I) → ps ≡ points_of points → n ≡ length ps →
+  pub all_told : (n : ℕ) (new : List ℕ) (points : List I) → ps ≡ points_of points → length ps ≤ n →
       length ps ≤ length old → AreToldUpTo n new → AreLocatedIn whole edges points old new
-  all_told n new points same is room told = record {
+  all_told n new points same past room told = record {
     numbers = take n new;
-    tell = subst (λ qs. AreToldIn edges (plain_points whole qs) (take n new))
-        (take_all n ps (omega (arith, is)) ∙ same) told.told;
-    written = sym (take-append-drop n new) ∙ ap₂ (λ xs ys. xs ++ ys) refl (told.rest ∙ ap (λ k. drop k old) (sym long));
+    tell = subst (λ qs. AreToldIn edges (plain_points whole qs) (take n new)) (take_all n ps past ∙ same) told.told;
+    written = sym (take-append-drop n new) ∙ ap (λ ys. take n new ++ ys)
+        (told.rest ∙ ap (λ k. drop k old) (sym long));
   }
     where
       long : length (take n new) ≡ n
-      long = length-take-le n new (let c = told.counted in omega (arith, is, room))
+      long = length-take-le n new (let c = told.counted in let w = told.within in omega (arith, room))

@@ -1,4 +1,5 @@
 pub mod AskedPoints
+pub mod Asking
 pub mod Clipped
 pub mod ComeBack
 pub mod Endings

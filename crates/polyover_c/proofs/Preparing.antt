@@ -1,5 +1,5 @@
 -- How preparing ends, and why it is refused.
-use Rattle.std.proofs.Common.{◌≡◌, ◌<◌, ℕ, ℤ, List, map, inl, inr, refl, sym, ap, subst}
+use Rattle.std.proofs.Common.{◌≡◌, ◌<◌, ℕ, ℤ, List, [], map, inl, inr, refl, sym, ap, ◌∙◌, subst}
 use Rattle.overlay_arrange.specs.declared.fill_rule.FillRule.{FillRule}
 use Rattle.overlay_arrange.specs.declared.options.ShapeType.TheVariants.{Subject}
 use Rattle.overlay_builder.specs.GivenPaths.{paths_for}
@@ -10,25 +10,47 @@ use Rattle.overlay_geom.specs.declared.error.OverlayError.TheVariants as error
 use Rattle.overlay_geom.specs.declared.solver.Solver.{Solver}
 use Rattle.overlay_relate.specs.Prepared.{IsPreparedOf, MayRefusePreparing}
 use Rattle.overlay_relate.specs.declared.blocks.Block.{Block}
+use Rattle.polyover_c.proofs.Asking.{bare_can_be_asked}
 use Rattle.polyover_c.specs.Asked.{fill_of, solver_of}
 use Rattle.polyover_c.specs.Given.{Contours, paths_of, AreGiven}
-use Rattle.polyover_c.specs.Prepared.{Parts, plain_parts, no_parts, CanBeAsked, ArePartsOf, IsPreparingRefused}
-use Rattle.polyover_c.specs.Prepared.{PreparingEnds}
+use Rattle.polyover_c.specs.Prepared.{Parts, plain_parts, CanBeAsked, ArePartsOf, IsPreparingRefused}
+use Rattle.polyover_c.specs.Prepared.{PreparingEnds, IsPreparedSo}
 use Rattle.polyover_c.specs.Reading.{HaveFault}
-use Rattle.polyover_c.specs.Statuses.{status_of_fault, status_of_error}
+use Rattle.polyover_c.specs.Statuses.{code_of, status_of_fault, status_of_error}
 use Rattle.polyover_c.specs.declared.fault.Fault.{Fault}
 use Rattle.polyover_c.specs.declared.fault.Fault.TheVariants as fault
 use Rattle.polyover_c.specs.declared.status.Status.{Status}
 use Rattle.polyover_c.specs.declared.status.Status.TheVariants.{Done, Memory}
 
 module _ {I : Type 0} (whole : I → ℤ) (limit fill solver : ℕ) (given : Contours I) where
-  pub prepared_ends : (p : Parts) → ArePartsOf whole limit fill solver given p →
-      PreparingEnds whole limit fill solver given p Done
-  prepared_ends p are = inl (refl, are)
+  -- items in memory that stays are those that were there
+  pub prepared_ends : {E B : Type 0} (edge : E → IntEdge I) (block : B → Block I) (edges held : List E)
+      (blocks held_blocks groups held_groups : List B) →
+      ArePartsOf whole limit fill solver given
+      (plain_parts whole (map edge edges) (map block blocks) (map block groups)) → held ≡ edges →
+      held_blocks ≡ blocks → held_groups ≡ groups →
+      PreparingEnds whole limit fill solver given
+      (plain_parts whole (map edge held) (map block held_blocks) (map block held_groups)) Done
+  prepared_ends edge block edges held blocks held_blocks groups held_groups are same same_blocks same_groups =
+      inl (
+        refl,
+        subst (ArePartsOf whole limit fill solver given)
+            (sym (ap (λ es. plain_parts whole (map edge es) (map block held_blocks) (map block held_groups)) same
+            ∙ ap (λ bs. plain_parts whole (map edge edges) (map block bs) (map block held_groups)) same_blocks
+            ∙ ap (λ gs. plain_parts whole (map edge edges) (map block blocks) (map block gs)) same_groups)) are,
+      )
 
-  pub unprepared_ends : (s : Status) → IsPreparingRefused whole limit fill solver given s →
-      PreparingEnds whole limit fill solver given no_parts s
-  unprepared_ends s refused = inr (refl, refused)
+  pub unprepared_ends : {E B : Type 0} (edge : E → IntEdge I) (block : B → Block I) (held : List E)
+      (held_blocks held_groups : List B) (s : Status) → held ≡ [] → held_blocks ≡ [] → held_groups ≡ [] →
+      IsPreparingRefused whole limit fill solver given s →
+      PreparingEnds whole limit fill solver given
+      (plain_parts whole (map edge held) (map block held_blocks) (map block held_groups)) s
+  unprepared_ends edge block held held_blocks held_groups s none no_blocks no_groups refused = inr (
+    ap (λ es. plain_parts whole (map edge es) (map block held_blocks) (map block held_groups)) none
+        ∙ ap (λ bs. plain_parts whole [] (map block bs) (map block held_groups)) no_blocks
+        ∙ ap (λ gs. plain_parts whole [] [] (map block gs)) no_groups,
+    refused,
+  )
 
   pub contours_unprepared : (f : Fault) → fill < 4 → solver < 2 →
       HaveFault whole limit given.coordinates given.ends f →
@@ -70,6 +92,20 @@ module _ {I : Type 0} (whole : I → ℤ) (limit fill solver : ℕ) (given : Con
     can_be_asked = asked;
   }
 
+  -- what C is given
+  pub handed_out : (p q : Parts) (s : Status) (code : ℕ) → PreparingEnds whole limit fill solver given p s → q ≡ p →
+      code ≡ code_of s → IsPreparedSo whole limit fill solver given q code
+  handed_out p q s code ends same told = record {
+    status = s;
+    ends = subst (λ r. PreparingEnds whole limit fill solver given r s) (sym same) ends;
+    told = told;
+    can_be_asked = subst (CanBeAsked limit) (sym same) (can p s ends);
+  }
+    where
+      can : (r : Parts) (t : Status) → PreparingEnds whole limit fill solver given r t → CanBeAsked limit r
+      can r t (inl are) = are.1.can_be_asked
+      can r t (inr none) = subst (CanBeAsked limit) (sym none.0) (bare_can_be_asked.can limit)
+
   -- ---- the parts in other forms
 
   pub forms_without_memory : (p : Parts) (s : Status) → ArePartsOf whole limit fill solver given p → s ≡ Memory →
@@ -82,6 +118,9 @@ module _ {I : Type 0} (whole : I → ℤ) (limit fill solver : ℕ) (given : Con
       formed_blocks ≡ blocks → formed_groups ≡ groups →
       ArePartsOf whole limit fill solver given (plain_parts whole formed formed_blocks formed_groups)
   parts_formed edges formed blocks formed_blocks groups formed_groups are same same_blocks same_groups =
-      subst (λ es. ArePartsOf whole limit fill solver given (plain_parts whole es formed_blocks formed_groups)) (sym same)
-      (subst (λ bs. ArePartsOf whole limit fill solver given (plain_parts whole edges bs formed_groups)) (sym same_blocks)
-      (subst (λ gs. ArePartsOf whole limit fill solver given (plain_parts whole edges blocks gs)) (sym same_groups) are))
+      subst Are (sym (ap (λ es. plain_parts whole es formed_blocks formed_groups) same
+      ∙ ap (λ bs. plain_parts whole edges bs formed_groups) same_blocks
+      ∙ ap (plain_parts whole edges blocks) same_groups)) are
+    where
+      Are : Parts → Type 0
+      Are = ArePartsOf whole limit fill solver given

@@ -69,6 +69,7 @@ never_unsettled = record {
     clipped = λ o old new zero. no_end (λ flat put. put) (λ r. not_lines o.solver _ zero r.1.1.1);
     listed = λ old new. no_end (λ flat put. put) (λ r. not_alone false 0 _ refl r.1.1.1);
     related = λ old new ends. ⊎_elim (λ told. not_done told.0) (λ r. not_alone false 0 _ refl r.1.1.1.1) ends;
+    prepared = λ p ends. ⊎_elim (λ are. not_done are.0) (λ r. apart r.1.1.1.refused.0) ends;
   };
   results = λ limit width fill first second arrays. record {
     overlay = λ rule o zero. no_end (λ flat held. not_done held.0) (λ r. not_alone false o.solver _ zero r.1.1.1);

@@ -10,6 +10,7 @@ use Rattle.polyover_c.specs.Holding.{EdgesAreHeld}
 use Rattle.polyover_c.specs.Linked.{LinkedRoom}
 use Rattle.polyover_c.specs.Listed.{EdgeRoom, ListingEnds}
 use Rattle.polyover_c.specs.Overlays.{OverlayEnds}
+use Rattle.polyover_c.specs.Prepared.{Parts, PreparingEnds}
 use Rattle.polyover_c.specs.Related.{RelatingEnds}
 use Rattle.polyover_c.specs.Simplified.{SimplifyingEnds}
 use Rattle.polyover_c.specs.Sliced.{SlicingEnds}
@@ -21,8 +22,8 @@ use Rattle.polyover_c.specs.declared.numbers.OptionNumbers.{OptionNumbers}
 use Rattle.polyover_c.specs.declared.status.Status.{Status}
 use Rattle.polyover_c.specs.declared.status.Status.TheVariants.{NotSettled}
 
--- no overlay, simplification, hierarchy, slicing, clip, list of edges or relation of numbers in arrays ends with
--- `NotSettled`
+-- no overlay, simplification, hierarchy, slicing, clip, list of edges, relation or prepared shape of numbers in arrays
+-- ends with `NotSettled`
 pub record SnappedCallsSettle (limit : ℕ) (width : Width) (fill : ℕ) (first second : Contours ℤ) : Type 0 where
   pub overlay : (rule : ℕ) (o : OptionNumbers ℕ) (old new : Room ℤ) → o.solver ≡ 0 →
       ¬ (OverlayEnds (λ z. z) limit width (λ n. n) rule fill o first second old new NotSettled)
@@ -35,6 +36,7 @@ pub record SnappedCallsSettle (limit : ℕ) (width : Width) (fill : ℕ) (first 
       ¬ (ClipEnds (λ z. z) limit fill o first second old new NotSettled)
   pub listed : (old new : EdgeRoom ℤ) → ¬ (ListingEnds (λ z. z) limit fill 0 first second old new NotSettled)
   pub related : (old new : ℕ) → ¬ (RelatingEnds (λ z. z) limit fill 0 first second old new NotSettled)
+  pub prepared : (p : Parts) → ¬ (PreparingEnds (λ z. z) limit fill 0 first p NotSettled)
 
 -- nor does one whose answer is handed out
 pub record SnappedResultsSettle (limit : ℕ) (width : Width) (fill : ℕ) (first second : Contours ℤ)

@@ -15,6 +15,7 @@ pub mod Located
 pub mod Options
 pub mod Overlays
 pub mod Prepared
+pub mod PreparedLaws
 pub mod Put
 pub mod Reading
 pub mod Refusals

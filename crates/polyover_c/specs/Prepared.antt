@@ -1,7 +1,7 @@
 -- Prepared shapes in arrays, what they are made of, and where points lie in them.
 use Rattle.std.specs.Prelude.{◌≡◌, ◌≤◌, ◌⊎◌, ℕ, ℤ, List, [], length, map}
 use Rattle.overlay_arrange.specs.declared.options.ShapeType.TheVariants.{Subject}
-use Rattle.overlay_builder.specs.GivenPaths.{GivenPath, paths_for}
+use Rattle.overlay_builder.specs.GivenPaths.{paths_for}
 use Rattle.overlay_geom.specs.Plane.{Point, Edge}
 use Rattle.overlay_geom.specs.Points.{plain_points}
 use Rattle.overlay_geom.specs.Resolved.{plain_edges}
@@ -29,9 +29,7 @@ use Rattle.polyover_c.specs.declared.prepared.Edge64.{Edge64}
 use Rattle.polyover_c.specs.declared.prepared.Prepared32.{Prepared32}
 use Rattle.polyover_c.specs.declared.prepared.Prepared64.{Prepared64}
 use Rattle.polyover_c.specs.declared.status.Status.{Status}
-use Rattle.polyover_c.specs.declared.status.Status.TheVariants.{Done, Memory, BadEnds, OutOfRange}
-use Rattle.polyover_c.specs.declared.status.Status.TheVariants.{NotResolved, BadRule, BadFill, BadOption}
-use Rattle.polyover_c.specs.declared.status.Status.TheVariants.{NotSettled, TooManyEdges, TooSmall}
+use Rattle.polyover_c.specs.declared.status.Status.TheVariants.{Done, BadEnds, OutOfRange, TooSmall}
 
 -- ---- as C has them
 
@@ -141,17 +139,9 @@ HaveRoom points room = length (points_of points) ≤ length room
 
 -- asking is refused so: the points have a fault, or else there are fewer places than points; never for want of memory
 abbrev pub IsAskingRefused : {I : Type 0} → (I → ℤ) → ℕ → List I → List ℕ → Status → Type 0
-IsAskingRefused whole limit points room Done = ⊥
-IsAskingRefused whole limit points room Memory = ⊥
-IsAskingRefused whole limit points room BadEnds = PointsHaveOwnFault whole limit points fault.Ends
-IsAskingRefused whole limit points room OutOfRange = PointsHaveOwnFault whole limit points fault.Range
-IsAskingRefused whole limit points room NotResolved = ⊥
-IsAskingRefused whole limit points room BadRule = ⊥
-IsAskingRefused whole limit points room BadFill = ⊥
-IsAskingRefused whole limit points room BadOption = ⊥
-IsAskingRefused whole limit points room NotSettled = ⊥
-IsAskingRefused whole limit points room TooManyEdges = ⊥
-IsAskingRefused whole limit points room TooSmall = ArePoints whole limit points × ¬ (HaveRoom points room)
+IsAskingRefused whole limit points room s = ((s ≡ BadEnds) × PointsHaveOwnFault whole limit points fault.Ends)
+    ⊎ (((s ≡ OutOfRange) × PointsHaveOwnFault whole limit points fault.Range)
+    ⊎ ((s ≡ TooSmall) × (ArePoints whole limit points × ¬ (HaveRoom points room))))
 
 -- how it ends: the locations are written, or it is refused, and nothing is
 abbrev pub AskingEnds : {I : Type 0} → (I → ℤ) → ℕ → Parts → List I → (old new : List ℕ) → Status → Type 0

@@ -1,10 +1,8 @@
 //! Contours in arrays, prepared to be asked where points lie.
 
 ghost use Rattle.std.specs.Prelude.{◌≡◌, IfOk, IsOkUnless, MatchResult, map};
-ghost use Rattle.overlay_geom.specs.Resolved.{plain_edges};
-ghost use Rattle.overlay_relate.specs.Blocks.{plain_blocks};
 ghost use Rattle.polyover_c.specs.Given.{contours_of};
-ghost use Rattle.polyover_c.specs.Prepared.{ArePartsOf, IsPreparingRefused, PreparingEnds, no_parts, parts_of};
+ghost use Rattle.polyover_c.specs.Prepared.{ArePartsOf, IsPreparingRefused, PreparingEnds, parts_of};
 ghost use Rattle.polyover_c.specs.Prepared.{plain_parts};
 
 use crate::given::Contours;

@@ -16,6 +16,7 @@ use overlay_relate::form::FormOf;
 use overlay_relate::prepared::parts::locate_in;
 
 /// Where each point lies in the prepared shape with these parts, written as a number for each.
+#[tactic(auto, using(crate::proofs::Asking::asked_ends, crate::proofs::Asking::unasked_ends))]
 pub(crate) fn locate_prepared<I: OverlayInt, E: FormOf<IntEdge<I>>, B: FormOf<Block<I>>>(
     parts: &HeldParts<E, B>,
     points: &[I],
@@ -35,6 +36,7 @@ pub(crate) fn locate_prepared<I: OverlayInt, E: FormOf<IntEdge<I>>, B: FormOf<Bl
 }
 
 // Tests whether the coordinates are points, and whether there is a place for each.
+#[tactic(auto, using(crate::proofs::Asking::points_refused, crate::proofs::Asking::no_room))]
 fn tested_room<I: OverlayInt>(points: &[I], locations: &[u8]) -> Result<(), Status>
     ensures { MatchResult result
         (λ _. ArePoints I.whole I.limit points.now × HaveRoom points.now locations.now)
@@ -60,11 +62,11 @@ fn write_locations<I: OverlayInt, E: FormOf<IntEdge<I>>, B: FormOf<Block<I>>>(
         locations.new }
 {
     for at in 0..count_points(points) {
-        let point = IntPoint {
-            x: points[2 * at],
-            y: points[2 * at + 1],
-        };
-        let location = locate_in(parts.edges, parts.blocks, parts.groups, point);
+        let place = 2 * at;
+        let next = place + 1;
+        let x = points[place];
+        let y = points[next];
+        let location = locate_in(parts.edges, parts.blocks, parts.groups, IntPoint { x, y });
         locations[at] = number_of(location);
     }
 }

@@ -65,9 +65,10 @@ pub fn locate_in<I: OverlayInt, E: FormOf<IntEdge<I>>, B: FormOf<Block<I>>>(
 ) -> PointLocation
     requires { AreBlocked I.limit (plain_edges I.whole (map E.meant edges.now))
         (plain_blocks I.whole (map B.meant blocks.now)) (plain_blocks I.whole (map B.meant groups.now)) }
-    ensures located { LiesSo (plain_edges I.whole (map E.meant edges.now)) (in_plane (plain_point I.whole point)) result }
-    ensures by_edges { IsLocatedBy (plain_edges I.whole (map E.meant edges.now)) (in_plane (plain_point I.whole point))
-        result }
+    ensures located { LiesSo (plain_edges I.whole (map E.meant edges.now))
+        (in_plane (plain_point I.whole point)) result }
+    ensures by_edges { IsLocatedBy (plain_edges I.whole (map E.meant edges.now))
+        (in_plane (plain_point I.whole point)) result }
 {
     let mut is_inside = false;
     let mut at = 0;

@@ -40,8 +40,8 @@ pub extern "C" fn polyover_prepare<'a>(
     made.status.code()
 }
 
-/// Where each point lies in a shape that `polyover_prepare` handed out, or in one without a boundary, written as a number
-/// for each: the code of a status. No memory is taken.
+/// Where each point lies in a shape that `polyover_prepare` handed out, or in one without a boundary, written as a
+/// number for each: the code of a status. No memory is taken.
 #[unsafe(no_mangle)]
 pub extern "C" fn polyover_prepared_locate(
     prepared: &Prepared64,

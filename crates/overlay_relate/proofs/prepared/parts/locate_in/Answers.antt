@@ -25,7 +25,7 @@ pub location_by-requires : goal.location_by-requires
 location_by-requires g c =
     let whole = g.I.IntNumber.whole in
     all_at (IsLongEdge g.I.IntNumber.limit) (plain_edge whole) g.E.FormOf.meant c.args.edges.now c.loop-at.at
-    c.index.result c.value.result (search rules) c.index.is c.value.ensures c.requires.long
+    c.index-edges-at.result c.value-edge.result (search rules) c.index-edges-at.is c.value-edge.ensures c.requires.long
 
 pub returns-in-Boundary-clause-by_edges : goal.returns-in-Boundary-clause-by_edges
 returns-in-Boundary-clause-by_edges g c =
@@ -33,10 +33,11 @@ returns-in-Boundary-clause-by_edges g c =
     let meant = g.E.FormOf.meant in
     let edges = c.args.edges.now in
     let p = in_plane (plain_point whole c.args.point) in
-    let e = plain_edge whole c.value.result in
+    let e = plain_edge whole c.value-edge.result in
     let lt : c.loop-at.at < length edges = search rules in
     on_some (plain_edges whole (map meant edges)) p c.loop-at.at e (rw (length-map, length-map) lt)
-    (form_at (plain_edge whole) meant edges c.loop-at.at c.index.result c.value.result lt c.index.is c.value.ensures)
+    (form_at (plain_edge whole) meant edges c.loop-at.at c.index-edges-at.result c.value-edge.result lt
+    c.index-edges-at.is c.value-edge.ensures)
     (subst (IsLocatedBy (e ∷ []) p) c.in-Boundary.is c.location_by.ensures)
 
 pub returns-in-Boundary-clause-located : goal.returns-in-Boundary-clause-located
@@ -52,13 +53,13 @@ loop-at-preserved g c =
     let edges = c.args.edges.now in
     let es = plain_edges whole (map meant edges) in
     let p = in_plane (plain_point whole c.args.point) in
-    let e = plain_edge whole c.value.result in
+    let e = plain_edge whole c.value-edge.result in
     let at = c.loop-at.at in
     let t = c.loop-at.is_inside in
     let lt : at < length edges = search rules in
     let within : at < length es = rw (length-map, length-map) lt in
-    let is : get_or es at e ≡ e = form_at (plain_edge whole) meant edges at c.index.result c.value.result lt c.index.is
-    c.value.ensures in
+    let is : get_or es at e ≡ e = form_at (plain_edge whole) meant edges at c.index-edges-at.result c.value-edge.result
+    lt c.index-edges-at.is c.value-edge.ensures in
     elim c.match-location_by.branch [
       | in-Inside w ↦ subst (λ s. IsCounted es p (at + 1) s) (sym w.is_inside-is)
           (counted_inside es p at t c.loop-at.invariant e within is
