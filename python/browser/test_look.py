@@ -1,5 +1,6 @@
 """How the page looks, and what it asks for: nothing of any host, and no message in the console."""
 
+import json
 import re
 import subprocess
 import sys
@@ -19,6 +20,8 @@ COLOUR = re.compile(r"^ *--(\w[\w-]*): (#[0-9a-f]{6});$", re.MULTILINE)
 PRINTED = re.compile(r'^ *(\w+): "(#[0-9a-f]{6})",$', re.MULTILINE)
 # (of the language of pictures, which nobody asks for)
 NAMES = {"http://www.w3.org/2000/svg"}
+# what the page in one file holds
+HELD = re.compile(r"POLYOVER_HELD = (\{.*?\});")
 WIDTHS = ((1600, 1000), (1000, 760), (400, 860))
 SCHEME = "return getComputedStyle(document.documentElement).colorScheme"
 OVERFLOW = "return [document.documentElement.scrollWidth, innerWidth]"
@@ -175,6 +178,8 @@ class Alone(unittest.TestCase):
             file = Path(folder) / "play.html"
             words = [sys.executable, "-m", "polyover", "play", "--out", str(file)]
             subprocess.run(words, cwd=ROOT / "python", check=True)
+            held = json.loads(HELD.search(file.read_text())[1])
+            self.assertLess(len(held["worker"]), 2_000_000, "Chromium takes no longer address")
             page.size()
             page.load(SQUARES, file.as_uri())
             self.assertEqual(page.answer()["shapes"], [[[[2, 4], [2, 2], [4, 2], [4, 4]]]])

@@ -2,7 +2,8 @@
 
 A browser loads no module from a file beside a page that it opened from a file. So each module becomes an address that
 holds its text, a `data:` URL. In the page a map of imports names these; a worker has no such map, and there each module
-holds the addresses of those that it imports.
+holds the addresses of those that it imports. Chromium takes no address of more than two million characters, so the
+modules of the worker are held without comments and indentation.
 """
 
 from __future__ import annotations
@@ -18,6 +19,9 @@ from .play import ENGINE, WASM, Page
 IMPORT = re.compile(r'(\bfrom\s*|\bimport\s*)"(\.{1,2}/[^"]+\.js)"')
 STYLE = re.compile(r'<link rel="stylesheet" href="([^"]+)"([^>]*?) */>')
 SCRIPT = re.compile(r'<script type="module" src="([^"]+)"></script>')
+# a comment that has its lines for itself, and what a line begins with
+COMMENT = re.compile(r"^ *(?:/\*.*?\*/|//[^\n]*)\n", re.M | re.S)
+INDENT = re.compile(r"^ +", re.M)
 POLICY = re.compile(r'content="default-src[^"]*"')
 # nothing is loaded from anywhere: all is inside
 ALLOWED = (
@@ -53,6 +57,12 @@ def with_names(page: Page, name: str) -> str:
     return address_of(IMPORT.sub(lambda found: f'{found[1]}"{PLAY}{beside(name, found[2])}"', page.text(name)))
 
 
+def without_comments(text: str) -> str:
+    """The text of a module without comments on lines of their own and without indentation; one that has a literal of
+    several lines stays as it is."""
+    return text if any(it.count("`") % 2 for it in text.splitlines()) else INDENT.sub("", COMMENT.sub("", text))
+
+
 def with_addresses(page: Page, name: str, known: dict[str, str]) -> str:
     """The address of a module that imports others by their addresses, each of which is made once."""
     if name not in known:
@@ -60,7 +70,7 @@ def with_addresses(page: Page, name: str, known: dict[str, str]) -> str:
         def imported(found: re.Match[str]) -> str:
             return f'{found[1]}"{with_addresses(page, beside(name, found[2]), known)}"'
 
-        known[name] = address_of(IMPORT.sub(imported, page.text(name)))
+        known[name] = address_of(IMPORT.sub(imported, without_comments(page.text(name))))
     return known[name]
 
 
