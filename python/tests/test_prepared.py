@@ -24,7 +24,7 @@ LIMIT = 4611686018427387903
 IN, ON, OUT = "inside", "boundary", "outside"
 # a square in which another runs the same way, and beside it one that runs the other way: they wind 1, 2 and -1 times
 WOUND = [[(0, 0), (9, 0), (9, 9), (0, 9)], [(3, 3), (6, 3), (6, 6), (3, 6)], [(20, 0), (20, 9), (29, 9), (29, 0)]]
-# (between the two squares, in the inner one, on its edge, in the other one, on its edge, on the outer one's)
+# (in the outer square alone, in the inner square, on its edge, in the reversed square, on its edge, on the outer edge)
 ASKED = [(1, 1), (4, 4), (3, 5), (25, 5), (29, 5), (0, 9)]
 # (it runs round the left half once, and round the right half once the other way)
 BOW = [(0, 0), (4, 4), (4, 0), (0, 4)]
