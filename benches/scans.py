@@ -38,7 +38,7 @@ SMALL = [str(word) for kind in KINDS for limit in LIMITS.values() for word in (k
 
 NAME = "timed_scans"
 USES = [
-    "overlay_geom", "overlay_scan", "overlay_tree", "overlay_arrange", "overlay_walk", "overlay_extract",
+    "overlay_geom", "overlay_scan", "overlay_arrange", "overlay_walk", "overlay_extract",
     "overlay_relate", "anyhow",
 ]
 DRIVER = """\
@@ -55,7 +55,7 @@ use overlay_extract::binding::bind::bind_contours;
 use overlay_geom::point::IntPoint;
 use overlay_relate::in_contour::locate_in_contour;
 use overlay_relate::location::PointLocation;
-use overlay_tree::either::EitherScan;
+use overlay_scan::tree::either::EitherScan;
 use overlay_walk::contour::{Contour, Role};
 use overlay_walk::step::Step;
 use std::alloc::Global;

@@ -27,14 +27,14 @@ use overlay_extract::extract::{extract_contours, extract_shapes, extract_shapes_
 use overlay_extract::hierarchy::{
     extract_shape_hierarchy, extract_shape_hierarchy_with_trees_from,
 };
+use overlay_extract::slicing::cutter::cut_loops;
+use overlay_extract::slicing::loops::filled_loops;
+use overlay_extract::slicing::orbits::side_orbits;
+use overlay_extract::slicing::roles::contours_of_loops;
+use overlay_extract::slicing::sliced_shapes::{sliced_shapes, sliced_shapes_with_trees_from};
+use overlay_extract::slicing::slices::{slice_contours, slice_contours_with_trees_from};
+use overlay_extract::slicing::tours::tours;
 use overlay_geom::error::OverlayError;
-use overlay_slice::cutter::cut_loops;
-use overlay_slice::loops::filled_loops;
-use overlay_slice::orbits::side_orbits;
-use overlay_slice::roles::contours_of_loops;
-use overlay_slice::sliced_shapes::{sliced_shapes, sliced_shapes_with_trees_from};
-use overlay_slice::slices::{slice_contours, slice_contours_with_trees_from};
-use overlay_slice::tours::tours;
 use overlay_vector::graph_vectors::graph_vectors;
 use overlay_vector::selected_vectors::selected_vectors;
 use overlay_vector::vector_shapes::{vector_shapes, vector_shapes_with_trees_from};
@@ -315,37 +315,37 @@ fn check_slices<I: Width>(trial: &Trial<'_, impl Abort>) -> Result<(), Fail> {
     let memory = trial.memory;
     let (graph, options) = (plain_graph::<I>(memory)?, IntOverlayOptions::default());
     let least: I::WideUInt = options.min_output_area;
-    let orbits = trial.refuse_call("overlay_slice::side_orbits", || side_orbits(&graph))?;
+    let orbits = trial.refuse_call("overlay_extract::side_orbits", || side_orbits(&graph))?;
     let counts = [
-        count_of(trial, "overlay_slice::tours", || tours(memory, &orbits))?,
+        count_of(trial, "overlay_extract::tours", || tours(memory, &orbits))?,
         count_of(
             trial,
-            "overlay_slice::filled_loops",
+            "overlay_extract::filled_loops",
             || filled_loops(&graph),
         )?,
-        count_of(trial, "overlay_slice::cut_loops", || {
+        count_of(trial, "overlay_extract::cut_loops", || {
             cut_loops(memory, &orbits[0])
         })?,
     ];
     assert!(trial.rt; orbits.len() == 4 && counts == [4, 4, 1]);
     let contours = trial.refuse_each(
-        "overlay_slice::contours_of_loops",
+        "overlay_extract::contours_of_loops",
         || Ok(Some(filled_loops(&graph)?)),
         |it| contours_of_loops(memory, taken::<I>(it)?),
         |_| Ok(true),
     )?;
-    let found = trial.refuse_call("overlay_slice::slice_contours", || {
+    let found = trial.refuse_call("overlay_extract::slice_contours", || {
         slice_contours(&graph, least)
     })?;
-    let shapes = trial.refuse_call("overlay_slice::sliced_shapes", || {
+    let shapes = trial.refuse_call("overlay_extract::sliced_shapes", || {
         sliced_shapes(&graph, DIRECTION, least)
     })?;
     assert!(trial.rt; contours.len() == 4 && found.contours.len() == 4 && shapes.len() == 3);
     for tree_from in LIMITS {
-        let found = trial.refuse_call("overlay_slice::slice_contours_with_trees_from", || {
+        let found = trial.refuse_call("overlay_extract::slice_contours_with_trees_from", || {
             slice_contours_with_trees_from(&graph, least, tree_from)
         })?;
-        let again = trial.refuse_call("overlay_slice::sliced_shapes_with_trees_from", || {
+        let again = trial.refuse_call("overlay_extract::sliced_shapes_with_trees_from", || {
             sliced_shapes_with_trees_from(&graph, DIRECTION, least, tree_from)
         })?;
         assert!(trial.rt; found.contours.len() == 4 && again == shapes);

@@ -5,7 +5,7 @@ use crate::refusals::{Answer, Memory, Trial};
 use i_overlay::string::line::IntLine;
 use overlay_scan::list::ScanList;
 use overlay_scan::scan::Scan;
-use overlay_tree::tree::ScanTree;
+use overlay_scan::tree::ScanTree;
 use std::process::Abort;
 use std::test::Fail;
 

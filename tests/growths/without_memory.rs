@@ -14,7 +14,7 @@ use i_overlay::overlay::ShapeType;
 use i_overlay::relate::PredicateOverlay;
 use overlay_scan::list::ScanList;
 use overlay_scan::scan::Scan;
-use overlay_tree::tree::ScanTree;
+use overlay_scan::tree::ScanTree;
 use std::cmp::Ordering;
 use std::process::Abort;
 use std::test::Fail;

@@ -1,3 +1,6 @@
-//! Tests of `overlay_extract`: the contours of a region.
+//! Tests of `overlay_extract`: the contours of a region, and a shape sliced along strings.
 
 mod simplified;
+mod slice_bound;
+mod slice_graphs;
+mod slice_rows;

@@ -6,7 +6,7 @@ use overlay_geom::path::IntLine;
 use overlay_geom::point::IntPoint;
 use overlay_scan::list::ScanList;
 use overlay_scan::scan::Scan;
-use overlay_tree::tree::ScanTree;
+use overlay_scan::tree::ScanTree;
 use std::process::Abort;
 
 // The answer where no edge is found.

@@ -1,4 +1,4 @@
-//! Tests of `overlay_scan` and of `overlay_tree`: sweeps that keep their live edges in a list or in a tree.
+//! Tests of `overlay_scan`: sweeps that keep their live edges in a list or in a tree.
 
 mod held;
 mod levels;

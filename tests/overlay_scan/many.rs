@@ -5,7 +5,7 @@ use crate::orders::{COUNT, Order, any_gap, any_height, heights_in};
 use overlay_geom::error::OverlayError;
 use overlay_scan::list::ScanList;
 use overlay_scan::scan::Scan;
-use overlay_tree::tree::ScanTree;
+use overlay_scan::tree::ScanTree;
 use refusing_alloc::refusing::Refusing;
 use std::alloc::Global;
 use std::process::Abort;

@@ -4,15 +4,15 @@ ghost use Rattle.std.specs.Prelude.{IfOk};
 ghost use Rattle.overlay_geom.specs.Paths.{plain_shapes};
 ghost use Rattle.overlay_plane.specs.Balance.{HasBalancedCounts};
 ghost use Rattle.overlay_arrange.specs.Graphs.{graph_edges};
-ghost use Rattle.overlay_slice.specs.Sliced.{IsSliced};
+ghost use Rattle.overlay_extract.specs.Sliced.{IsSliced};
 
 use overlay_arrange::count::EdgeCount;
 use overlay_arrange::graph::Graph;
 use overlay_arrange::options::ContourDirection;
+use overlay_extract::slicing::sliced_shapes::sliced_shapes;
 use overlay_geom::error::OverlayError;
 use overlay_geom::number::{IntNumber, UIntNumber};
 use overlay_geom::path::IntShapes;
-use overlay_slice::sliced_shapes::sliced_shapes;
 use std::alloc::Allocator;
 
 /// The shapes of the slices, however small: of each its outline, counterclockwise, and then its holes, clockwise.

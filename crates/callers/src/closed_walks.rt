@@ -3,15 +3,15 @@
 ghost use Rattle.std.specs.Prelude.{All, IfOk, IsOkUnless, OnOk};
 ghost use Rattle.overlay_geom.specs.Points.{plain_point};
 ghost use Rattle.overlay_plane.specs.Groups.{IsSimpleContour};
-ghost use Rattle.overlay_slice.specs.ClosedWalks.{HasLength, IsClosedWalk, LeadsTo};
+ghost use Rattle.overlay_extract.specs.ClosedWalks.{HasLength, IsClosedWalk, LeadsTo};
 ghost use Rattle.overlay_walk.specs.Steps.{plain_steps};
 ghost use Rattle.overlay_walk.specs.Walks.{plain_walks};
 
+use overlay_extract::slicing::cutter::cut_loops;
 use overlay_geom::edge::compare_points;
 use overlay_geom::error::OverlayError;
 use overlay_geom::number::IntNumber;
 use overlay_geom::point::IntPoint;
-use overlay_slice::cutter::cut_loops;
 use overlay_walk::step::Step;
 use std::alloc::Global;
 

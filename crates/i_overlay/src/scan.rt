@@ -2,4 +2,4 @@
 
 pub use overlay_scan::list::ScanList;
 pub use overlay_scan::scan::Scan;
-pub use overlay_tree::tree::ScanTree;
+pub use overlay_scan::tree::ScanTree;

@@ -4,7 +4,7 @@ ghost use Rattle.std.specs.Prelude.{◌≡◌, ◌≤◌, ◌↔◌, true, map, 
 ghost use Rattle.overlay_geom.specs.Settled.{IsSettled};
 ghost use Rattle.overlay_plane.specs.Balance.{HasBalancedCounts};
 ghost use Rattle.overlay_scan.specs.Scan.{empty_sweep};
-ghost use Rattle.overlay_tree.specs.EitherScans.{either_sweep, is_tree};
+ghost use Rattle.overlay_scan.specs.EitherScans.{either_sweep, is_tree};
 ghost use Rattle.overlay_arrange.specs.Content.{plain_edges, IsContent, IsAscending};
 ghost use Rattle.overlay_arrange.specs.Rules.{fill_bits};
 
@@ -19,7 +19,7 @@ use crate::vector::SideFill;
 use crate::windings::Windings;
 use overlay_geom::error::OverlayError;
 use overlay_geom::number::IntNumber;
-use overlay_tree::either::EitherScan;
+use overlay_scan::tree::either::EitherScan;
 use std::alloc::Allocator;
 
 // Number of edges that are live at once, estimated by a sample, from which on a tree is faster. An insert into a list

@@ -11,3 +11,4 @@ mod in_shapes;
 pub mod laws;
 mod links;
 pub mod only_answers;
+pub mod slicing;

@@ -6,7 +6,7 @@ ghost use Rattle.overlay_geom.specs.Resolved.{IsResolved};
 ghost use Rattle.overlay_relate.specs.Answers.{AnswersWhere};
 ghost use Rattle.overlay_relate.specs.Locations.{IsLocatedIn};
 ghost use Rattle.overlay_scan.specs.Scan.{empty_sweep};
-ghost use Rattle.overlay_tree.specs.EitherScans.{either_sweep, is_tree};
+ghost use Rattle.overlay_scan.specs.EitherScans.{either_sweep, is_tree};
 
 use crate::contour_edges::contour_edges;
 use crate::location::PointLocation;
@@ -15,7 +15,7 @@ use overlay_geom::edge::IntEdge;
 use overlay_geom::error::OverlayError;
 use overlay_geom::number::IntNumber;
 use overlay_geom::point::IntPoint;
-use overlay_tree::either::EitherScan;
+use overlay_scan::tree::either::EitherScan;
 use std::alloc::Allocator;
 
 /// Returns where each point lies in the contour, in order. Live edges are kept in a tree where the contour has

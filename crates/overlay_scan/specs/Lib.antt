@@ -1,7 +1,15 @@
+pub mod Descents
 pub mod Determined
+pub mod EitherScans
+pub mod Forests
+pub mod HeldEdges
 pub mod HeldEntries
 pub mod Laws
 pub mod Lists
+pub mod Runs
 pub mod Scan
 pub mod Searches
+pub mod Sides
+pub mod Store
 pub mod Sweeps
+pub mod Trees

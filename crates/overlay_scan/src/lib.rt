@@ -1,4 +1,4 @@
-//! The live edges of a sweep in a list, from bottom to top.
+//! The live edges of a sweep from bottom to top, in a list or in a balanced tree.
 #![tactic(auto)]
 
 pub mod laws;
@@ -7,3 +7,4 @@ mod live;
 pub mod only_sweeps;
 pub mod scan;
 mod search;
+pub mod tree;

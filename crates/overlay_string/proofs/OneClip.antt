@@ -6,8 +6,8 @@ use Rattle.std.proofs.lemmas.Bool.{both_ways}
 use Rattle.std.proofs.lemmas.List.Elements.{All-contains, All-head, All-tail, Contains-append_right}
 use Rattle.overlay_geom.specs.Plane.{Point, Step, is_forward, reversed_step, backward}
 use Rattle.overlay_geom.proofs.Entries.{Contains-head}
-use Rattle.overlay_slice.proofs.OneRepeat.{same_first, same_rest}
-use Rattle.overlay_slice.proofs.TurnedLoops.{again}
+use Rattle.overlay_extract.proofs.OneRepeat.{same_first, same_rest}
+use Rattle.overlay_extract.proofs.TurnedLoops.{again}
 use Rattle.overlay_string.specs.ClipPaths.{TakesFirst, IsWalkFrom, IsPathOf, AreClipPaths, points_along}
 use Rattle.overlay_string.specs.ClipPaths.IsWalkFrom.{stop, go}
 use Rattle.overlay_string.specs.ClipPaths.IsPathOf.{begun, ended}

@@ -6,8 +6,8 @@ use Rattle.overlay_geom.specs.Plane.{Point}
 use Rattle.overlay_geom.proofs.Signs.{linear}
 use Rattle.overlay_arrange.specs.declared.options.ContourDirection.TheVariants.{CounterClockwise}
 use Rattle.overlay_extract.proofs.SameAscending.{same_ascending}
-use Rattle.overlay_slice.proofs.OneSlicing.{one_slicing}
-use Rattle.overlay_slice.specs.Sliced.{IsSliced}
+use Rattle.overlay_extract.proofs.OneSlicing.{one_slicing}
+use Rattle.overlay_extract.specs.Sliced.{IsSliced}
 use Rattle.overlay_string.specs.Grids.{IsGridPlace, AreGridPlaces, AreLinesAcross, upright, level}
 use Rattle.overlay_string.specs.OneGrid.{OneGrid, OneTiling}
 use Rattle.overlay_string.specs.Spans.{Span, Bounds, IsBoxOf}

@@ -19,7 +19,7 @@ use Rattle.overlay_string.specs.ClipPaths.IsWalkFrom.{stop, go}
 use Rattle.overlay_string.specs.ClipPaths.IsPathOf.{begun, ended}
 use Rattle.overlay_string.specs.ClipPaths.AreClipPaths.{done, next}
 use Rattle.overlay_string.specs.Laws.{steps_of_paths}
-use Rattle.overlay_slice.proofs.TurnedLoops.{again}
+use Rattle.overlay_extract.proofs.TurnedLoops.{again}
 
 -- ---- each piece once
 

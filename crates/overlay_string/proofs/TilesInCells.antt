@@ -25,12 +25,12 @@ use Rattle.overlay_arrange.proofs.RuledContents.{zero_is_empty}
 use Rattle.overlay_arrange.specs.Rules.{is_filled}
 use Rattle.overlay_arrange.specs.declared.fill_rule.FillRule.{FillRule}
 use Rattle.overlay_arrange.specs.declared.options.ContourDirection.TheVariants.{CounterClockwise}
-use Rattle.overlay_slice.specs.Bound.{PassesAnchor}
-use Rattle.overlay_slice.specs.FilledSides.{AreFilledSides, IsInOneOrbit}
-use Rattle.overlay_slice.specs.Sliced.{IsOutlineWithHoles, left_steps, left_steps_of_shapes, sides_under}
-use Rattle.overlay_slice.specs.Tours.{LiesInOneOrbit}
-use Rattle.overlay_slice.proofs.NextSides.{next_is_neighbour}
-use Rattle.overlay_slice.proofs.SideLists.{filled_sides_of_edges}
+use Rattle.overlay_extract.specs.Bound.{PassesAnchor}
+use Rattle.overlay_extract.specs.FilledSides.{AreFilledSides, IsInOneOrbit}
+use Rattle.overlay_extract.specs.Sliced.{IsOutlineWithHoles, left_steps, left_steps_of_shapes, sides_under}
+use Rattle.overlay_extract.specs.Tours.{LiesInOneOrbit}
+use Rattle.overlay_extract.proofs.NextSides.{next_is_neighbour}
+use Rattle.overlay_extract.proofs.SideLists.{filled_sides_of_edges}
 use Rattle.overlay_string.specs.OneShot.{shape_and_strings}
 use Rattle.overlay_string.specs.StringSlices.{AreSlicedOfPaths, IsSlicedWhole}
 use Rattle.overlay_string.specs.Cells.{LieInOneCell, RunsAlongGrid}

@@ -10,7 +10,7 @@ use Rattle.overlay_arrange.specs.declared.fill_rule.FillRule.{FillRule}
 use Rattle.overlay_arrange.specs.declared.options.ContourDirection.TheVariants.{CounterClockwise}
 use Rattle.overlay_arrange.specs.declared.options.IntOverlayOptions.{IntOverlayOptions}
 use Rattle.overlay_builder.specs.PathLists.{AddedPath, HoldsPaths}
-use Rattle.overlay_slice.specs.Sliced.{IsSliced}
+use Rattle.overlay_extract.specs.Sliced.{IsSliced}
 
 -- the shapes into which what the graph's shape fills is sliced along the graph's edges, strings too, as the options ask
 -- for: in their output direction, and without contours below their minimum area, in a type of this width

@@ -9,7 +9,7 @@ use Rattle.overlay_plane.specs.BesideOrbits.{HasEachOnce}
 use Rattle.overlay_plane.specs.ShapeWindings.{steps_of_shapes}
 use Rattle.overlay_arrange.specs.declared.fill_rule.FillRule.{FillRule}
 use Rattle.overlay_arrange.specs.declared.options.ContourDirection.TheVariants.{CounterClockwise}
-use Rattle.overlay_slice.specs.Sliced.{WindsRoundFilled, left_steps_of_shapes, sides_under}
+use Rattle.overlay_extract.specs.Sliced.{WindsRoundFilled, left_steps_of_shapes, sides_under}
 use Rattle.overlay_string.specs.OneShot.{shape_and_strings, MayRefusePaths}
 use Rattle.overlay_string.specs.StringSlices.{AreSlicedOfPaths}
 use Rattle.overlay_string.specs.Cells.{LieInOneCell, RunsAlongGrid}

@@ -9,10 +9,10 @@ use crate::string_rule::StringRule;
 use overlay_arrange::options::IntOverlayOptions;
 use overlay_arrange::string_count::ShapeCountString;
 use overlay_builder::balanced_graph::BalancedGraph;
+use overlay_extract::slicing::sliced_shapes::sliced_shapes;
 use overlay_geom::error::OverlayError;
 use overlay_geom::integer::OverlayInt;
 use overlay_geom::path::IntShapes;
-use overlay_slice::sliced_shapes::sliced_shapes;
 use std::alloc::Allocator;
 
 /// A view of what a builder for strings holds: the edges of its arrangement, with the sides that the shape fills under

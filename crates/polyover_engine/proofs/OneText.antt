@@ -11,7 +11,7 @@ use Rattle.overlay_extract.specs.PlacedResults.{IsHierarchy}
 use Rattle.overlay_extract.specs.Results.{region_asked, IsResult}
 use Rattle.overlay_plane.specs.Regions.{IsRuled}
 use Rattle.overlay_relate.specs.PredicateQueries.{AreRelations}
-use Rattle.overlay_slice.proofs.OneSlicing.{one_slicing}
+use Rattle.overlay_extract.proofs.OneSlicing.{one_slicing}
 use Rattle.overlay_string.specs.ClipPaths.{ArePathsOf}
 use Rattle.overlay_string.specs.ClipPieces.{clip_pieces}
 use Rattle.overlay_string.specs.StringSlices.{IsSlicedWhole}

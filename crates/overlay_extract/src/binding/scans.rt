@@ -3,12 +3,12 @@
 ghost use Rattle.std.specs.Prelude.{◌≡◌, ◌≤◌, ◌↔◌, true, not, length, filter};
 ghost use Rattle.overlay_plane.specs.RoledContours.{is_outline};
 ghost use Rattle.overlay_scan.specs.Scan.{empty_sweep};
-ghost use Rattle.overlay_tree.specs.EitherScans.{either_sweep, is_tree};
+ghost use Rattle.overlay_scan.specs.EitherScans.{either_sweep, is_tree};
 ghost use Rattle.overlay_walk.specs.GroupedContours.{plain_contours};
 
 use crate::binding::roles::shape_count;
 use overlay_geom::number::IntNumber;
-use overlay_tree::either::EitherScan;
+use overlay_scan::tree::either::EitherScan;
 use overlay_walk::contour::Contour;
 use std::alloc::Allocator;
 

@@ -8,8 +8,8 @@ use Rattle.overlay_geom.specs.Plane.{point_eq}
 use Rattle.overlay_geom.specs.Points.{plain_point}
 use Rattle.overlay_geom.proofs.Orders.{point_eq-same, point_eq-of_same}
 use Rattle.overlay_geom.proofs.PointComparisons.{point_cmp-is_tie}
-use Rattle.overlay_slice.specs.ClosedWalks.{HasLength, LeadsTo}
-use Rattle.overlay_slice.proofs.ClosedWalks.{leads-push}
+use Rattle.overlay_extract.specs.ClosedWalks.{HasLength, LeadsTo}
+use Rattle.overlay_extract.proofs.ClosedWalks.{leads-push}
 use Rattle.overlay_walk.specs.Steps.{plain_steps}
 use Rattle.callers.proofs.closed_walks.push_step.Goals as goal
 

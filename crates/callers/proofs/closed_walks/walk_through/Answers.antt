@@ -1,7 +1,7 @@
 -- The walk begins at its start, goes on from the point reached, and leads back.
 use Rattle.std.proofs.Common.{refl, pos}
 use Rattle.std.proofs.lemmas.List.Elements.{All-nil}
-use Rattle.overlay_slice.specs.ClosedWalks.{HasLength}
+use Rattle.overlay_extract.specs.ClosedWalks.{HasLength}
 use Rattle.callers.proofs.closed_walks.walk_through.Goals as goal
 
 pub returns-then-is_empty-clause-closed : goal.returns-then-is_empty-clause-closed

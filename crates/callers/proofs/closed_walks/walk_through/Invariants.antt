@@ -1,7 +1,7 @@
 -- What is walked so far leads from the start to the point reached.
 use Rattle.std.specs.Prelude.{All}
 use Rattle.overlay_geom.specs.Points.{plain_point}
-use Rattle.overlay_slice.specs.ClosedWalks.{HasLength, LeadsTo}
+use Rattle.overlay_extract.specs.ClosedWalks.{HasLength, LeadsTo}
 use Rattle.overlay_walk.specs.Steps.{plain_steps}
 use Rattle.callers.proofs.closed_walks.walk_through.Given as goal
 

@@ -3,7 +3,7 @@ use Rattle.std.proofs.Common.{◌≡◌, ◌≤◌, ◌-◌, ◌↔◌, true, no
 use Rattle.std.proofs.lemmas.List.{length-map}
 use Rattle.std.proofs.lemmas.List.Filters.{length-filter_both}
 use Rattle.overlay_plane.specs.RoledContours.{Contour, is_outline}
-use Rattle.overlay_tree.specs.EitherScans.{is_tree}
+use Rattle.overlay_scan.specs.EitherScans.{is_tree}
 use Rattle.overlay_walk.specs.GroupedContours.{plain_contour, plain_contours}
 use Rattle.overlay_extract.proofs.binding.scans.scan_for_islands.Goals as goal
 

@@ -1,0 +1,15 @@
+-- What is walked so far is cut, in order, and what is to come leads back to the start.
+use Rattle.std.proofs.Common.{take, drop}
+use Rattle.overlay_extract.specs.Repeats.{IsCutOnTheWay}
+use Rattle.overlay_extract.proofs.CutPlaces.{IsOnItsWay}
+use Rattle.overlay_walk.specs.Steps.{plain_steps}
+use Rattle.overlay_walk.specs.Walks.{plain_walks}
+use Rattle.overlay_extract.proofs.slicing.cutter.cut_loops.Given as goal
+
+abbrev pub invariant-loop-place : goal.invariant-loop-place
+invariant-loop-place g l =
+    let whole = g.I.IntNumber.whole in
+    let path = plain_steps whole l.cutter.path.items in
+    let loops = plain_walks whole l.cutter.loops.items in
+    IsOnItsWay (plain_steps whole (take l.place l.walk)) (plain_steps whole (drop l.place l.walk)) path loops
+    × IsCutOnTheWay (plain_steps whole l.walk) path (plain_steps whole (drop l.place l.walk)) loops

@@ -1,0 +1,54 @@
+-- The entries below the start of the edge.
+use Rattle.std.proofs.Common.{◌≡◌, not, rules, List, [], ◌∷◌, sym, ap, subst, ◌∙◌}
+use Rattle.std.specs.Ordering.{is_gt}
+use Rattle.overlay_geom.specs.Lines.{plain_line}
+use Rattle.overlay_geom.specs.declared.point.IntPoint.{IntPoint}
+use Rattle.overlay_scan.specs.HeldEdges.{held_sweep}
+use Rattle.overlay_scan.specs.Lists.{plain_entry, IsInRange, is_lower}
+use Rattle.overlay_scan.proofs.Asked.{moved, value_is_below, may_compare}
+use Rattle.overlay_scan.proofs.Moving.{sweep_moved}
+use Rattle.overlay_scan.proofs.tree.ScanTreeScan.first_less.Goals as goal
+
+pub look_up-found-requires : goal.look_up-found-requires
+look_up-found-requires g c k d lt a b at_a at_b =
+    let whole = g.I.IntNumber.whole in
+    let limit = g.I.IntNumber.limit in
+    let old = c.args.self.now in
+    let asked = (plain_entry whole c.live_edge-asked.result).edge in
+    let range = subst (IsInRange limit) (sym (ap (λ n. n.edge) c.live_edge-asked.ensures))
+    (record { a = c.requires.asked.a_in_range; b = c.requires.asked.b_in_range }) in
+    let both = may_compare whole limit c.args.x old.entries old.reached asked c.requires.state c.requires.moves range
+    k d lt a b at_a at_b in
+    let one : IsInRange limit (plain_line whole (a ∷ b ∷ [])) = both.0 in
+    let other : IsInRange limit asked = both.1 in
+    search rules
+
+pub returns-clause-value : goal.returns-clause-value
+returns-clause-value g c =
+    let whole = g.I.IntNumber.whole in
+    let old = c.args.self.now in
+    let new = c.look_up-found.new.self in
+    let asked = (plain_entry whole c.live_edge-asked.result).edge in
+    c.unwrap_or.ensures
+    ∙ value_is_below whole g.I.IntNumber.limit c.args.x old.entries new.entries old.reached new.reached c.requires.state
+    c.requires.moves (plain_line whole c.args.edge) c.requires.meets
+    (λ line o. List (IntPoint g.row.I.Denot) × (not (is_gt o) ≡ is_lower (plain_line whole line) asked))
+    c.look_up-found.result asked (ap (λ n. n.edge) c.live_edge-asked.ensures) (λ line o answered. answered.1)
+    c.requires.asked c.look_up-found.ensures.found c.args.default
+
+pub returns-clause-content : goal.returns-clause-content
+returns-clause-content g c =
+    let whole = g.I.IntNumber.whole in
+    let old = c.args.self.now in
+    let new = c.look_up-found.new.self in
+    let asked = (plain_entry whole c.live_edge-asked.result).edge in
+    moved whole c.args.x old.entries old.reached c.requires.moves new.entries new.reached
+    c.look_up-found.ensures.reached
+    (λ line o. List (IntPoint g.row.I.Denot) × (not (is_gt o) ≡ is_lower (plain_line whole line) asked))
+    c.look_up-found.result c.look_up-found.ensures.found
+
+pub returns-clause-state : goal.returns-clause-state
+returns-clause-state g c =
+    let whole = g.I.IntNumber.whole in
+    sweep_moved g.I.IntNumber.limit (whole c.args.x) (held_sweep whole c.args.self.now)
+    (held_sweep whole c.look_up-found.new.self) c.requires.state c.requires.moves (returns-clause-content g c)

@@ -1,6 +1,0 @@
--- By their hand filled sides lead on.
-use Rattle.overlay_slice.proofs.NextSides.{filled_sides_lead_on}
-use Rattle.overlay_slice.proofs.filled_sides.filled_sides_lead_on.Goals as goal
-
-pub returns : goal.returns
-returns c = filled_sides_lead_on

@@ -1,6 +1,0 @@
--- The lemma is the law.
-use Rattle.overlay_slice.proofs.OrbitTours.{orbits_make_tours}
-use Rattle.overlay_slice.proofs.laws.orbits_make_tours.Goals as goal
-
-pub returns : goal.returns
-returns c = orbits_make_tours

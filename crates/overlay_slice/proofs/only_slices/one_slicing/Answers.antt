@@ -1,6 +1,0 @@
--- The law is proved in proofs/OneSlicing.antt.
-use Rattle.overlay_slice.proofs.OneSlicing.{one_slicing}
-use Rattle.overlay_slice.proofs.only_slices.one_slicing.Goals as goal
-
-pub returns : goal.returns
-returns c = one_slicing

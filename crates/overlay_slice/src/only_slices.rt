@@ -1,9 +1,0 @@
-//! Slices are the only ones that their contract allows.
-
-ghost use Rattle.overlay_slice.specs.OneSlicing.{OneSlicing};
-
-/// Two results of slicing that are asked for alike, over the edges of one arrangement, are equal: the loops, their
-/// order and starts, and the shapes in which they stand.
-pub fn one_slicing()
-    ensures { OneSlicing }
-{}

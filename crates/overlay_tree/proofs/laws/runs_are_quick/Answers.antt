@@ -1,6 +1,0 @@
--- The law is proved in proofs/ManyCalls.antt.
-use Rattle.overlay_tree.proofs.ManyCalls.{runs_are_quick}
-use Rattle.overlay_tree.proofs.laws.runs_are_quick.Goals as goal
-
-pub returns : goal.returns
-returns g c = runs_are_quick _ _

@@ -1,0 +1,107 @@
+//! Shapes sliced along strings, on worked rows, at each coordinate type.
+
+use crate::slice_graphs::{Points, graph_of, shapes_of};
+use overlay_arrange::options::ContourDirection;
+use overlay_extract::slicing::sliced_shapes::{sliced_shapes, sliced_shapes_with_trees_from};
+use overlay_geom::number::{IntNumber, UIntNumber};
+use std::alloc::Global;
+use std::process::Abort;
+use std::test::Fail;
+
+// A square of 20 round the origin, and the line through its middle.
+const SQUARE: Points<'static> = &[(-10, 10), (-10, -10), (10, -10), (10, 10)];
+
+const MIDDLE: Points<'static> = &[(-20, 0), (20, 0)];
+
+// Its halves, counterclockwise.
+const LOWER: Points<'static> = &[(10, -10), (10, 0), (-10, 0), (-10, -10)];
+
+const UPPER: Points<'static> = &[(10, 0), (10, 10), (-10, 10), (-10, 0)];
+
+// The shapes into which the contours are sliced, as they are to be: with the limit for trees as it is, with trees
+// alone, and with lists alone.
+fn check<I: IntNumber + PartialEq + From<i16>>(
+    rt: &impl Abort,
+    alloc: Global,
+    contours: &[Points<'_>],
+    strings: &[Points<'_>],
+    wanted: &[&[Points<'_>]],
+) -> Result<(), Fail> {
+    let graph = graph_of::<I>(rt, alloc, contours, strings)?;
+    let all = I::WideUInt::zero();
+    let direction = ContourDirection::CounterClockwise;
+    let wanted = shapes_of::<I>(alloc, wanted)?;
+    assert!(rt; sliced_shapes(&graph, direction, all)? == wanted);
+    for tree_from in [0, usize::MAX] {
+        let again = sliced_shapes_with_trees_from(&graph, direction, all, tree_from)?;
+        assert!(rt; again == wanted);
+    }
+    Ok(())
+}
+
+// A line through a square cuts it in two; a line that ends inside cuts nothing, and its point on the side stays.
+fn lines<I: IntNumber + PartialEq + From<i16>>(rt: &impl Abort, alloc: Global) -> Result<(), Fail> {
+    check::<I>(rt, alloc, &[SQUARE], &[MIDDLE], &[&[LOWER], &[UPPER]])?;
+    check::<I>(
+        rt,
+        alloc,
+        &[&[(0, 0), (4, 0), (4, 4), (0, 4)]],
+        &[&[(-1, 2), (2, 2)]],
+        &[&[&[(4, 0), (4, 4), (0, 4), (0, 2), (0, 0)]]],
+    )
+}
+
+// A closed string cuts an island out, round which a hole is left.
+fn hole<I: IntNumber + PartialEq + From<i16>>(rt: &impl Abort, alloc: Global) -> Result<(), Fail> {
+    check::<I>(
+        rt,
+        alloc,
+        &[SQUARE],
+        &[&[(-5, -5), (-5, 5), (5, 5), (5, -5), (-5, -5)]],
+        &[
+            &[
+                &[(10, -10), (10, 10), (-10, 10), (-10, -10)],
+                &[(-5, -5), (-5, 5), (5, 5), (5, -5)],
+            ],
+            &[&[(5, -5), (5, 5), (-5, 5), (-5, -5)]],
+        ],
+    )
+}
+
+// Without a shape there are no slices.
+fn nothing<I: IntNumber + PartialEq + From<i16>>(
+    rt: &impl Abort,
+    alloc: Global,
+) -> Result<(), Fail> {
+    check::<I>(rt, alloc, &[], &[MIDDLE], &[])?;
+    check::<I>(rt, alloc, &[], &[], &[])
+}
+
+// The halves in the opposite direction: each contour has its points in the opposite order.
+fn clockwise<I: IntNumber + PartialEq + From<i16>>(
+    rt: &impl Abort,
+    alloc: Global,
+) -> Result<(), Fail> {
+    let graph = graph_of::<I>(rt, alloc, &[SQUARE], &[MIDDLE])?;
+    let all = I::WideUInt::zero();
+    let shapes = sliced_shapes(&graph, ContourDirection::Clockwise, all)?;
+    let lower: Points<'static> = &[(-10, -10), (-10, 0), (10, 0), (10, -10)];
+    let upper: Points<'static> = &[(-10, 0), (-10, 10), (10, 10), (10, 0)];
+    assert!(rt; shapes == shapes_of::<I>(alloc, &[&[lower], &[upper]])?);
+    Ok(())
+}
+
+// All of these, at a coordinate type.
+fn rows<I: IntNumber + PartialEq + From<i16>>(rt: &impl Abort, alloc: Global) -> Result<(), Fail> {
+    lines::<I>(rt, alloc)?;
+    hole::<I>(rt, alloc)?;
+    nothing::<I>(rt, alloc)?;
+    clockwise::<I>(rt, alloc)
+}
+
+#[test]
+fn worked_slices(rt: HostRuntime) -> Result<(), Fail> {
+    rows::<i16>(&rt, rt.alloc())?;
+    rows::<i32>(&rt, rt.alloc())?;
+    rows::<i64>(&rt, rt.alloc())
+}
