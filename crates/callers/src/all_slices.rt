@@ -23,9 +23,9 @@ pub fn all_slices<I: IntNumber, C: EdgeCount, A: Allocator + Clone>(
     ensures { IfOk result (λ v. IsSliced I.Wide.width 0 graph.now.fill_rule ContourDirection.CounterClockwise
         (graph_edges graph.now) (plain_shapes I.whole v.items)) }
 {
-    sliced_shapes(
+    Ok(sliced_shapes(
         graph,
         ContourDirection::CounterClockwise,
         I::WideUInt::zero(),
-    )
+    )?)
 }

@@ -1,6 +1,6 @@
 //! Closed walks through points, which are cut into loops.
 
-ghost use Rattle.std.specs.Prelude.{All, IfOk, IsOkUnless, OnOk};
+ghost use Rattle.std.specs.Prelude.{All, IfOk, OnOk};
 ghost use Rattle.overlay_geom.specs.Points.{plain_point};
 ghost use Rattle.overlay_plane.specs.Groups.{IsSimpleContour};
 ghost use Rattle.overlay_extract.specs.ClosedWalks.{HasLength, IsClosedWalk, LeadsTo};
@@ -9,19 +9,17 @@ ghost use Rattle.overlay_walk.specs.Walks.{plain_walks};
 
 use overlay_extract::slicing::cutter::cut_loops;
 use overlay_geom::edge::compare_points;
-use overlay_geom::error::OverlayError;
 use overlay_geom::number::IntNumber;
 use overlay_geom::point::IntPoint;
 use overlay_walk::step::Step;
-use std::alloc::Global;
+use std::alloc::{AllocError, Global};
 
 // Adds the step from the point reached to another one, if they differ.
 fn push_step<I: IntNumber>(
     walk: &mut Vec<Step<I>, Global>,
     from: IntPoint<I>,
     to: IntPoint<I>,
-) -> Result<(), OverlayError>
-    ensures err { IsOkUnless result OverlayError.Memory }
+) -> Result<(), AllocError>
     ensures leads { OnOk result ((start : _) →
         LeadsTo start (plain_steps I.whole walk.old.items) (plain_point I.whole from) →
         LeadsTo start (plain_steps I.whole walk.new.items) (plain_point I.whole to)) }
@@ -40,8 +38,7 @@ fn push_step<I: IntNumber>(
 fn walk_through<I: IntNumber>(
     alloc: Global,
     points: &[IntPoint<I>],
-) -> Result<Vec<Step<I>, Global>, OverlayError>
-    ensures err { IsOkUnless result OverlayError.Memory }
+) -> Result<Vec<Step<I>, Global>, AllocError>
     ensures closed { IfOk result (λ w. IsClosedWalk (plain_steps I.whole w.items)) }
     ensures long { IfOk result (λ w. All HasLength (plain_steps I.whole w.items)) }
 {
@@ -64,9 +61,8 @@ fn walk_through<I: IntNumber>(
 pub fn loops_through<I: IntNumber>(
     alloc: Global,
     points: &[IntPoint<I>],
-) -> Result<Vec<Vec<Step<I>, Global>, Global>, OverlayError>
+) -> Result<Vec<Vec<Step<I>, Global>, Global>, AllocError>
     ensures simple { IfOk result (λ ls. All IsSimpleContour (plain_walks I.whole ls.items)) }
-    ensures err { IsOkUnless result OverlayError.Memory }
 {
     let walk = walk_through(alloc, points)?;
     cut_loops(alloc, &walk)

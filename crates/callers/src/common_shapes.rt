@@ -28,5 +28,5 @@ pub fn common_shapes<I: IntNumber, C: EdgeCount, A: Allocator + Clone>(
         (asked I.Wide.width I.WideUInt.natural graph.now.fill_rule OverlayRule.Intersect options)
         (graph_edges graph.now) (plain_shapes I.whole v.items)) }
 {
-    extract_shapes(graph, OverlayRule::Intersect, options, buffer)
+    Ok(extract_shapes(graph, OverlayRule::Intersect, options, buffer)?)
 }

@@ -26,5 +26,5 @@ pub fn contours<I: IntNumber>(
     ensures { IfOk result (λ ws. IsCutInto (outline_or_hole_hand (filled_hand direction))
         (plain_steps I.whole steps.old) (plain_walks I.whole ws.items)) }
 {
-    cut_into_contours(alloc, steps, HandRule::OutlineOrHole(direction))
+    Ok(cut_into_contours(alloc, steps, HandRule::OutlineOrHole(direction))?)
 }

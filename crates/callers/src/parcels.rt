@@ -37,5 +37,5 @@ pub fn parcels<I: IntNumber, C: EdgeCount, A: Allocator + Clone>(
         NoTwoWindRound (plain_shapes I.whole v.items) p) }
 {
     no_two_shapes_wind_round_one_point();
-    extract_shapes(graph, OverlayRule::Subject, options, buffer)
+    Ok(extract_shapes(graph, OverlayRule::Subject, options, buffer)?)
 }

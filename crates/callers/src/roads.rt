@@ -1,6 +1,6 @@
 //! The roads round blocks, traced as contours of edges with data.
 
-ghost use Rattle.std.specs.Prelude.{◌≡◌, map, min, IfOk, IsOkUnless};
+ghost use Rattle.std.specs.Prelude.{◌≡◌, map, min, IfOk};
 ghost use Rattle.overlay_vector.specs.AddedEdges.{IsEdgeInRange};
 
 use overlay_arrange::count::ShapeCountBoolean;
@@ -13,7 +13,7 @@ use overlay_geom::integer::OverlayInt;
 use overlay_vector::edge_overlay::{EdgeOverlay, IntOverlayOptions, ShapeType};
 use overlay_vector::input_edge::InputEdge;
 use overlay_vector::path::DataVectorShape;
-use std::alloc::Allocator;
+use std::alloc::{AllocError, Allocator};
 
 /// A road by its number. Where roads lie on one another the smallest number stands for all of them.
 #[derive(Debug, Clone, Copy, PartialEq, Eq)]
@@ -79,9 +79,8 @@ pub fn ways_round<I: OverlayInt, A: Allocator + Clone>(
 pub fn roads_along<I: OverlayInt, A: Allocator>(
     alloc: A,
     way: &[DataVectorEdge<I, Road>],
-) -> Result<Vec<u32, A>, OverlayError>
+) -> Result<Vec<u32, A>, AllocError>
     ensures roads { IfOk result (λ v. v.items ≡ map (λ e. e.edge_data.number) way.now) }
-    ensures err { IsOkUnless result OverlayError.Memory }
 {
     let mut roads = Vec::with_capacity(alloc, way.len())?;
     for edge in way {

@@ -26,5 +26,5 @@ pub fn shapes_if_simple(
     let direction = ContourDirection::CounterClockwise;
     let solver = Solver::ABSOLUTE;
     let outcome = outcome_of_contour(core, solver, contour, false, FillRule::NonZero, direction)?;
-    shapes_left(alloc, contour, outcome)
+    Ok(shapes_left(alloc, contour, outcome)?)
 }

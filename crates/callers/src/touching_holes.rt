@@ -1,6 +1,6 @@
 //! The shape of two holes that touch its outline, the one by way of the other.
 
-ghost use Rattle.std.specs.Prelude.{◌≡◌, false, All, AllPairs, IfOk, IsOkUnless};
+ghost use Rattle.std.specs.Prelude.{◌≡◌, false, All, AllPairs, IfOk};
 ghost use Rattle.overlay_geom.specs.Plane.{edge_of, edge_eq};
 ghost use Rattle.overlay_geom.specs.Settled.{IsSettledBy};
 ghost use Rattle.overlay_plane.specs.Anchors.{HasEachEdgeOnce};
@@ -13,12 +13,11 @@ ghost use Rattle.overlay_walk.specs.Steps.{plain_step, IsLong};
 
 use overlay_arrange::options::ContourDirection;
 use overlay_extract::binding::bind::bind_contours;
-use overlay_geom::error::OverlayError;
 use overlay_geom::point::IntPoint;
 use overlay_scan::list::ScanList;
 use overlay_walk::contour::{Contour, Role};
 use overlay_walk::step::Step;
-use std::alloc::Global;
+use std::alloc::{AllocError, Global};
 
 // The step from the point (ax, ay) to the point (bx, by).
 fn step(ax: i32, ay: i32, bx: i32, by: i32) -> Step<i32>
@@ -37,8 +36,7 @@ fn step(ax: i32, ay: i32, bx: i32, by: i32) -> Step<i32>
 // point along this edge, which is filled below; a hole leaves it along one that is filled above.
 fn three_outlines_and_two_holes(
     alloc: Global,
-) -> Result<Vec<Contour<i32, Global>, Global>, OverlayError>
-    ensures err { IsOkUnless result OverlayError.Memory }
+) -> Result<Vec<Contour<i32, Global>, Global>, AllocError>
     ensures long { IfOk result
         (λ v. All (All (IsLong 1073741823)) (walks_in (plain_contours (λ z. z) v.items))) }
     ensures contours { IfOk result (λ v. All IsContour (walks_in (plain_contours (λ z. z) v.items))) }
@@ -97,10 +95,8 @@ fn three_outlines_and_two_holes(
 }
 
 /// The outlines to which the holes are bound, none for an outline: next below the lower hole is the second outline, and
-/// next below the upper hole is the lower one. The only refusal is `Memory`.
-pub fn outlines_of_holes(alloc: Global) -> Result<Vec<Option<usize>, Global>, OverlayError>
-    ensures { IsOkUnless result OverlayError.Memory }
-{
+/// next below the upper hole is the lower one.
+pub fn outlines_of_holes(alloc: Global) -> Result<Vec<Option<usize>, Global>, AllocError> {
     let contours = three_outlines_and_two_holes(alloc)?;
     let mut scan: ScanList<i32, usize, _> = ScanList::default(alloc);
     bind_contours(

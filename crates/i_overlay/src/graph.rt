@@ -53,7 +53,7 @@ impl<I: OverlayInt, A: Allocator + Clone> OverlayGraph<'_, I, (), A> {
         ensures err { IsOkUnless result OverlayError.Memory }
     {
         let options = self.viewed.options();
-        extract_shapes(self.viewed.graph(), overlay_rule, options, buffer)
+        Ok(extract_shapes(self.viewed.graph(), overlay_rule, options, buffer)?)
     }
 
     /// Returns the shapes in one list, and a link for each shape that lies in a hole, as
@@ -135,7 +135,7 @@ impl<I: OverlayInt, D: OverlayEdgeData, A: Allocator + Clone> OverlayGraph<'_, I
         ensures err { IsOkUnless result OverlayError.Memory }
     {
         let options = self.viewed.options();
-        vector_shapes(self.viewed.graph(), overlay_rule, options, buffer, store)
+        Ok(vector_shapes(self.viewed.graph(), overlay_rule, options, buffer, store)?)
     }
 
     /// Every edge in order, by its smaller and then its larger end, with its filled sides, as
@@ -146,7 +146,7 @@ impl<I: OverlayInt, D: OverlayEdgeData, A: Allocator + Clone> OverlayGraph<'_, I
             (viewed_edges self.now.viewed.now)) }
         ensures err { IsOkUnless result OverlayError.Memory }
     {
-        self.viewed.graph().separate_vectors()
+        Ok(self.viewed.graph().separate_vectors()?)
     }
 
     /// Every edge in order, by its smaller and then its larger end, with its filled sides and its data. The
@@ -172,6 +172,6 @@ impl<I: OverlayInt, D: OverlayEdgeData, A: Allocator + Clone> OverlayGraph<'_, I
         ensures err { IsOkUnless result OverlayError.Memory }
     {
         let _ = store;
-        graph_vectors(self.viewed.graph())
+        Ok(graph_vectors(self.viewed.graph())?)
     }
 }

@@ -25,7 +25,7 @@ use overlay_geom::flat::contours::FlatContoursBuffer;
 use overlay_geom::integer::OverlayInt;
 use overlay_geom::path::IntShapes;
 use overlay_walk::buffer::BooleanExtractionBuffer;
-use std::alloc::Allocator;
+use std::alloc::{AllocError, Allocator};
 use std::marker::Model;
 
 mod adders;
@@ -102,7 +102,7 @@ impl<I: OverlayInt, A: Allocator + Clone> Overlay<I, A> {
         self.core.arrange(self.solver, &mut ())?;
         let listed = self.list(fill_rule);
         self.core.set_failed(listed.is_err());
-        listed
+        Ok(listed?)
     }
 
     /// Splits the edges where they meet, as `build_separate_vectors` does, and gives the contours
@@ -147,7 +147,7 @@ impl<I: OverlayInt, A: Allocator + Clone> Overlay<I, A> {
         self.core.arrange(self.solver, &mut ())?;
         let shapes = self.extract(overlay_rule, fill_rule);
         self.core.set_failed(shapes.is_err());
-        shapes
+        Ok(shapes?)
     }
 
     /// Splits the edges where they meet, as `build_separate_vectors` does, and writes the contours round
@@ -181,13 +181,12 @@ impl<I: OverlayInt, A: Allocator + Clone> Overlay<I, A> {
     }
 
     // The arranged edges with their filled sides.
-    fn list(&self, fill_rule: FillRule) -> Result<Vec<DataVectorEdge<I, ()>, A>, OverlayError>
+    fn list(&self, fill_rule: FillRule) -> Result<Vec<DataVectorEdge<I, ()>, A>, AllocError>
         requires usable { self.now.failed ≡ false }
         requires ascending { IsAscending self.now.edges }
         requires settled { IsSettled self.now.edges }
         ensures listed { IfOk result (λ v.
             map (plain_vector I.whole) v.items ≡ map (vector_of fill_rule self.now.edges) self.now.edges) }
-        ensures err { IsOkUnless result OverlayError.Memory }
     {
         self.graph_filled_by(fill_rule)?.separate_vectors()
     }
@@ -197,7 +196,7 @@ impl<I: OverlayInt, A: Allocator + Clone> Overlay<I, A> {
         &mut self,
         overlay_rule: OverlayRule,
         fill_rule: FillRule,
-    ) -> Result<IntShapes<I, A>, OverlayError>
+    ) -> Result<IntShapes<I, A>, AllocError>
         requires usable { self.old.failed ≡ false }
         requires ascending { IsAscending self.old.edges }
         requires settled { IsSettled self.old.edges }
@@ -206,7 +205,6 @@ impl<I: OverlayInt, A: Allocator + Clone> Overlay<I, A> {
             self.old.edges (plain_shapes I.whole v.items)) }
         ensures kept { self.new ≡ record self.old { boolean_buffer = self.new.boolean_buffer } }
         ensures buffer { OnOk result (self.new.boolean_buffer ≡ Some tt) }
-        ensures err { IsOkUnless result OverlayError.Memory }
     {
         let graph = self.graph_filled_by(fill_rule)?;
         let mut buffer = BooleanExtractionBuffer::taken_from(
@@ -255,13 +253,12 @@ impl<I: OverlayInt, A: Allocator + Clone> Overlay<I, A> {
     fn graph_filled_by(
         &self,
         fill_rule: FillRule,
-    ) -> Result<Graph<I, CountWithData<()>, A>, OverlayError>
+    ) -> Result<Graph<I, CountWithData<()>, A>, AllocError>
         requires usable { self.now.failed ≡ false }
         requires ascending { IsAscending self.now.edges }
         requires settled { IsSettled self.now.edges }
         ensures edges { IfOk result (λ g. graph_edges g ≡ self.now.edges) }
         ensures rule { IfOk result (λ g. g.fill_rule ≡ fill_rule) }
-        ensures err { IsOkUnless result OverlayError.Memory }
     {
         self.core.content().graph_of_balanced(fill_rule)
     }

@@ -1,7 +1,7 @@
 //! Test of balanced counts: at each point, equally many steps of the subject enter and leave, and equally many of the
 //! clip.
 
-ghost use Rattle.std.specs.Prelude.{◌≡◌, ◌^◌, ◌↔◌, ◌+ℤ◌, ◌++◌, pos, map, IsTrue, IfOk, OnOk, IsOkUnless};
+ghost use Rattle.std.specs.Prelude.{◌≡◌, ◌^◌, ◌↔◌, ◌+ℤ◌, ◌++◌, pos, map, IsTrue, IfOk, OnOk};
 ghost use Rattle.std.specs.List.Sorted.{IsPermutation};
 ghost use Rattle.overlay_geom.specs.Numbers.{Within};
 ghost use Rattle.overlay_plane.specs.Balance.{HasBalancedCounts};
@@ -13,19 +13,17 @@ use crate::count::EdgeCount;
 use crate::counted_end::CountedEnd;
 use crate::edge::{CountedEdge, compare_points};
 use crate::windings::Windings;
-use overlay_geom::error::OverlayError;
 use overlay_geom::number::IntNumber;
-use std::alloc::Allocator;
+use std::alloc::{AllocError, Allocator};
 
 /// Returns whether the counts of the edges are balanced: at each point, equally many steps of the subject enter and
-/// leave, and equally many of the clip. The only refusal is `Memory`.
+/// leave, and equally many of the clip.
 pub fn is_balanced<I: IntNumber, C: EdgeCount, A: Allocator>(
     alloc: A,
     edges: &[CountedEdge<I, C>],
-) -> Result<bool, OverlayError>
+) -> Result<bool, AllocError>
     requires { IsContent I.limit (plain_edges I.whole C.counts edges.now) }
     ensures balanced { IfOk result (λ b. IsTrue b ↔ HasBalancedCounts (plain_edges I.whole C.counts edges.now)) }
-    ensures err { IsOkUnless result OverlayError.Memory }
 {
     let mut ends = counted_ends(alloc, edges)?;
     ends.sort_by(|m, n| compare_points(m.point, n.point))?;
@@ -37,10 +35,9 @@ pub fn is_balanced<I: IntNumber, C: EdgeCount, A: Allocator>(
 fn counted_ends<I: IntNumber, C: EdgeCount, A: Allocator>(
     alloc: A,
     edges: &[CountedEdge<I, C>],
-) -> Result<Vec<CountedEnd<I>, A>, OverlayError>
+) -> Result<Vec<CountedEnd<I>, A>, AllocError>
     ensures ok { IfOk result (λ v.
         plain_ends I.whole v.items ≡ starts_and_stops (plain_edges I.whole C.counts edges.now)) }
-    ensures err { IsOkUnless result OverlayError.Memory }
 {
     let mut ends = Vec::with_capacity(alloc, edges.len())?;
     push_starts(&mut ends, edges)?;
@@ -52,10 +49,9 @@ fn counted_ends<I: IntNumber, C: EdgeCount, A: Allocator>(
 fn push_starts<I: IntNumber, C: EdgeCount, A: Allocator>(
     ends: &mut Vec<CountedEnd<I>, A>,
     edges: &[CountedEdge<I, C>],
-) -> Result<(), OverlayError>
+) -> Result<(), AllocError>
     ensures ok { OnOk result (plain_ends I.whole ends.new.items
         ≡ plain_ends I.whole ends.old.items ++ map counted_start (plain_edges I.whole C.counts edges.now)) }
-    ensures err { IsOkUnless result OverlayError.Memory }
 {
     for edge in edges {
         let subj = i64::from(edge.count.subj());
@@ -73,10 +69,9 @@ fn push_starts<I: IntNumber, C: EdgeCount, A: Allocator>(
 fn push_stops<I: IntNumber, C: EdgeCount, A: Allocator>(
     ends: &mut Vec<CountedEnd<I>, A>,
     edges: &[CountedEdge<I, C>],
-) -> Result<(), OverlayError>
+) -> Result<(), AllocError>
     ensures ok { OnOk result (plain_ends I.whole ends.new.items
         ≡ plain_ends I.whole ends.old.items ++ map counted_stop (plain_edges I.whole C.counts edges.now)) }
-    ensures err { IsOkUnless result OverlayError.Memory }
 {
     for edge in edges {
         let subj = i64::from(edge.count.subj());

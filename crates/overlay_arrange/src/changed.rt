@@ -1,6 +1,6 @@
 //! The edges of a list that may meet other edges elsewhere than in ends, found by comparison with the list before.
 
-ghost use Rattle.std.specs.Prelude.{◌≡◌, ◌≤◌, ◌<◌, ◌+◌, length, All, AllPairs, IsTrue, IfOk, IfSome, OnOk, IsOkUnless};
+ghost use Rattle.std.specs.Prelude.{◌≡◌, ◌≤◌, ◌<◌, ◌+◌, length, All, AllPairs, IsTrue, IfOk, IfSome, OnOk};
 ghost use Rattle.overlay_plane.specs.Carried.{edges_in};
 ghost use Rattle.overlay_arrange.specs.Changed.{AreChangedBefore, AreHeldChangesOf, AreOpenIn, ArePlacesAt, StandAt};
 ghost use Rattle.overlay_arrange.specs.Changed.{IsFirstFrom, WasClosed};
@@ -13,9 +13,8 @@ use crate::count::EdgeCount;
 use crate::edge::{CountedEdge, compare_edges};
 use crate::near::find_near_behind;
 use crate::strips::{Strips, strips_of};
-use overlay_geom::error::OverlayError;
 use overlay_geom::number::IntNumber;
-use std::alloc::Allocator;
+use std::alloc::{AllocError, Allocator};
 
 /// A list of edges, and marks of those that meet other edges elsewhere than in ends.
 #[derive(Drop)]
@@ -39,18 +38,17 @@ pub(crate) struct Changed<I: Copy, C: Copy, A: Allocator> {
 
 /// Returns the edges of a list that may meet other edges elsewhere than in ends. It leaves out each edge with the ends
 /// of an edge before that is not open. The result is None without a list before, or where more than half of the edges
-/// have changed; then all edges are compared. The edges ascend. The only refusal is `Memory`.
+/// have changed; then all edges are compared. The edges ascend.
 pub(crate) fn changes_since<I: IntNumber, C: EdgeCount, A: Allocator + Clone>(
     alloc: A,
     edges: &[CountedEdge<I, C>],
     before: &Option<Settling<I, C, A>>,
-) -> Result<Option<Changed<I, C, A>>, OverlayError>
+) -> Result<Option<Changed<I, C, A>>, AllocError>
     requires held { All (IsHeld I.limit) (plain_edges I.whole C.counts edges.now) }
     requires ascending { IsAscending (plain_edges I.whole C.counts edges.now) }
     requires before { IfSome before.now (λ s. AreOpenIn (edges_in s.edges) s.is_open.items) }
     ensures ok { IfOk result (λ found.
         IfSome found (AreHeldChangesOf I.whole C.counts (plain_edges I.whole C.counts edges.now))) }
-    ensures err { IsOkUnless result OverlayError.Memory }
 {
     let Some(before) = before else {
         return Ok(None);
@@ -75,11 +73,10 @@ fn changed_places<I: IntNumber, C: EdgeCount, A: Allocator>(
     edges: &[CountedEdge<I, C>],
     before: &[CountedEdge<I, C>],
     is_open: &[bool],
-) -> Result<Vec<usize, A>, OverlayError>
+) -> Result<Vec<usize, A>, AllocError>
     requires { length is_open.now ≡ length before.now }
     ensures ok { IfOk result (λ places. AreChangedBefore (plain_edges I.whole C.counts edges.now)
         (plain_edges I.whole C.counts before.now) is_open.now (length edges.now) places.items) }
-    ensures err { IsOkUnless result OverlayError.Memory }
 {
     let mut places = Vec::new(alloc);
     let mut at = 0;
@@ -132,11 +129,10 @@ fn edges_at<I: IntNumber, C: EdgeCount, A: Allocator>(
     alloc: A,
     edges: &[CountedEdge<I, C>],
     places: &[usize],
-) -> Result<Vec<CountedEdge<I, C>, A>, OverlayError>
+) -> Result<Vec<CountedEdge<I, C>, A>, AllocError>
     requires { All (λ i. i < length edges.now) places.now }
     ensures ok { IfOk result (λ found. StandAt (plain_edges I.whole C.counts edges.now) places.now
         (plain_edges I.whole C.counts found.items)) }
-    ensures err { IsOkUnless result OverlayError.Memory }
 {
     let mut found = Vec::with_capacity(alloc, places.len())?;
     for k in 0..places.len() {
@@ -153,7 +149,7 @@ pub(crate) fn find_open<I: IntNumber, C: EdgeCount, A: Allocator>(
     strips: &Strips<I, A>,
     changed: &Option<Changed<I, C, A>>,
     i: usize,
-) -> Result<(), OverlayError>
+) -> Result<(), AllocError>
     requires held { All (IsHeld I.limit) (plain_edges I.whole C.counts edges.now) }
     requires ascending { IsAscending (plain_edges I.whole C.counts edges.now) }
     requires strips { AreHeldStripsOf I.whole (plain_edges I.whole C.counts edges.now) strips.now }
@@ -161,7 +157,6 @@ pub(crate) fn find_open<I: IntNumber, C: EdgeCount, A: Allocator>(
         (AreHeldChangesOf I.whole C.counts (plain_edges I.whole C.counts edges.now)) }
     requires within { i < length edges.now }
     ensures ok { OnOk result (AreNear (plain_edges I.whole C.counts edges.now) i near.new.items) }
-    ensures err { IsOkUnless result OverlayError.Memory }
 {
     let e = &edges[i];
     let Some(changed) = changed else {

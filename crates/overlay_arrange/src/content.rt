@@ -1,7 +1,7 @@
 //! The counted edges that a builder holds, and their weight.
 
 ghost use Rattle.std.specs.Prelude.{◌≡◌, ◌↔◌, ◌+◌, ◌^◌, ◌<◌, ◌≤◌, ◌⊎◌, [], ◌∷◌, ◌++◌, map, length, take};
-ghost use Rattle.std.specs.Prelude.{IfOk, IfErr, OnOk, OnErr, IsOkUnless, IsErrOf, IsTrue};
+ghost use Rattle.std.specs.Prelude.{IfOk, IfErr, OnOk, OnErr, IsErrOf, IsTrue};
 ghost use Rattle.overlay_geom.specs.Edges.{weight};
 ghost use Rattle.overlay_geom.specs.Merged.{IsMerged};
 ghost use Rattle.overlay_geom.specs.Settled.{IsSettled};
@@ -22,7 +22,7 @@ use crate::graph::Graph;
 use crate::merge::{merge, weight_of};
 use overlay_geom::error::OverlayError;
 use overlay_geom::number::IntNumber;
-use std::alloc::Allocator;
+use std::alloc::{AllocError, Allocator};
 use std::marker::Model;
 
 // Upper bound of the weight of a content, which it does not reach.
@@ -50,9 +50,8 @@ impl<I: IntNumber, C: EdgeCount, A: Allocator> Model for Content<I, C, A> {
 
 impl<I: IntNumber, C: EdgeCount, A: Allocator> Content<I, C, A> {
     /// Makes a content without edges, with room for `capacity` edges.
-    pub fn with_capacity(alloc: A, capacity: usize) -> Result<Self, OverlayError>
+    pub fn with_capacity(alloc: A, capacity: usize) -> Result<Self, AllocError>
         ensures empty { IfOk result (λ c. c ≡ []) }
-        ensures err { IsOkUnless result OverlayError.Memory }
     {
         Ok(Content {
             edges: Vec::with_capacity(alloc, capacity)?,
@@ -142,12 +141,11 @@ impl<I: IntNumber, C: EdgeCount, A: Allocator> Content<I, C, A> {
 
     /// Merges equal edges: sums their counts and merges their data. Then it drops edges without counts and sorts the
     /// rest. If memory is refused the content is left open.
-    pub fn merge(&mut self, store: &mut C::Store) -> Result<(), OverlayError>
+    pub fn merge(&mut self, store: &mut C::Store) -> Result<(), AllocError>
         ensures ok { OnOk result (IsMerged (edges_in self.old) (edges_in self.new)) }
         ensures carried { OnOk result (CarriesMerged C.merges self.old self.new) }
         ensures content { IsContent I.limit (edges_in self.new) }
         ensures store { IsStoreReached C.writes store.old store.new }
-        ensures err { IsOkUnless result OverlayError.Memory }
     {
         let merged = merge(&mut self.edges, store);
         self.weight = weight_of(&self.edges);
@@ -171,29 +169,26 @@ impl<I: IntNumber, C: EdgeCount, A: Allocator> Content<I, C, A> {
         let _ = self.edges();
     }
 
-    /// Makes the graph of the edges under a fill rule. The edges are an arrangement. The only refusal is `Memory`.
-    pub fn graph(&self, fill_rule: FillRule) -> Result<Graph<I, C, A>, OverlayError>
+    /// Makes the graph of the edges under a fill rule. The edges are an arrangement.
+    pub fn graph(&self, fill_rule: FillRule) -> Result<Graph<I, C, A>, AllocError>
     where
         A: Clone,
         requires ascending { IsAscending (edges_in self.now) }
         requires settled { IsSettled (edges_in self.now) }
         ensures ok { IfOk result (λ g. g ≡ record { fill_rule = fill_rule; edges = self.now }) }
-        ensures err { IsOkUnless result OverlayError.Memory }
     {
         Graph::new(self.edges.allocator().clone()?, &self.edges, fill_rule)
     }
 
     /// Makes the graph of the edges with balanced counts, without testing the balance. The counts of closed contours
-    /// and of their arrangements are balanced: at each point equally many steps enter and leave. The only refusal is
-    /// `Memory`.
-    pub fn graph_of_balanced(&self, fill_rule: FillRule) -> Result<Graph<I, C, A>, OverlayError>
+    /// and of their arrangements are balanced: at each point equally many steps enter and leave.
+    pub fn graph_of_balanced(&self, fill_rule: FillRule) -> Result<Graph<I, C, A>, AllocError>
     where
         A: Clone,
         requires ascending { IsAscending (edges_in self.now) }
         requires settled { IsSettled (edges_in self.now) }
         requires balanced { HasBalancedCounts (edges_in self.now) }
         ensures ok { IfOk result (λ g. g ≡ record { fill_rule = fill_rule; edges = self.now }) }
-        ensures err { IsOkUnless result OverlayError.Memory }
     {
         Graph::of_balanced(self.edges.allocator().clone()?, &self.edges, fill_rule)
     }

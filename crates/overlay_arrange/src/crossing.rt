@@ -1,6 +1,6 @@
 //! The whole points through which two edges lead each other.
 
-ghost use Rattle.std.specs.Prelude.{◌≡◌, ◌↔◌, ◌∷◌, [], filter, pos, nat_abs, IsTrue, OnOk, IsOkUnless};
+ghost use Rattle.std.specs.Prelude.{◌≡◌, ◌↔◌, ◌∷◌, [], filter, pos, nat_abs, IsTrue, OnOk};
 ghost use Rattle.overlay_geom.specs.Numbers.{Within};
 ghost use Rattle.overlay_geom.specs.Edges.{ends_of};
 ghost use Rattle.overlay_geom.specs.Placed.{IsAcross, IsAlong};
@@ -16,11 +16,10 @@ use crate::edge::{CountedEdge, compare_points};
 use crate::meetings::Meeting;
 use crate::settle::place_by;
 use overlay_geom::edge_pair::{Place, is_same};
-use overlay_geom::error::OverlayError;
 use overlay_geom::number::{IntNumber, WideIntNumber};
 use overlay_geom::point::IntPoint;
 use overlay_geom::vector::cross_at;
-use std::alloc::Allocator;
+use std::alloc::{AllocError, Allocator};
 
 /// Adds the whole points through which the edges e at place i and f at place j lead each other. Collinear edges give
 /// the ends of each on the other; crossing edges give the point nearest to the crossing.
@@ -30,12 +29,11 @@ pub(crate) fn push_meetings<I: IntNumber, C: EdgeCount, A: Allocator>(
     e: &CountedEdge<I, C>,
     j: usize,
     f: &CountedEdge<I, C>,
-) -> Result<(), OverlayError>
+) -> Result<(), AllocError>
     requires one { IsHeld I.limit (plain_edge I.whole C.counts e.now) }
     requires other { IsHeld I.limit (plain_edge I.whole C.counts f.now) }
     ensures ok { OnOk result (AddsBoth i (plain_edge I.whole C.counts e.now) j (plain_edge I.whole C.counts f.now)
         (plain_meetings I.whole meetings.old.items) (plain_meetings I.whole meetings.new.items)) }
-    ensures only { IsOkUnless result OverlayError.Memory }
 {
     match place_by(e, f) {
         Place::Along => push_ends(meetings, i, e, j, f),
@@ -51,14 +49,13 @@ fn push_ends<I: IntNumber, C: EdgeCount, A: Allocator>(
     e: &CountedEdge<I, C>,
     j: usize,
     f: &CountedEdge<I, C>,
-) -> Result<(), OverlayError>
+) -> Result<(), AllocError>
     requires one { IsHeld I.limit (plain_edge I.whole C.counts e.now) }
     requires other { IsHeld I.limit (plain_edge I.whole C.counts f.now) }
     requires along { IsAlong (ends_of (plain_edge I.whole C.counts e.now))
         (ends_of (plain_edge I.whole C.counts f.now)) }
     ensures ok { OnOk result (AddsBoth i (plain_edge I.whole C.counts e.now) j (plain_edge I.whole C.counts f.now)
         (plain_meetings I.whole meetings.old.items) (plain_meetings I.whole meetings.new.items)) }
-    ensures only { IsOkUnless result OverlayError.Memory }
 {
     push_ends_between(meetings, i, e, f)?;
     push_ends_between(meetings, j, f, e)
@@ -71,14 +68,13 @@ fn push_crossing<I: IntNumber, C: EdgeCount, A: Allocator>(
     e: &CountedEdge<I, C>,
     j: usize,
     f: &CountedEdge<I, C>,
-) -> Result<(), OverlayError>
+) -> Result<(), AllocError>
     requires one { IsHeld I.limit (plain_edge I.whole C.counts e.now) }
     requires other { IsHeld I.limit (plain_edge I.whole C.counts f.now) }
     requires across { IsAcross (ends_of (plain_edge I.whole C.counts e.now))
         (ends_of (plain_edge I.whole C.counts f.now)) }
     ensures ok { OnOk result (AddsBoth i (plain_edge I.whole C.counts e.now) j (plain_edge I.whole C.counts f.now)
         (plain_meetings I.whole meetings.old.items) (plain_meetings I.whole meetings.new.items)) }
-    ensures only { IsOkUnless result OverlayError.Memory }
 {
     if matches!(place_by(f, e), Place::Across) {
         let point = common_point(e, f);
@@ -165,12 +161,11 @@ fn push_ends_between<I: IntNumber, C: EdgeCount, A: Allocator>(
     i: usize,
     e: &CountedEdge<I, C>,
     f: &CountedEdge<I, C>,
-) -> Result<(), OverlayError>
+) -> Result<(), AllocError>
     ensures ok { let g = plain_edge I.whole C.counts e.now in
         let h = plain_edge I.whole C.counts f.now in
         OnOk result (AddsPoints i g (filter (is_between (ends_of g)) (h.a ∷ h.b ∷ []))
         (plain_meetings I.whole meetings.old.items) (plain_meetings I.whole meetings.new.items)) }
-    ensures only { IsOkUnless result OverlayError.Memory }
 {
     push_between(meetings, i, e, f.a)?;
     push_between(meetings, i, e, f.b)
@@ -182,11 +177,10 @@ fn push_between<I: IntNumber, C: EdgeCount, A: Allocator>(
     i: usize,
     e: &CountedEdge<I, C>,
     v: IntPoint<I>,
-) -> Result<(), OverlayError>
+) -> Result<(), AllocError>
     ensures ok { let whole = plain_edge I.whole C.counts e.now in
         OnOk result (AddsPoints i whole (filter (is_between (ends_of whole)) (plain_point I.whole v ∷ []))
         (plain_meetings I.whole meetings.old.items) (plain_meetings I.whole meetings.new.items)) }
-    ensures only { IsOkUnless result OverlayError.Memory }
 {
     if is_between(e, v) {
         push_inside(meetings, i, e, v)?;
@@ -200,10 +194,9 @@ fn push_inside<I: IntNumber, C: EdgeCount, A: Allocator>(
     i: usize,
     e: &CountedEdge<I, C>,
     v: IntPoint<I>,
-) -> Result<(), OverlayError>
+) -> Result<(), AllocError>
     ensures ok { OnOk result (AddsPoints i (plain_edge I.whole C.counts e.now) (plain_point I.whole v ∷ [])
         (plain_meetings I.whole meetings.old.items) (plain_meetings I.whole meetings.new.items)) }
-    ensures only { IsOkUnless result OverlayError.Memory }
 {
     if !is_end_of(e, v) {
         meetings.push(Meeting { place: i, point: v })?;

@@ -2,7 +2,7 @@
 //! points whose pixels it meets.
 
 ghost use Rattle.std.specs.Prelude.{◌≡◌, ◌⊎◌, ◌↔◌, ◌^◌, ◌<◌, ◌≤◌, ◌++◌, ◌∷◌, [], IsTrue, All, flat_map};
-ghost use Rattle.std.specs.Prelude.{false, map, IfOk, IfErr, OnOk, IsOkUnless, IsErrOf};
+ghost use Rattle.std.specs.Prelude.{false, map, IfOk, IfErr, OnOk, IsErrOf};
 ghost use Rattle.std.specs.Prelude.{MatchBool, option_map, option_to_list, cond, int_le, int_lt};
 ghost use Rattle.std.specs.Ordering.{is_lt};
 ghost use Rattle.overlay_geom.specs.Counts.{weight_of_counts};
@@ -34,7 +34,7 @@ use crate::whole::are_whole;
 use overlay_geom::error::OverlayError;
 use overlay_geom::number::IntNumber;
 use overlay_geom::point::IntPoint;
-use std::alloc::Allocator;
+use std::alloc::{AllocError, Allocator};
 use std::cmp::Ordering;
 use std::mem;
 
@@ -272,11 +272,10 @@ fn points_at<I: IntNumber, C: EdgeCount, A: Allocator>(
     meetings: &[Meeting<I>],
     i: usize,
     e: &CountedEdge<I, C>,
-) -> Result<Vec<IntPoint<I>, A>, OverlayError>
+) -> Result<Vec<IntPoint<I>, A>, AllocError>
     requires { AreByPlace (plain_meetings I.whole meetings.now) }
     ensures ok { IfOk result (λ points. ArePointsAt (plain_meetings I.whole meetings.now) i
         (ends_of (plain_edge I.whole C.counts e.now)) (plain_points I.whole points.items)) }
-    ensures err { IsOkUnless result OverlayError.Memory }
 {
     let (low, high) = run_at(meetings, i);
     let mut points = points_of(alloc, &meetings[low..high])?;
@@ -288,10 +287,9 @@ fn points_at<I: IntNumber, C: EdgeCount, A: Allocator>(
 fn points_of<I: IntNumber, A: Allocator>(
     alloc: A,
     meetings: &[Meeting<I>],
-) -> Result<Vec<IntPoint<I>, A>, OverlayError>
+) -> Result<Vec<IntPoint<I>, A>, AllocError>
     ensures ok { IfOk result (λ points. plain_points I.whole points.items
         ≡ map (λ m. m.point) (plain_meetings I.whole meetings.now)) }
-    ensures err { IsOkUnless result OverlayError.Memory }
 {
     let mut points = Vec::new(alloc);
     for m in meetings {
@@ -304,11 +302,10 @@ fn points_of<I: IntNumber, A: Allocator>(
 fn sort_along<I: IntNumber, C: EdgeCount, A: Allocator>(
     points: &mut Vec<IntPoint<I>, A>,
     e: &CountedEdge<I, C>,
-) -> Result<(), OverlayError>
+) -> Result<(), AllocError>
     ensures ok { OnOk result (plain_points I.whole points.new.items
         ≡ in_order (comes_first (ends_of (plain_edge I.whole C.counts e.now)))
         (plain_points I.whole points.old.items)) }
-    ensures err { IsOkUnless result OverlayError.Memory }
 {
     points.sort_by(|v, w| compare_along(e, *v, *w))?;
     Ok(())

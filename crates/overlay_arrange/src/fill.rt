@@ -1,6 +1,6 @@
 //! The filled sides of edges.
 
-ghost use Rattle.std.specs.Prelude.{◌≡◌, ◌≤◌, ◌↔◌, true, map, length, IfOk, IsOkUnless};
+ghost use Rattle.std.specs.Prelude.{◌≡◌, ◌≤◌, ◌↔◌, true, map, length, IfOk};
 ghost use Rattle.overlay_geom.specs.Settled.{IsSettled};
 ghost use Rattle.overlay_plane.specs.Balance.{HasBalancedCounts};
 ghost use Rattle.overlay_scan.specs.Scan.{empty_sweep};
@@ -17,10 +17,9 @@ use crate::fill_sweep::fills_by_sweep;
 use crate::spans::length_of_runs;
 use crate::vector::SideFill;
 use crate::windings::Windings;
-use overlay_geom::error::OverlayError;
 use overlay_geom::number::IntNumber;
 use overlay_scan::tree::either::EitherScan;
-use std::alloc::Allocator;
+use std::alloc::{AllocError, Allocator};
 
 // Number of edges that are live at once, estimated by a sample, from which on a tree is faster. An insert into a list
 // moves half of its edges.
@@ -42,19 +41,18 @@ pub(crate) fn tree_from<I: IntNumber, C: EdgeCount>(edges: &[CountedEdge<I, C>])
 }
 
 /// Returns the filled sides of every edge of an arrangement, in the order of the edges. With `tree_from` or more edges
-/// the live edges are kept in a tree, else in a list; the answer does not depend on it. The only refusal is `Memory`.
+/// the live edges are kept in a tree, else in a list; the answer does not depend on it.
 pub fn fills_with_trees_from<I: IntNumber, C: EdgeCount, A: Allocator + Clone>(
     alloc: A,
     edges: &[CountedEdge<I, C>],
     rule: FillRule,
     tree_from: usize,
-) -> Result<Vec<SideFill, A>, OverlayError>
+) -> Result<Vec<SideFill, A>, AllocError>
     requires content { IsContent I.limit (plain_edges I.whole C.counts edges.now) }
     requires ascending { IsAscending (plain_edges I.whole C.counts edges.now) }
     requires settled { IsSettled (plain_edges I.whole C.counts edges.now) }
     ensures ok { let es = plain_edges I.whole C.counts edges.now in
         IfOk result (λ v. v.items ≡ map (fill_bits rule es) es) }
-    ensures err { IsOkUnless result OverlayError.Memory }
 {
     let balanced = is_balanced(alloc.clone()?, edges)?;
     if balanced {
@@ -72,14 +70,13 @@ pub fn fills_of_balanced<I: IntNumber, C: EdgeCount, A: Allocator + Clone>(
     edges: &[CountedEdge<I, C>],
     rule: FillRule,
     tree_from: usize,
-) -> Result<Vec<SideFill, A>, OverlayError>
+) -> Result<Vec<SideFill, A>, AllocError>
     requires content { IsContent I.limit (plain_edges I.whole C.counts edges.now) }
     requires ascending { IsAscending (plain_edges I.whole C.counts edges.now) }
     requires settled { IsSettled (plain_edges I.whole C.counts edges.now) }
     requires balanced { HasBalancedCounts (plain_edges I.whole C.counts edges.now) }
     ensures ok { let es = plain_edges I.whole C.counts edges.now in
         IfOk result (λ v. v.items ≡ map (fill_bits rule es) es) }
-    ensures err { IsOkUnless result OverlayError.Memory }
 {
     let mut scan = scan_for(alloc.clone()?, edges, tree_from);
     fills_by_sweep(alloc, &mut scan, edges, rule)

@@ -1,6 +1,6 @@
 //! The filled sides of an edge, by a ray straight down from its midpoint that counts the edges below.
 
-ghost use Rattle.std.specs.Prelude.{◌≡◌, ◌&&◌, pos, ◌*ℤ◌, int_lt, int_le, map, IfOk, IsOkUnless};
+ghost use Rattle.std.specs.Prelude.{◌≡◌, ◌&&◌, pos, ◌*ℤ◌, int_lt, int_le, map, IfOk};
 ghost use Rattle.overlay_geom.specs.Plane.{midpoint, side, is_strictly_below};
 ghost use Rattle.overlay_geom.specs.Edges.{ends_of, subj_of, clip_of, winding_below};
 ghost use Rattle.overlay_arrange.specs.Content.{plain_edge, plain_edges, IsHeld, IsContent};
@@ -11,22 +11,19 @@ use crate::edge::CountedEdge;
 use crate::fill_rule::FillRule;
 use crate::vector::SideFill;
 use crate::windings::{Windings, bits_between};
-use overlay_geom::error::OverlayError;
 use overlay_geom::number::{IntNumber, WideIntNumber};
 use overlay_geom::vector::cross_at;
-use std::alloc::Allocator;
+use std::alloc::{AllocError, Allocator};
 
-/// Returns the filled sides of every edge, in the order of the edges, with balanced counts or not. The only refusal is
-/// `Memory`.
+/// Returns the filled sides of every edge, in the order of the edges, with balanced counts or not.
 pub(crate) fn fills_by_rays<I: IntNumber, C: EdgeCount, A: Allocator>(
     alloc: A,
     edges: &[CountedEdge<I, C>],
     rule: FillRule,
-) -> Result<Vec<SideFill, A>, OverlayError>
+) -> Result<Vec<SideFill, A>, AllocError>
     requires content { IsContent I.limit (plain_edges I.whole C.counts edges.now) }
     ensures ok { let es = plain_edges I.whole C.counts edges.now in
         IfOk result (λ v. v.items ≡ map (fill_bits rule es) es) }
-    ensures err { IsOkUnless result OverlayError.Memory }
 {
     let mut fills = Vec::with_capacity(alloc, edges.len())?;
     for edge in edges {

@@ -1,6 +1,6 @@
 //! The filled sides of the edges of an arrangement with balanced counts, by one sweep from left to right.
 
-ghost use Rattle.std.specs.Prelude.{◌≡◌, ◌+◌, ◌<◌, length, map, take, slice_index_or, IfOk, OnOk, IsOkUnless};
+ghost use Rattle.std.specs.Prelude.{◌≡◌, ◌+◌, ◌<◌, length, map, take, slice_index_or, IfOk, OnOk};
 ghost use Rattle.overlay_geom.specs.Settled.{IsSettled};
 ghost use Rattle.overlay_plane.specs.Balance.{HasBalancedCounts};
 ghost use Rattle.overlay_scan.specs.Scan.{empty_sweep};
@@ -18,13 +18,12 @@ use crate::starts::edges_by_start;
 use crate::vector::SideFill;
 use crate::windings::{Windings, bits_between};
 use overlay_geom::edge_pair::is_same;
-use overlay_geom::error::OverlayError;
 use overlay_geom::number::IntNumber;
 use overlay_scan::scan::Scan;
-use std::alloc::Allocator;
+use std::alloc::{AllocError, Allocator};
 
 /// Returns the filled sides of every edge, in the order of the edges. The scan is empty at first; its content
-/// afterwards is left open. The only refusal is `Memory`.
+/// afterwards is left open.
 pub(crate) fn fills_by_sweep<
     I: IntNumber,
     C: EdgeCount,
@@ -35,7 +34,7 @@ pub(crate) fn fills_by_sweep<
     scan: &mut S,
     edges: &[CountedEdge<I, C>],
     rule: FillRule,
-) -> Result<Vec<SideFill, A>, OverlayError>
+) -> Result<Vec<SideFill, A>, AllocError>
     requires content { IsContent I.limit (plain_edges I.whole C.counts edges.now) }
     requires ascending { IsAscending (plain_edges I.whole C.counts edges.now) }
     requires settled { IsSettled (plain_edges I.whole C.counts edges.now) }
@@ -43,7 +42,6 @@ pub(crate) fn fills_by_sweep<
     requires empty { S.content scan.old ≡ empty_sweep }
     ensures ok { let es = plain_edges I.whole C.counts edges.now in
         IfOk result (λ v. v.items ≡ map (fill_bits rule es) es) }
-    ensures err { IsOkUnless result OverlayError.Memory }
 {
     let starting = edges_by_start(alloc.clone()?, edges)?;
     let mut fills = Vec::new(alloc);
@@ -57,15 +55,14 @@ pub(crate) fn fills_by_sweep<
 }
 
 /// Returns the filled sides of the next edge of the sweep, and inserts it with the windings above it unless it is
-/// vertical. `above` holds the windings above the edge before, and then those above this edge. The only refusal is
-/// `Memory`.
+/// vertical. `above` holds the windings above the edge before, and then those above this edge.
 fn next_fill<I: IntNumber, C: EdgeCount, S: Scan<I, Windings>>(
     scan: &mut S,
     starting: &[StartingEdge<I, C>],
     i: usize,
     above: &mut Windings,
     rule: FillRule,
-) -> Result<SideFill, OverlayError>
+) -> Result<SideFill, AllocError>
     requires edges { IsSweepable I.limit (plain_starts I.whole C.counts starting.now) }
     requires within { i < length starting.now }
     requires swept { let fs = plain_starts I.whole C.counts starting.now in (e : _) → slice_index_or fs i e ≡ e
@@ -77,13 +74,14 @@ fn next_fill<I: IntNumber, C: EdgeCount, S: Scan<I, Windings>>(
         (AreAboveTheOneBefore (plain_starts I.whole C.counts starting.now) (i + 1) above.new) }
     ensures fill { let fs = plain_starts I.whole C.counts starting.now in IfOk result (λ n. (e : _)
         → slice_index_or fs i e ≡ e → n ≡ fill_bits rule fs e) }
-    ensures err { IsOkUnless result OverlayError.Memory }
 {
     let next = &starting[i];
     let below = windings_below(scan, starting, i, *above);
     *above = below.beyond(&next.edge);
     if next.edge.a.x.compare(next.edge.b.x).is_lt() {
-        scan.insert([next.edge.a, next.edge.b], *above, next.edge.a.x)?;
+        let Ok(()) = scan.insert([next.edge.a, next.edge.b], *above, next.edge.a.x) else {
+            return Err(AllocError);
+        };
     }
     Ok(bits_between(below, *above, rule))
 }

@@ -1,6 +1,6 @@
 //! The graph of an arrangement: its edges in order, each with its value and its filled sides.
 
-ghost use Rattle.std.specs.Prelude.{◌≡◌, map, length, IfOk, IsOkUnless};
+ghost use Rattle.std.specs.Prelude.{◌≡◌, map, length, IfOk};
 ghost use Rattle.overlay_geom.specs.Settled.{IsSettled};
 ghost use Rattle.overlay_plane.specs.Balance.{HasBalancedCounts};
 ghost use Rattle.overlay_arrange.specs.Content.{plain_edges, carried_edges, IsContent, IsAscending};
@@ -13,9 +13,8 @@ use crate::edge::CountedEdge;
 use crate::fill::{fills_of_balanced, fills_with_trees_from, tree_from};
 use crate::fill_rule::FillRule;
 use crate::vector::{DataVectorEdge, SideFill};
-use overlay_geom::error::OverlayError;
 use overlay_geom::number::IntNumber;
-use std::alloc::Allocator;
+use std::alloc::{AllocError, Allocator};
 use std::marker::Model;
 
 /// The edges of an arrangement in order, each with its value and its filled sides under a fill rule. `Content::graph`
@@ -44,18 +43,17 @@ impl<I: IntNumber, C: EdgeCount, A: Allocator> Model for Graph<I, C, A> {
 }
 
 impl<I: IntNumber, C: EdgeCount, A: Allocator + Clone> Graph<I, C, A> {
-    /// Makes the graph of the edges of an arrangement. The only refusal is `Memory`.
+    /// Makes the graph of the edges of an arrangement.
     pub(crate) fn new(
         alloc: A,
         edges: &[CountedEdge<I, C>],
         fill_rule: FillRule,
-    ) -> Result<Self, OverlayError>
+    ) -> Result<Self, AllocError>
         requires content { IsContent I.limit (plain_edges I.whole C.counts edges.now) }
         requires ascending { IsAscending (plain_edges I.whole C.counts edges.now) }
         requires settled { IsSettled (plain_edges I.whole C.counts edges.now) }
         ensures ok { IfOk result (λ g.
             g ≡ record { fill_rule = fill_rule; edges = carried_edges I.whole C.counts edges.now }) }
-        ensures err { IsOkUnless result OverlayError.Memory }
     {
         let fills = fills_with_trees_from(alloc.clone()?, edges, fill_rule, tree_from(edges))?;
         Graph::filled(alloc, edges, fill_rule, &fills)
@@ -66,14 +64,13 @@ impl<I: IntNumber, C: EdgeCount, A: Allocator + Clone> Graph<I, C, A> {
         alloc: A,
         edges: &[CountedEdge<I, C>],
         fill_rule: FillRule,
-    ) -> Result<Self, OverlayError>
+    ) -> Result<Self, AllocError>
         requires content { IsContent I.limit (plain_edges I.whole C.counts edges.now) }
         requires ascending { IsAscending (plain_edges I.whole C.counts edges.now) }
         requires settled { IsSettled (plain_edges I.whole C.counts edges.now) }
         requires balanced { HasBalancedCounts (plain_edges I.whole C.counts edges.now) }
         ensures ok { IfOk result (λ g.
             g ≡ record { fill_rule = fill_rule; edges = carried_edges I.whole C.counts edges.now }) }
-        ensures err { IsOkUnless result OverlayError.Memory }
     {
         let fills = fills_of_balanced(alloc.clone()?, edges, fill_rule, tree_from(edges))?;
         Graph::filled(alloc, edges, fill_rule, &fills)
@@ -85,7 +82,7 @@ impl<I: IntNumber, C: EdgeCount, A: Allocator + Clone> Graph<I, C, A> {
         edges: &[CountedEdge<I, C>],
         fill_rule: FillRule,
         fills: &[SideFill],
-    ) -> Result<Self, OverlayError>
+    ) -> Result<Self, AllocError>
         requires content { IsContent I.limit (plain_edges I.whole C.counts edges.now) }
         requires ascending { IsAscending (plain_edges I.whole C.counts edges.now) }
         requires settled { IsSettled (plain_edges I.whole C.counts edges.now) }
@@ -93,7 +90,6 @@ impl<I: IntNumber, C: EdgeCount, A: Allocator + Clone> Graph<I, C, A> {
             fills.now ≡ map (fill_bits fill_rule es) es }
         ensures ok { IfOk result (λ g.
             g ≡ record { fill_rule = fill_rule; edges = carried_edges I.whole C.counts edges.now }) }
-        ensures err { IsOkUnless result OverlayError.Memory }
     {
         let edges = with_fills(alloc, edges, fills)?;
         Ok(Graph { fill_rule, edges })
@@ -127,12 +123,10 @@ impl<I: IntNumber, C: EdgeCount, A: Allocator> Graph<I, C, A> {
 }
 
 impl<I: IntNumber, C: EdgeCount, A: Allocator + Clone> Graph<I, C, A> {
-    /// Returns the edges in order with their filled sides, without the values that they carry. The only refusal is
-    /// `Memory`.
-    pub fn separate_vectors(&self) -> Result<Vec<DataVectorEdge<I, ()>, A>, OverlayError>
+    /// Returns the edges in order with their filled sides, without the values that they carry.
+    pub fn separate_vectors(&self) -> Result<Vec<DataVectorEdge<I, ()>, A>, AllocError>
         ensures ok { IfOk result (λ v. map (plain_vector I.whole) v.items
             ≡ map (vector_of self.now.fill_rule (graph_edges self.now)) (graph_edges self.now)) }
-        ensures err { IsOkUnless result OverlayError.Memory }
     {
         without_data(self.edges.allocator().clone()?, self.edges())
     }
@@ -143,12 +137,11 @@ fn with_fills<I: IntNumber, C: EdgeCount, A: Allocator>(
     alloc: A,
     edges: &[CountedEdge<I, C>],
     fills: &[SideFill],
-) -> Result<Vec<DataVectorEdge<I, C>, A>, OverlayError>
+) -> Result<Vec<DataVectorEdge<I, C>, A>, AllocError>
     requires { length fills.now ≡ length edges.now }
     ensures edges { IfOk result (λ v.
         carried_vectors I.whole C.counts v.items ≡ carried_edges I.whole C.counts edges.now) }
     ensures fills { IfOk result (λ v. map (λ e. e.fill) v.items ≡ fills.now) }
-    ensures err { IsOkUnless result OverlayError.Memory }
 {
     let mut filled = Vec::with_capacity(alloc, edges.len())?;
     for i in 0..edges.len() {
@@ -166,9 +159,8 @@ fn with_fills<I: IntNumber, C: EdgeCount, A: Allocator>(
 fn without_data<I: IntNumber, C: Copy, A: Allocator>(
     alloc: A,
     edges: &[DataVectorEdge<I, C>],
-) -> Result<Vec<DataVectorEdge<I, ()>, A>, OverlayError>
+) -> Result<Vec<DataVectorEdge<I, ()>, A>, AllocError>
     ensures ok { IfOk result (λ v. map (plain_vector I.whole) v.items ≡ map (plain_vector I.whole) edges.now) }
-    ensures err { IsOkUnless result OverlayError.Memory }
 {
     let mut vectors = Vec::with_capacity(alloc, edges.len())?;
     for edge in edges {

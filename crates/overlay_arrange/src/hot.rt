@@ -1,6 +1,6 @@
 //! The hot points of a list of edges: their ends, and the whole points nearest to their meeting points.
 
-ghost use Rattle.std.specs.Prelude.{◌≡◌, ◌++◌, map, IfOk, OnOk, IsOkUnless};
+ghost use Rattle.std.specs.Prelude.{◌≡◌, ◌++◌, map, IfOk, OnOk};
 ghost use Rattle.overlay_geom.specs.Points.{plain_points};
 ghost use Rattle.overlay_arrange.specs.Content.{plain_edges};
 ghost use Rattle.overlay_arrange.specs.HotPoints.{AreHotPoints, ArePointsAscending, HaveSameMembers};
@@ -10,22 +10,19 @@ use crate::count::EdgeCount;
 use crate::edge::{CountedEdge, compare_points};
 use crate::meetings::Meeting;
 use overlay_geom::edge_pair::is_same;
-use overlay_geom::error::OverlayError;
 use overlay_geom::number::IntNumber;
 use overlay_geom::point::IntPoint;
-use std::alloc::Allocator;
+use std::alloc::{AllocError, Allocator};
 
-/// Returns the hot points of the edges, each once, by x and then by y. The meetings are those of all edges. The only
-/// refusal is `Memory`.
+/// Returns the hot points of the edges, each once, by x and then by y. The meetings are those of all edges.
 pub(crate) fn hot_points<I: IntNumber, C: EdgeCount, A: Allocator>(
     alloc: A,
     edges: &[CountedEdge<I, C>],
     meetings: &[Meeting<I>],
-) -> Result<Vec<IntPoint<I>, A>, OverlayError>
+) -> Result<Vec<IntPoint<I>, A>, AllocError>
     requires { AreMeetings (plain_edges I.whole C.counts edges.now) (plain_meetings I.whole meetings.now) }
     ensures ok { IfOk result (λ points. AreHotPoints
         (plain_edges I.whole C.counts edges.now) (plain_points I.whole points.items)) }
-    ensures err { IsOkUnless result OverlayError.Memory }
 {
     let mut points = Vec::new(alloc);
     // (the smaller ends ascend, so the sort takes them as they stand)
@@ -40,10 +37,9 @@ pub(crate) fn hot_points<I: IntNumber, C: EdgeCount, A: Allocator>(
 fn push_starts<I: IntNumber, C: EdgeCount, A: Allocator>(
     points: &mut Vec<IntPoint<I>, A>,
     edges: &[CountedEdge<I, C>],
-) -> Result<(), OverlayError>
+) -> Result<(), AllocError>
     ensures ok { OnOk result (plain_points I.whole points.new.items ≡ plain_points I.whole points.old.items
         ++ map (λ e. e.a) (plain_edges I.whole C.counts edges.now)) }
-    ensures err { IsOkUnless result OverlayError.Memory }
 {
     for i in 0..edges.len() {
         points.push(edges[i].a)?;
@@ -55,10 +51,9 @@ fn push_starts<I: IntNumber, C: EdgeCount, A: Allocator>(
 fn push_ends<I: IntNumber, C: EdgeCount, A: Allocator>(
     points: &mut Vec<IntPoint<I>, A>,
     edges: &[CountedEdge<I, C>],
-) -> Result<(), OverlayError>
+) -> Result<(), AllocError>
     ensures ok { OnOk result (plain_points I.whole points.new.items ≡ plain_points I.whole points.old.items
         ++ map (λ e. e.b) (plain_edges I.whole C.counts edges.now)) }
-    ensures err { IsOkUnless result OverlayError.Memory }
 {
     for i in 0..edges.len() {
         points.push(edges[i].b)?;
@@ -70,10 +65,9 @@ fn push_ends<I: IntNumber, C: EdgeCount, A: Allocator>(
 fn push_points<I: IntNumber, A: Allocator>(
     points: &mut Vec<IntPoint<I>, A>,
     meetings: &[Meeting<I>],
-) -> Result<(), OverlayError>
+) -> Result<(), AllocError>
     ensures ok { OnOk result (plain_points I.whole points.new.items ≡ plain_points I.whole points.old.items
         ++ map (λ m. m.point) (plain_meetings I.whole meetings.now)) }
-    ensures err { IsOkUnless result OverlayError.Memory }
 {
     for i in 0..meetings.len() {
         points.push(meetings[i].point)?;
@@ -84,11 +78,10 @@ fn push_points<I: IntNumber, A: Allocator>(
 /// Sorts the points by x and then by y, and drops repeated points.
 fn sort_points<I: IntNumber, A: Allocator>(
     points: &mut Vec<IntPoint<I>, A>,
-) -> Result<(), OverlayError>
+) -> Result<(), AllocError>
     ensures members { OnOk result (HaveSameMembers
         (plain_points I.whole points.old.items) (plain_points I.whole points.new.items)) }
     ensures ascending { OnOk result (ArePointsAscending (plain_points I.whole points.new.items)) }
-    ensures err { IsOkUnless result OverlayError.Memory }
 {
     points.sort_by(|v, w| compare_points(*v, *w))?;
     points.dedup_by(|v, w| is_same(*v, *w));

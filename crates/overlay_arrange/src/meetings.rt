@@ -1,6 +1,6 @@
 //! The whole points through which the edges of a list lead each other, gathered pair by pair.
 
-ghost use Rattle.std.specs.Prelude.{◌≡◌, ◌+◌, ◌<◌, true, length, All, IfOk, IfSome, OnOk, IsOkUnless};
+ghost use Rattle.std.specs.Prelude.{◌≡◌, ◌+◌, ◌<◌, true, length, All, IfOk, IfSome, OnOk};
 ghost use Rattle.std.specs.List.Sorted.{IsPermutation};
 ghost use Rattle.overlay_arrange.specs.Changed.{AreHeldChangesOf, AreOpenBefore, AreOpenIn, StayOpen};
 ghost use Rattle.overlay_arrange.specs.Content.{plain_edges, IsHeld, IsAscending};
@@ -16,10 +16,9 @@ use crate::edge::CountedEdge;
 use crate::settle::meet_in_ends;
 use crate::sort_numbers::order_by_numbers;
 use crate::strips::Strips;
-use overlay_geom::error::OverlayError;
 use overlay_geom::number::IntNumber;
 use overlay_geom::point::IntPoint;
-use std::alloc::Allocator;
+use std::alloc::{AllocError, Allocator};
 
 /// A whole point through which an edge of a list is led.
 #[derive(Clone, Copy)]
@@ -40,7 +39,7 @@ pub(crate) fn gather<I: IntNumber, C: EdgeCount, A: Allocator + Clone>(
     strips: &Strips<I, A>,
     changed: &Option<Changed<I, C, A>>,
     from: usize,
-) -> Result<(Vec<Meeting<I>, A>, Vec<bool, A>), OverlayError>
+) -> Result<(Vec<Meeting<I>, A>, Vec<bool, A>), AllocError>
     requires held { All (IsHeld I.limit) (plain_edges I.whole C.counts edges.now) }
     requires ascending { IsAscending (plain_edges I.whole C.counts edges.now) }
     requires strips { AreHeldStripsOf I.whole (plain_edges I.whole C.counts edges.now) strips.now }
@@ -51,7 +50,6 @@ pub(crate) fn gather<I: IntNumber, C: EdgeCount, A: Allocator + Clone>(
         (plain_edges I.whole C.counts edges.now) (plain_meetings I.whole gathered.0.items)) }
     ensures order { IfOk result (λ gathered. AreByPlace (plain_meetings I.whole gathered.0.items)) }
     ensures open { IfOk result (λ gathered. AreOpenIn (plain_edges I.whole C.counts edges.now) gathered.1.items) }
-    ensures err { IsOkUnless result OverlayError.Memory }
 {
     let mut near = Vec::new(alloc.clone()?);
     let mut is_open = Vec::new(alloc.clone()?);
@@ -73,7 +71,7 @@ fn gather_from<I: IntNumber, C: EdgeCount, A: Allocator>(
     edges: &[CountedEdge<I, C>],
     i: usize,
     near: &[usize],
-) -> Result<(), OverlayError>
+) -> Result<(), AllocError>
     requires held { All (IsHeld I.limit) (plain_edges I.whole C.counts edges.now) }
     requires ascending { IsAscending (plain_edges I.whole C.counts edges.now) }
     requires within { i < length edges.now }
@@ -84,7 +82,6 @@ fn gather_from<I: IntNumber, C: EdgeCount, A: Allocator>(
     ensures ok { OnOk result (AreGathered (plain_edges I.whole C.counts edges.now)
         (HasBefore (i + 1)) (plain_meetings I.whole meetings.new.items)) }
     ensures open { OnOk result (AreOpenBefore (plain_edges I.whole C.counts edges.now) (i + 1) is_open.new.items) }
-    ensures err { IsOkUnless result OverlayError.Memory }
 {
     let e = &edges[i];
     for k in 0..near.len() {
@@ -115,10 +112,9 @@ fn mark_open<A: Allocator>(is_open: &mut Vec<bool, A>, i: usize, j: usize)
 fn sort_by_place<I: IntNumber, A: Allocator + Clone>(
     meetings: &mut Vec<Meeting<I>, A>,
     count: usize,
-) -> Result<(), OverlayError>
+) -> Result<(), AllocError>
     ensures permutation { IsPermutation meetings.old.items meetings.new.items }
     ensures order { OnOk result (AreByPlace (plain_meetings I.whole meetings.new.items)) }
-    ensures err { IsOkUnless result OverlayError.Memory }
 {
     order_by_numbers(meetings, count, |m| m.place)?;
     meetings.sort_by(|m, n| m.place.cmp(&n.place))?;

@@ -1,6 +1,6 @@
 //! The later edges of a list that an edge may meet.
 
-ghost use Rattle.std.specs.Prelude.{◌≡◌, ◌⊎◌, ◌+◌, ◌≤◌, ◌<◌, ◌/◌, [], All, length, IsTrue, OnOk, IsOkUnless};
+ghost use Rattle.std.specs.Prelude.{◌≡◌, ◌⊎◌, ◌+◌, ◌≤◌, ◌<◌, ◌/◌, [], All, length, IsTrue, OnOk};
 ghost use Rattle.overlay_arrange.specs.Content.{plain_edge, plain_edges, IsAscending, IsHeld};
 ghost use Rattle.overlay_arrange.specs.Extents.{plain_extent, plain_extents, AreByHeights, AreInBlocks};
 ghost use Rattle.overlay_arrange.specs.Extents.{AreHeldStripsOf, AreInStrips};
@@ -12,9 +12,8 @@ use crate::edge::CountedEdge;
 use crate::extents::{Extent, extent_of, is_apart, is_under};
 use crate::spans::run_end;
 use crate::strips::Strips;
-use overlay_geom::error::OverlayError;
 use overlay_geom::number::IntNumber;
-use std::alloc::Allocator;
+use std::alloc::{AllocError, Allocator};
 
 // Length of a run from which on it is searched by blocks; a shorter run is taken whole.
 const FEW: usize = 8;
@@ -30,7 +29,7 @@ pub(crate) fn find_near_behind<I: IntNumber, C: EdgeCount, A: Allocator>(
     strips: &Strips<I, A>,
     e: &CountedEdge<I, C>,
     from: usize,
-) -> Result<(), OverlayError>
+) -> Result<(), AllocError>
     requires held { All (IsHeld I.limit) (plain_edges I.whole C.counts edges.now) }
     requires ascending { IsAscending (plain_edges I.whole C.counts edges.now) }
     requires strips { AreHeldStripsOf I.whole (plain_edges I.whole C.counts edges.now) strips.now }
@@ -38,7 +37,6 @@ pub(crate) fn find_near_behind<I: IntNumber, C: EdgeCount, A: Allocator>(
     requires within { from ≤ length edges.now }
     ensures ok { OnOk result (AreNearBehind (plain_edges I.whole C.counts edges.now) (plain_edge I.whole C.counts e.now)
         from near.new.items) }
-    ensures err { IsOkUnless result OverlayError.Memory }
 {
     let end = run_end(edges, e.b.x, from);
     near.clear();
@@ -54,11 +52,10 @@ pub(crate) fn take_run<A: Allocator>(
     near: &mut Vec<usize, A>,
     from: usize,
     to: usize,
-) -> Result<(), OverlayError>
+) -> Result<(), AllocError>
     requires empty { near.old.items ≡ [] }
     requires ordered { from ≤ to }
     ensures ok { OnOk result (AreBetween from to near.new.items) }
-    ensures err { IsOkUnless result OverlayError.Memory }
 {
     for j in from..to {
         near.push(j)?;
@@ -71,7 +68,7 @@ fn find_by_blocks<I: IntNumber, A: Allocator>(
     near: &mut Vec<usize, A>,
     strips: &Strips<I, A>,
     of: Extent<I>,
-) -> Result<(), OverlayError>
+) -> Result<(), AllocError>
     requires ordered { of.first ≤ of.last }
     requires within { of.last < length strips.now.edges.items }
     requires some { 0 < strips.now.width }
@@ -84,7 +81,6 @@ fn find_by_blocks<I: IntNumber, A: Allocator>(
     requires empty { near.old.items ≡ [] }
     ensures ok { OnOk result (IsSearchedTo (plain_extents I.whole strips.now.edges.items) (plain_extent I.whole of)
         (length strips.now.edges.items) near.new.items) }
-    ensures err { IsOkUnless result OverlayError.Memory }
 {
     let width = strips.width;
     let mut at = of.first / width * width;
@@ -164,13 +160,12 @@ fn push_near<I: IntNumber, A: Allocator>(
     extents: &[Extent<I>],
     from: usize,
     to: usize,
-) -> Result<(), OverlayError>
+) -> Result<(), AllocError>
     requires ordered { from ≤ to }
     requires within { to ≤ length extents.now }
     requires so_far { IsSearchedTo (plain_extents I.whole extents.now) (plain_extent I.whole of) from near.old.items }
     ensures ok { OnOk result (IsSearchedTo (plain_extents I.whole extents.now) (plain_extent I.whole of)
         to near.new.items) }
-    ensures err { IsOkUnless result OverlayError.Memory }
 {
     for k in from..to {
         let extent = extents[k];

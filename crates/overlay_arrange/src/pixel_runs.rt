@@ -2,7 +2,7 @@
 //! it lie below the edge, and those behind it above.
 
 ghost use Rattle.std.specs.Prelude.{◌≡◌, ◌⊎◌, ℕ, ◌<◌, ◌≤◌, ℤ, pos, ◌*ℤ◌, ◌-ℤ◌, ◌≤ℤ◌, length, cond, int_lt, IsTrue};
-ghost use Rattle.std.specs.Prelude.{OnOk, IsOkUnless};
+ghost use Rattle.std.specs.Prelude.{OnOk};
 ghost use Rattle.std.specs.Ordering.{is_lt};
 ghost use Rattle.overlay_geom.specs.Edges.{ends_of};
 ghost use Rattle.overlay_geom.specs.Points.{plain_point, InRange};
@@ -16,11 +16,10 @@ use crate::count::EdgeCount;
 use crate::edge::CountedEdge;
 use crate::extents::{Extent, is_less};
 use crate::pixel::{order_to_high, order_to_low};
-use overlay_geom::error::OverlayError;
 use overlay_geom::number::IntNumber;
 use overlay_geom::point::IntPoint;
 use overlay_geom::vector::cross_at;
-use std::alloc::Allocator;
+use std::alloc::{AllocError, Allocator};
 use std::cmp::Ordering;
 
 // First step, in places, of the search for a point that lies above an edge.
@@ -36,14 +35,13 @@ pub(crate) fn push_run<I: IntNumber, C: EdgeCount, A: Allocator>(
     right: I,
     from: usize,
     to: usize,
-) -> Result<(), OverlayError>
+) -> Result<(), AllocError>
     requires one { IsHeld I.limit (plain_edge I.whole C.counts e.now) }
     requires ordered { from ≤ to }
     requires within { to ≤ length strips.now }
     requires upwards { AreUpwards (plain_extents I.whole strips.now) from to }
     ensures ok { OnOk result (AddsRun (I.whole left) (I.whole right) (plain_edge I.whole C.counts e.now)
         (plain_extents I.whole strips.now) from to near.old.items near.new.items) }
-    ensures err { IsOkUnless result OverlayError.Memory }
 {
     let (first, last) = x_along(e, left, right);
     let low = place_not_below(strips, e, first, from, to);
@@ -57,12 +55,11 @@ fn push_places<I: IntNumber, A: Allocator>(
     strips: &[Extent<I>],
     from: usize,
     to: usize,
-) -> Result<(), OverlayError>
+) -> Result<(), AllocError>
     requires ordered { from ≤ to }
     requires within { to ≤ length strips.now }
     ensures ok { OnOk result
         (AddsPlaces (plain_extents I.whole strips.now) from to near.old.items near.new.items) }
-    ensures err { IsOkUnless result OverlayError.Memory }
 {
     for k in from..to {
         near.push(strips[k].first)?;

@@ -1,7 +1,7 @@
 //! Splitting: rounds of merging and cutting, until edges meet in ends alone, or one snap.
 
 ghost use Rattle.std.specs.Prelude.{◌≡◌, ◌≢◌, ◌↔◌, ◌^◌, false, []};
-ghost use Rattle.std.specs.Prelude.{Err, None, IfOk, IfErr, IfSome, OnOk, IsErrOf, IsOkUnless};
+ghost use Rattle.std.specs.Prelude.{Err, None, IfOk, IfErr, IfSome, OnOk, IsErrOf};
 ghost use Rattle.overlay_arrange.specs.Arranged.{IsArranged, IsArrangedCarrying, IsSplitCarrying};
 ghost use Rattle.overlay_arrange.specs.Arranged.{MayRefuseSplitting};
 ghost use Rattle.overlay_arrange.specs.Changed.{AreOpenIn};
@@ -22,7 +22,7 @@ use crate::strips::strips_of;
 use overlay_geom::error::OverlayError;
 use overlay_geom::number::IntNumber;
 use overlay_geom::solver::Solver;
-use std::alloc::Allocator;
+use std::alloc::{AllocError, Allocator};
 
 // Number of cutting rounds before the edges are given up as not settled: `most_rounds`.
 const ROUNDS: u32 = 64;
@@ -114,11 +114,11 @@ impl<I: IntNumber, C: EdgeCount, A: Allocator + Clone> Content<I, C, A> {
 
     /// Returns the whole points through which the edges lead each other, sorted by the places of their edges, and marks
     /// of open edges. Returns None where any two different edges meet in ends alone. The record of the list before is
-    /// dropped. The edges ascend, as they do once merged. The only refusal is `Memory`.
+    /// dropped. The edges ascend, as they do once merged.
     pub(crate) fn open_meetings(
         &self,
         before: Option<Settling<I, C, A>>,
-    ) -> Result<Option<(Vec<Meeting<I>, A>, Vec<bool, A>)>, OverlayError>
+    ) -> Result<Option<(Vec<Meeting<I>, A>, Vec<bool, A>)>, AllocError>
         requires ascending { IsAscending (edges_in self.now) }
         requires before { IfSome before (λ s. AreOpenIn (edges_in s.edges) s.is_open.items) }
         ensures settled { IfOk result (λ found. (found ≡ None) ↔ IsSettled (edges_in self.now)) }
@@ -128,7 +128,6 @@ impl<I: IntNumber, C: EdgeCount, A: Allocator + Clone> Content<I, C, A> {
             AreByPlace (plain_meetings I.whole gathered.0.items))) }
         ensures open { IfOk result (λ found. IfSome found (λ gathered.
             AreOpenIn (edges_in self.now) gathered.1.items)) }
-        ensures err { IsOkUnless result OverlayError.Memory }
     {
         let edges = self.edges();
         let changed = changes_since(self.allocator().clone()?, edges, &before)?;

@@ -1,6 +1,6 @@
 //! Tests whether the edges of a list meet in ends alone.
 
-ghost use Rattle.std.specs.Prelude.{◌↔◌, ◌<◌, length, All, IsTrue, IfOk, IfSome, IsOkUnless};
+ghost use Rattle.std.specs.Prelude.{◌↔◌, ◌<◌, length, All, IsTrue, IfOk, IfSome};
 ghost use Rattle.overlay_geom.specs.Edges.{ends_of};
 ghost use Rattle.overlay_geom.specs.Resolved.{IsPlaced};
 ghost use Rattle.overlay_geom.specs.Settled.{MeetInEnds, IsSettled};
@@ -17,21 +17,19 @@ use crate::strips::{Strips, strips_of};
 use overlay_geom::edge::IntEdge;
 use overlay_geom::edge_pair;
 use overlay_geom::edge_pair::Place;
-use overlay_geom::error::OverlayError;
 use overlay_geom::number::IntNumber;
-use std::alloc::Allocator;
+use std::alloc::{AllocError, Allocator};
 
 /// Returns whether any two different edges share a point of the plane only where it is an end of both. The edges
-/// ascend. The only refusal is `Memory`.
+/// ascend.
 pub fn is_settled<I: IntNumber, C: EdgeCount, A: Allocator + Clone>(
     alloc: A,
     edges: &[CountedEdge<I, C>],
-) -> Result<bool, OverlayError>
+) -> Result<bool, AllocError>
     requires held { All (IsHeld I.limit) (plain_edges I.whole C.counts edges.now) }
     requires ascending { IsAscending (plain_edges I.whole C.counts edges.now) }
     ensures ok { IfOk result (λ is_settled.
         IsTrue is_settled ↔ IsSettled (plain_edges I.whole C.counts edges.now)) }
-    ensures err { IsOkUnless result OverlayError.Memory }
 {
     let strips = strips_of(alloc.clone()?, edges)?;
     let count = count_settled(alloc, edges, &strips, &None)?;
@@ -40,13 +38,13 @@ pub fn is_settled<I: IntNumber, C: EdgeCount, A: Allocator + Clone>(
 
 /// Returns the number of edges at the front that meet each later edge in ends alone. It is the number of all edges
 /// where they are settled. Where the changed edges are known, pairs of unchanged edges are not tested. The edges
-/// ascend. The only refusal is `Memory`.
+/// ascend.
 pub(crate) fn count_settled<I: IntNumber, C: EdgeCount, A: Allocator>(
     alloc: A,
     edges: &[CountedEdge<I, C>],
     strips: &Strips<I, A>,
     changed: &Option<Changed<I, C, A>>,
-) -> Result<usize, OverlayError>
+) -> Result<usize, AllocError>
     requires held { All (IsHeld I.limit) (plain_edges I.whole C.counts edges.now) }
     requires ascending { IsAscending (plain_edges I.whole C.counts edges.now) }
     requires strips { AreHeldStripsOf I.whole (plain_edges I.whole C.counts edges.now) strips.now }
@@ -55,7 +53,6 @@ pub(crate) fn count_settled<I: IntNumber, C: EdgeCount, A: Allocator>(
     ensures ok { IfOk result (λ count. AreSettledBefore (plain_edges I.whole C.counts edges.now) count) }
     ensures most { IfOk result (λ count. count < length edges.now
         → ¬ (AreSettledUpTo (plain_edges I.whole C.counts edges.now) count (length edges.now))) }
-    ensures err { IsOkUnless result OverlayError.Memory }
 {
     let mut near = Vec::new(alloc);
     for i in 0..edges.len() {

@@ -1,7 +1,7 @@
 //! The whole points through which snap rounding leads the edges of a list: the hot points whose pixels they meet.
 
 ghost use Rattle.std.specs.Prelude.{◌≡◌, ◌∷◌, [], ◌+◌, ◌<◌, ◌≤◌, All, length, IsTrue, false};
-ghost use Rattle.std.specs.Prelude.{slice_range, IfOk, OnOk, IsOkUnless};
+ghost use Rattle.std.specs.Prelude.{slice_range, IfOk, OnOk};
 ghost use Rattle.overlay_geom.specs.Points.{plain_point, plain_points};
 ghost use Rattle.overlay_arrange.specs.Content.{plain_edge, plain_edges, IsHeld};
 ghost use Rattle.overlay_arrange.specs.Extents.{plain_extents, ArePointsByStrips};
@@ -19,27 +19,25 @@ use crate::near::on_by;
 use crate::pixel::meets_pixel;
 use crate::pixel_runs::push_run;
 use crate::strips::{SAMPLES, points_by_strips, strip_width};
-use overlay_geom::error::OverlayError;
 use overlay_geom::number::IntNumber;
 use overlay_geom::point::IntPoint;
-use std::alloc::Allocator;
+use std::alloc::{AllocError, Allocator};
 
 // Number of points in the span of an edge up to which they are tested one by one; more are searched by strips.
 const FEW: usize = 16;
 
 /// Returns the hot points whose pixels each edge meets, as its meetings, sorted by the places of the edges. An edge's
-/// own ends are left out. The only refusal is `Memory`.
+/// own ends are left out.
 pub(crate) fn gather_snapped<I: IntNumber, C: EdgeCount, A: Allocator + Clone>(
     alloc: A,
     edges: &[CountedEdge<I, C>],
     hot: &[IntPoint<I>],
-) -> Result<Vec<Meeting<I>, A>, OverlayError>
+) -> Result<Vec<Meeting<I>, A>, AllocError>
     requires held { All (IsHeld I.limit) (plain_edges I.whole C.counts edges.now) }
     requires hot { AreHotPoints (plain_edges I.whole C.counts edges.now) (plain_points I.whole hot.now) }
     ensures ok { IfOk result (λ meetings. AreSnapMeetings
         (plain_edges I.whole C.counts edges.now) (plain_meetings I.whole meetings.items)) }
     ensures order { IfOk result (λ meetings. AreByPlace (plain_meetings I.whole meetings.items)) }
-    ensures err { IsOkUnless result OverlayError.Memory }
 {
     // (a quarter as wide as strips of edges)
     let width = strip_width(length_of_spans(edges, hot) / 16);
@@ -90,7 +88,7 @@ fn take_near<I: IntNumber, C: EdgeCount, A: Allocator + Clone>(
     e: &CountedEdge<I, C>,
     low: usize,
     spare: usize,
-) -> Result<(), OverlayError>
+) -> Result<(), AllocError>
     requires some { 0 < width }
     requires one { IsHeld I.limit (plain_edge I.whole C.counts e.now) }
     requires ascending { ArePointsAscending (plain_points I.whole hot.now) }
@@ -100,7 +98,6 @@ fn take_near<I: IntNumber, C: EdgeCount, A: Allocator + Clone>(
         (plain_points I.whole points.new.items)) }
     ensures strips { OnOk result
         (AreStripsIfAny (plain_points I.whole hot.now) width (plain_extents I.whole strips.new.items)) }
-    ensures err { IsOkUnless result OverlayError.Memory }
 {
     let high = place_up_to(hot, e.b.x, low, spare.saturating_add(FEW));
     if goes_on(hot, e.b.x, high) {
@@ -117,12 +114,11 @@ fn make_strips<I: IntNumber, A: Allocator + Clone>(
     strips: &mut Vec<Extent<I>, A>,
     hot: &[IntPoint<I>],
     width: usize,
-) -> Result<(), OverlayError>
+) -> Result<(), AllocError>
     requires some { 0 < width }
     requires strips { AreStripsIfAny (plain_points I.whole hot.now) width (plain_extents I.whole strips.old.items) }
     ensures ok { OnOk result
         (ArePointsByStrips (plain_points I.whole hot.now) width (plain_extents I.whole strips.new.items)) }
-    ensures err { IsOkUnless result OverlayError.Memory }
 {
     if strips.is_empty() {
         *strips = points_by_strips(strips.allocator().clone()?, hot, width)?;
@@ -219,14 +215,13 @@ fn find_ranks<I: IntNumber, C: EdgeCount, A: Allocator>(
     strips: &[Extent<I>],
     e: &CountedEdge<I, C>,
     low: usize,
-) -> Result<(), OverlayError>
+) -> Result<(), AllocError>
     requires one { IsHeld I.limit (plain_edge I.whole C.counts e.now) }
     requires ascending { ArePointsAscending (plain_points I.whole hot.now) }
     requires strips { ArePointsByStrips (plain_points I.whole hot.now) width (plain_extents I.whole strips.now) }
     requires left { AreLeftBefore (plain_points I.whole hot.now) (I.whole e.now.a.x) low }
     ensures ok { OnOk result (AreRanksNear
         (plain_points I.whole hot.now) (plain_edge I.whole C.counts e.now) near.new.items) }
-    ensures err { IsOkUnless result OverlayError.Memory }
 {
     near.clear();
     let mut at = low / width * width;
@@ -244,11 +239,10 @@ fn take_points<I: IntNumber, A: Allocator>(
     points: &mut Vec<IntPoint<I>, A>,
     hot: &[IntPoint<I>],
     ranks: &[usize],
-) -> Result<(), OverlayError>
+) -> Result<(), AllocError>
     requires { All (λ k. k < length hot.now) ranks.now }
     ensures ok { OnOk result (plain_points I.whole points.new.items
         ≡ points_at (plain_points I.whole hot.now) ranks.now) }
-    ensures err { IsOkUnless result OverlayError.Memory }
 {
     points.clear();
     for k in 0..ranks.len() {
@@ -264,12 +258,11 @@ fn take_range<I: IntNumber, A: Allocator>(
     hot: &[IntPoint<I>],
     low: usize,
     high: usize,
-) -> Result<(), OverlayError>
+) -> Result<(), AllocError>
     requires ordered { low ≤ high }
     requires within { high ≤ length hot.now }
     ensures ok { OnOk result (plain_points I.whole points.new.items
         ≡ slice_range (plain_points I.whole hot.now) low high) }
-    ensures err { IsOkUnless result OverlayError.Memory }
 {
     points.clear();
     points.extend_from_slice(&hot[low..high])?;
@@ -282,11 +275,10 @@ fn push_snapped<I: IntNumber, C: EdgeCount, A: Allocator>(
     i: usize,
     e: &CountedEdge<I, C>,
     points: &[IntPoint<I>],
-) -> Result<(), OverlayError>
+) -> Result<(), AllocError>
     requires { IsHeld I.limit (plain_edge I.whole C.counts e.now) }
     ensures ok { OnOk result (AddsMet i (plain_edge I.whole C.counts e.now) (plain_points I.whole points.now)
         (plain_meetings I.whole meetings.old.items) (plain_meetings I.whole meetings.new.items)) }
-    ensures err { IsOkUnless result OverlayError.Memory }
 {
     for k in 0..points.len() {
         push_where_met(meetings, i, e, points[k])?;
@@ -300,11 +292,10 @@ fn push_where_met<I: IntNumber, C: EdgeCount, A: Allocator>(
     i: usize,
     e: &CountedEdge<I, C>,
     v: IntPoint<I>,
-) -> Result<(), OverlayError>
+) -> Result<(), AllocError>
     requires { IsHeld I.limit (plain_edge I.whole C.counts e.now) }
     ensures ok { OnOk result (AddsMet i (plain_edge I.whole C.counts e.now) (plain_point I.whole v ∷ [])
         (plain_meetings I.whole meetings.old.items) (plain_meetings I.whole meetings.new.items)) }
-    ensures err { IsOkUnless result OverlayError.Memory }
 {
     if meets_pixel(e, v) && !is_end_of(e, v) {
         meetings.push(Meeting { place: i, point: v })?;

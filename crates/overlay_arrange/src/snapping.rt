@@ -1,7 +1,7 @@
 //! Snap rounding: edges that meet elsewhere than in ends are each led, once, through the hot points whose pixels they
 //! meet.
 
-ghost use Rattle.std.specs.Prelude.{◌≡◌, ◌⊎◌, ◌↔◌, ◌^◌, false, [], IfOk, IfErr, OnOk, IsErrOf, IsOkUnless};
+ghost use Rattle.std.specs.Prelude.{◌≡◌, ◌⊎◌, ◌↔◌, ◌^◌, false, [], IfOk, IfErr, OnOk, IsErrOf};
 ghost use Rattle.overlay_geom.specs.declared.solver.Solver.TheVariants.{Snapping};
 ghost use Rattle.overlay_plane.specs.Arrangements.{IsReachedBy, IsSplit, WeighsTooMuch};
 ghost use Rattle.overlay_plane.specs.Carried.{edges_in};
@@ -20,7 +20,7 @@ use crate::snap::gather_snapped;
 use crate::whole::are_whole;
 use overlay_geom::error::OverlayError;
 use overlay_geom::number::IntNumber;
-use std::alloc::Allocator;
+use std::alloc::{AllocError, Allocator};
 
 impl<I: IntNumber, C: EdgeCount, A: Allocator + Clone> Content<I, C, A> {
     /// Merges the edges, and returns false where they then meet in ends alone. Otherwise it leads each edge through
@@ -74,16 +74,15 @@ impl<I: IntNumber, C: EdgeCount, A: Allocator + Clone> Content<I, C, A> {
     }
 
     /// Returns the hot points whose pixels the edges meet, as their meetings, sorted by their places. The given
-    /// meetings of the edges are dropped. The only refusal is `Memory`.
+    /// meetings of the edges are dropped.
     fn snapped_meetings(
         &self,
         meetings: Vec<Meeting<I>, A>,
-    ) -> Result<Vec<Meeting<I>, A>, OverlayError>
+    ) -> Result<Vec<Meeting<I>, A>, AllocError>
         requires { AreMeetings (edges_in self.now) (plain_meetings I.whole meetings.items) }
         ensures ok { IfOk result (λ snapped.
             AreSnapMeetings (edges_in self.now) (plain_meetings I.whole snapped.items)) }
         ensures order { IfOk result (λ snapped. AreByPlace (plain_meetings I.whole snapped.items)) }
-        ensures err { IsOkUnless result OverlayError.Memory }
     {
         let edges = self.edges();
         let hot = hot_points(self.allocator().clone()?, edges, &meetings)?;

@@ -1,6 +1,6 @@
 //! The edges of a list in the order in which a sweep comes to them.
 
-ghost use Rattle.std.specs.Prelude.{◌≡◌, IfOk, IsOkUnless};
+ghost use Rattle.std.specs.Prelude.{◌≡◌, IfOk};
 ghost use Rattle.std.specs.Ordering.{is_lt};
 ghost use Rattle.overlay_geom.specs.Numbered.{numbered};
 ghost use Rattle.overlay_plane.specs.Anchors.{is_anchored_before};
@@ -11,22 +11,19 @@ use crate::count::EdgeCount;
 use crate::edge::{CountedEdge, compare_points};
 use crate::sort_runs::order_neighbours;
 use crate::starting_edge::StartingEdge;
-use overlay_geom::error::OverlayError;
 use overlay_geom::number::{IntNumber, WideIntNumber};
 use overlay_geom::vector::cross_at;
-use std::alloc::Allocator;
+use std::alloc::{AllocError, Allocator};
 use std::cmp::Ordering;
 
-/// Returns the edges by their smaller ends, and edges from one point by slope, lowest first. The only refusal is
-/// `Memory`.
+/// Returns the edges by their smaller ends, and edges from one point by slope, lowest first.
 pub(crate) fn edges_by_start<I: IntNumber, C: EdgeCount, A: Allocator>(
     alloc: A,
     edges: &[CountedEdge<I, C>],
-) -> Result<Vec<StartingEdge<I, C>, A>, OverlayError>
+) -> Result<Vec<StartingEdge<I, C>, A>, AllocError>
     requires { IsContent I.limit (plain_edges I.whole C.counts edges.now) }
     ensures ok { IfOk result (λ v. AreByStart
         (plain_edges I.whole C.counts edges.now) (numbered_starts I.whole C.counts v.items)) }
-    ensures err { IsOkUnless result OverlayError.Memory }
 {
     let mut starting = edges_with_places(alloc, edges)?;
     order_neighbours(&mut starting, |e, f| compare_starts(e, f));
@@ -38,11 +35,10 @@ pub(crate) fn edges_by_start<I: IntNumber, C: EdgeCount, A: Allocator>(
 fn edges_with_places<I: IntNumber, C: EdgeCount, A: Allocator>(
     alloc: A,
     edges: &[CountedEdge<I, C>],
-) -> Result<Vec<StartingEdge<I, C>, A>, OverlayError>
+) -> Result<Vec<StartingEdge<I, C>, A>, AllocError>
     requires { IsContent I.limit (plain_edges I.whole C.counts edges.now) }
     ensures ok { IfOk result (λ v.
         numbered_starts I.whole C.counts v.items ≡ numbered 0 (plain_edges I.whole C.counts edges.now)) }
-    ensures err { IsOkUnless result OverlayError.Memory }
 {
     let mut starting = Vec::with_capacity(alloc, edges.len())?;
     for (place, edge) in edges.iter().enumerate() {

@@ -1,6 +1,6 @@
 //! The boxes of the edges or points of a list, in strips of neighbours, and the boxes of blocks of edges.
 
-ghost use Rattle.std.specs.Prelude.{◌≡◌, ◌<◌, ◌≤ℤ◌, List, [], ◌++◌, All, AllPairs, IfOk, OnOk, IsOkUnless};
+ghost use Rattle.std.specs.Prelude.{◌≡◌, ◌<◌, ◌≤ℤ◌, List, [], ◌++◌, All, AllPairs, IfOk, OnOk};
 ghost use Rattle.std.specs.List.Sorted.{IsPermutation};
 ghost use Rattle.overlay_geom.specs.Points.{plain_points};
 ghost use Rattle.overlay_arrange.specs.Content.{plain_edges, IsAscending, IsHeld};
@@ -12,10 +12,9 @@ use crate::count::EdgeCount;
 use crate::edge::CountedEdge;
 use crate::extents::{Extent, extent_of, extent_of_point, joined};
 use crate::spans::length_of_runs;
-use overlay_geom::error::OverlayError;
 use overlay_geom::number::IntNumber;
 use overlay_geom::point::IntPoint;
-use std::alloc::Allocator;
+use std::alloc::{AllocError, Allocator};
 
 // Least and greatest number of neighbours in a strip.
 const LEAST: usize = 64;
@@ -47,15 +46,14 @@ pub(crate) struct Strips<I: Copy, A: Allocator> {
     pub of_32768: Vec<Extent<I>, A>,
 }
 
-/// Makes the strips of the edges. The only refusal is `Memory`.
+/// Makes the strips of the edges.
 pub(crate) fn strips_of<I: IntNumber, C: EdgeCount, A: Allocator + Clone>(
     alloc: A,
     edges: &[CountedEdge<I, C>],
-) -> Result<Strips<I, A>, OverlayError>
+) -> Result<Strips<I, A>, AllocError>
     requires held { All (IsHeld I.limit) (plain_edges I.whole C.counts edges.now) }
     requires ascending { IsAscending (plain_edges I.whole C.counts edges.now) }
     ensures ok { IfOk result (AreHeldStripsOf I.whole (plain_edges I.whole C.counts edges.now)) }
-    ensures err { IsOkUnless result OverlayError.Memory }
 {
     let width = strip_width(length_of_runs(edges, SAMPLES));
     let extents = edges_by_strips(alloc.clone()?, edges, width)?;
@@ -92,13 +90,12 @@ fn edges_by_strips<I: IntNumber, C: EdgeCount, A: Allocator + Clone>(
     alloc: A,
     edges: &[CountedEdge<I, C>],
     width: usize,
-) -> Result<Vec<Extent<I>, A>, OverlayError>
+) -> Result<Vec<Extent<I>, A>, AllocError>
     requires { 0 < width }
     ensures permutation { IfOk result (λ sorted. IsPermutation
         (extents_of (plain_edges I.whole C.counts edges.now)) (plain_extents I.whole sorted.items)) }
     ensures strips { IfOk result (λ sorted. AreInStrips width (plain_extents I.whole sorted.items)) }
     ensures heights { IfOk result (λ sorted. AreByHeights width (plain_extents I.whole sorted.items)) }
-    ensures err { IsOkUnless result OverlayError.Memory }
 {
     let extents = extents_of_edges(alloc.clone()?, edges)?;
     by_strips(alloc, &extents, width)
@@ -109,11 +106,10 @@ pub(crate) fn points_by_strips<I: IntNumber, A: Allocator + Clone>(
     alloc: A,
     points: &[IntPoint<I>],
     width: usize,
-) -> Result<Vec<Extent<I>, A>, OverlayError>
+) -> Result<Vec<Extent<I>, A>, AllocError>
     requires { 0 < width }
     ensures ok { IfOk result (λ sorted.
         ArePointsByStrips (plain_points I.whole points.now) width (plain_extents I.whole sorted.items)) }
-    ensures err { IsOkUnless result OverlayError.Memory }
 {
     let extents = extents_of_points(alloc.clone()?, points)?;
     by_strips(alloc, &extents, width)
@@ -123,10 +119,9 @@ pub(crate) fn points_by_strips<I: IntNumber, A: Allocator + Clone>(
 fn extents_of_edges<I: IntNumber, C: EdgeCount, A: Allocator>(
     alloc: A,
     edges: &[CountedEdge<I, C>],
-) -> Result<Vec<Extent<I>, A>, OverlayError>
+) -> Result<Vec<Extent<I>, A>, AllocError>
     ensures ok { IfOk result (λ extents.
         plain_extents I.whole extents.items ≡ extents_of (plain_edges I.whole C.counts edges.now)) }
-    ensures err { IsOkUnless result OverlayError.Memory }
 {
     let mut extents = Vec::with_capacity(alloc, edges.len())?;
     for (place, e) in edges.iter().enumerate() {
@@ -139,10 +134,9 @@ fn extents_of_edges<I: IntNumber, C: EdgeCount, A: Allocator>(
 fn extents_of_points<I: IntNumber, A: Allocator>(
     alloc: A,
     points: &[IntPoint<I>],
-) -> Result<Vec<Extent<I>, A>, OverlayError>
+) -> Result<Vec<Extent<I>, A>, AllocError>
     ensures ok { IfOk result (λ extents.
         plain_extents I.whole extents.items ≡ extents_of_points (plain_points I.whole points.now)) }
-    ensures err { IsOkUnless result OverlayError.Memory }
 {
     let mut extents = Vec::with_capacity(alloc, points.len())?;
     for (place, v) in points.iter().enumerate() {
@@ -156,14 +150,13 @@ fn by_strips<I: IntNumber, A: Allocator + Clone>(
     alloc: A,
     extents: &[Extent<I>],
     width: usize,
-) -> Result<Vec<Extent<I>, A>, OverlayError>
+) -> Result<Vec<Extent<I>, A>, AllocError>
     requires some { 0 < width }
     requires places { AreAtPlaces (plain_extents I.whole extents.now) }
     ensures permutation { IfOk result (λ sorted. IsPermutation
         (plain_extents I.whole extents.now) (plain_extents I.whole sorted.items)) }
     ensures strips { IfOk result (λ sorted. AreInStrips width (plain_extents I.whole sorted.items)) }
     ensures heights { IfOk result (λ sorted. AreByHeights width (plain_extents I.whole sorted.items)) }
-    ensures err { IsOkUnless result OverlayError.Memory }
 {
     let mut sorted = Vec::with_capacity(alloc.clone()?, extents.len())?;
     let mut strip = Vec::with_capacity(alloc, width.min(extents.len()))?;
@@ -181,12 +174,11 @@ fn by_strips<I: IntNumber, A: Allocator + Clone>(
 fn close_strip<I: IntNumber, A: Allocator>(
     extents: &mut Vec<Extent<I>, A>,
     strip: &mut Vec<Extent<I>, A>,
-) -> Result<(), OverlayError>
+) -> Result<(), AllocError>
     ensures ok { OnOk result ((sorted : List (Extent I)) × IsPermutation strip.old.items sorted
         × AllPairs (λ s t. I.whole s.low ≤ℤ I.whole t.low) sorted
         × (extents.new.items ≡ extents.old.items ++ sorted)) }
     ensures emptied { OnOk result (strip.new.items ≡ []) }
-    ensures err { IsOkUnless result OverlayError.Memory }
 {
     strip.sort_by(|s, t| s.low.compare(t.low))?;
     extents.append(strip)?;
@@ -197,10 +189,9 @@ fn close_strip<I: IntNumber, A: Allocator>(
 fn extents_of_blocks<I: IntNumber, A: Allocator>(
     alloc: A,
     extents: &[Extent<I>],
-) -> Result<Vec<Extent<I>, A>, OverlayError>
+) -> Result<Vec<Extent<I>, A>, AllocError>
     ensures ok { IfOk result (λ blocks.
         AreBlocks 8 (plain_extents I.whole extents.now) (plain_extents I.whole blocks.items)) }
-    ensures err { IsOkUnless result OverlayError.Memory }
 {
     let mut blocks = Vec::new(alloc);
     for (i, extent) in extents.iter().enumerate() {

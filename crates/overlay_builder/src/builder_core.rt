@@ -1,7 +1,7 @@
 //! The core that builders share: counted edges, and a mark of a refused query.
 
 ghost use Rattle.std.specs.Prelude.{◌≡◌, ◌↔◌, ◌^◌, ◌<◌, false, [], if◌then◌else◌, All};
-ghost use Rattle.std.specs.Prelude.{Ok, Err, IfOk, OnOk, OnErr, IsOkUnless, IsErrOf};
+ghost use Rattle.std.specs.Prelude.{Ok, Err, IfOk, OnOk, OnErr, IsErrOf};
 ghost use Rattle.overlay_geom.specs.Counts.{weight_of_counts};
 ghost use Rattle.overlay_geom.specs.Points.{plain_point, plain_points, InRange, AllInRange};
 ghost use Rattle.overlay_plane.specs.Arrangements.{IsReachedBy};
@@ -24,7 +24,7 @@ use overlay_geom::number::IntNumber;
 use overlay_geom::point::IntPoint;
 use overlay_geom::resource::IntShapeResource;
 use overlay_geom::solver::Solver;
-use std::alloc::Allocator;
+use std::alloc::{AllocError, Allocator};
 use std::marker::Model;
 
 /// The counted edges of a builder, and a mark that a query was refused since the edges were last dropped. While the
@@ -45,10 +45,9 @@ impl<I: IntNumber, C: EdgeCount, A: Allocator> Model for BuilderCore<I, C, A> {
 }
 
 impl<I: IntNumber, C: EdgeCount, A: Allocator> BuilderCore<I, C, A> {
-    /// Makes a core without edges, with room for `capacity` edges. The only refusal is `Memory`.
-    pub fn with_capacity(alloc: A, capacity: usize) -> Result<Self, OverlayError>
+    /// Makes a core without edges, with room for `capacity` edges.
+    pub fn with_capacity(alloc: A, capacity: usize) -> Result<Self, AllocError>
         ensures empty { IfOk result (λ b. b ≡ nothing_held) }
-        ensures err { IsOkUnless result OverlayError.Memory }
     {
         Ok(BuilderCore {
             content: Content::with_capacity(alloc, capacity)?,

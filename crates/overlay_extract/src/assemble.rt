@@ -1,6 +1,6 @@
 //! Shapes assembled from contours: each outline, followed by the holes of its shape.
 
-ghost use Rattle.std.specs.Prelude.{◌≡◌, ◌<◌, length, map, All, IfOk, IsOkUnless};
+ghost use Rattle.std.specs.Prelude.{◌≡◌, ◌<◌, length, map, All, IfOk};
 ghost use Rattle.std.specs.List.{AllZip};
 ghost use Rattle.overlay_geom.specs.Paths.{plain_shapes, paths_of_shape};
 ghost use Rattle.overlay_geom.specs.Plane.{points_of};
@@ -13,28 +13,26 @@ ghost use Rattle.overlay_walk.specs.GroupedContours.{plain_contours};
 ghost use Rattle.overlay_walk.specs.Steps.{plain_steps, IsLong};
 ghost use Rattle.overlay_extract.specs.Places.{place_lists, AreInside};
 
-use overlay_geom::error::OverlayError;
 use overlay_geom::number::IntNumber;
 use overlay_geom::path::{IntContour, IntShape, IntShapes};
 use overlay_geom::thin::thinned;
 use overlay_walk::contour::Contour;
 use overlay_walk::step::Step;
-use std::alloc::Allocator;
+use std::alloc::{AllocError, Allocator};
 
 /// Returns the shapes with the contours at these places. The points of a contour are the starts of its steps. Unless
-/// `keeps_points`, points collinear with their two neighbours are dropped. The only refusal is `Memory`.
+/// `keeps_points`, points collinear with their two neighbours are dropped.
 pub fn assembled<I: IntNumber, A: Allocator + Clone>(
     alloc: A,
     contours: &[Contour<I, A>],
     places: &[Vec<usize, A>],
     keeps_points: bool,
-) -> Result<IntShapes<I, A>, OverlayError>
+) -> Result<IntShapes<I, A>, AllocError>
     requires long { All (All (IsLong I.limit)) (walks_in (plain_contours I.whole contours.now)) }
     requires inside { AreInside (length (plain_contours I.whole contours.now)) (place_lists places.now) }
     ensures shapes { IfOk result (λ v. AreKeptOrThinned keeps_points
         (points_of_shapes (walks_at (plain_contours I.whole contours.now) (place_lists places.now)))
         (plain_shapes I.whole v.items)) }
-    ensures err { IsOkUnless result OverlayError.Memory }
 {
     let mut shapes = Vec::new(alloc.clone()?);
     for shape in places {
@@ -49,13 +47,12 @@ fn shape_at<I: IntNumber, A: Allocator + Clone>(
     contours: &[Contour<I, A>],
     places: &[usize],
     keeps_points: bool,
-) -> Result<IntShape<I, A>, OverlayError>
+) -> Result<IntShape<I, A>, AllocError>
     requires long { All (All (IsLong I.limit)) (walks_in (plain_contours I.whole contours.now)) }
     requires inside { All (λ k. k < length (plain_contours I.whole contours.now)) places.now }
     ensures shape { IfOk result (λ v. AllZip (IsKeptOrThinned keeps_points)
         (map points_of (map (walk_at (plain_contours I.whole contours.now)) places.now))
         (paths_of_shape I.whole v.items)) }
-    ensures err { IsOkUnless result OverlayError.Memory }
 {
     let mut shape = Vec::new(alloc.clone()?);
     for i in 0..places.len() {
@@ -65,16 +62,15 @@ fn shape_at<I: IntNumber, A: Allocator + Clone>(
     Ok(shape)
 }
 /// Returns the points at which the steps of the walk begin. Unless `keeps_points`, points collinear with their two
-/// neighbours are dropped. The only refusal is `Memory`.
+/// neighbours are dropped.
 pub fn contour<I: IntNumber, A: Allocator + Clone>(
     alloc: A,
     walk: &[Step<I>],
     keeps_points: bool,
-) -> Result<IntContour<I, A>, OverlayError>
+) -> Result<IntContour<I, A>, AllocError>
     requires { All (IsLong I.limit) (plain_steps I.whole walk.now) }
     ensures ok { IfOk result (λ v. IsKeptOrThinned keeps_points (points_of (plain_steps I.whole walk.now))
         (plain_points I.whole v.items)) }
-    ensures err { IsOkUnless result OverlayError.Memory }
 {
     let points = points_of(alloc.clone()?, walk)?;
     if keeps_points {
@@ -87,9 +83,8 @@ pub fn contour<I: IntNumber, A: Allocator + Clone>(
 fn points_of<I: IntNumber, A: Allocator>(
     alloc: A,
     walk: &[Step<I>],
-) -> Result<IntContour<I, A>, OverlayError>
+) -> Result<IntContour<I, A>, AllocError>
     ensures ok { IfOk result (λ v. plain_points I.whole v.items ≡ points_of (plain_steps I.whole walk.now)) }
-    ensures err { IsOkUnless result OverlayError.Memory }
 {
     let mut points = Vec::with_capacity(alloc, walk.len())?;
     for step in walk {

@@ -1,12 +1,11 @@
 //! Links from shapes to the shapes that lie in their holes.
 
-ghost use Rattle.std.specs.Prelude.{◌≡◌, ◌↔◌, IsTrue, OnOk, IsOkUnless};
+ghost use Rattle.std.specs.Prelude.{◌≡◌, ◌↔◌, IsTrue, OnOk};
 ghost use Rattle.std.specs.List.Sorted.{IsPermutation};
 ghost use Rattle.std.specs.Ordering.{is_eq, is_lt};
 ghost use Rattle.overlay_extract.specs.ChildLinks.{plain_link, link_order, is_link_before, AreInOrder};
 
-use overlay_geom::error::OverlayError;
-use std::alloc::Allocator;
+use std::alloc::{AllocError, Allocator};
 use std::cmp::Ordering;
 
 /// A shape that lies in a hole of another shape. Links are ordered by their fields, in the order of the fields.
@@ -30,11 +29,10 @@ pub fn order_of_links(k: &ChildLink, l: &ChildLink) -> Ordering
     k.cmp(l)
 }
 
-/// Sorts the links. The only refusal is `Memory`, after which they stand in some order.
-pub(crate) fn sort_links<A: Allocator>(links: &mut Vec<ChildLink, A>) -> Result<(), OverlayError>
+/// Sorts the links. After a refusal, they stand in some order.
+pub(crate) fn sort_links<A: Allocator>(links: &mut Vec<ChildLink, A>) -> Result<(), AllocError>
     ensures permutation { IsPermutation links.old.items links.new.items }
     ensures order { OnOk result (AreInOrder links.new.items) }
-    ensures err { IsOkUnless result OverlayError.Memory }
 {
     links.sort_by(|k, l| order_of_links(k, l))?;
     Ok(())

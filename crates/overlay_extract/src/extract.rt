@@ -28,42 +28,40 @@ use overlay_walk::area::large_walks;
 use overlay_walk::buffer::BooleanExtractionBuffer;
 use overlay_walk::selected_walks::selected_walks;
 use overlay_walk::step::Step;
-use std::alloc::Allocator;
+use std::alloc::{AllocError, Allocator};
 
 /// Returns the shapes round the region where the graph's fill rule and the overlay rule hold of the windings of the
 /// graph's edges. Each shape is its outline and then its holes, both in the order in which they are found. With `ogc`
 /// no contour visits a point twice, and the holes of an outline's own group come before the other holes of its shape.
 /// Contours below the minimum area are left out; an outline left out takes the holes of its group with it. The buffer
-/// lends its room. The only refusal is `Memory`.
+/// lends its room.
 pub fn extract_shapes<I: IntNumber, C: EdgeCount, A: Allocator + Clone>(
     graph: &Graph<I, C, A>,
     overlay_rule: OverlayRule,
     options: IntOverlayOptions<I::WideUInt>,
     buffer: &mut BooleanExtractionBuffer<I, A>,
-) -> Result<IntShapes<I, A>, OverlayError>
+) -> Result<IntShapes<I, A>, AllocError>
     requires { HasBalancedCounts (graph_edges graph.now) }
     ensures result { IfOk result (λ v. IsResult
         (asked I.Wide.width I.WideUInt.natural graph.now.fill_rule overlay_rule options)
         (graph_edges graph.now) (plain_shapes I.whole v.items)) }
-    ensures err { IsOkUnless result OverlayError.Memory }
 {
     extract_shapes_with_trees_from(graph, overlay_rule, options, buffer, TREE_FROM_PARENTS)
 }
 
 /// Returns the shapes that [`extract_shapes`] gives, with a limit given by the caller. With `tree_from` or more shapes
-/// the live edges are kept in a tree, else in a list. The only refusal is `Memory`.
+/// the live edges are kept in a tree, else in a list.
 pub fn extract_shapes_with_trees_from<I: IntNumber, C: EdgeCount, A: Allocator + Clone>(
     graph: &Graph<I, C, A>,
     overlay_rule: OverlayRule,
     options: IntOverlayOptions<I::WideUInt>,
     buffer: &mut BooleanExtractionBuffer<I, A>,
     tree_from: usize,
-) -> Result<IntShapes<I, A>, OverlayError>
+) -> Result<IntShapes<I, A>, AllocError>
     requires { HasBalancedCounts (graph_edges graph.now) }
     ensures result { IfOk result (λ v. IsResult
         (asked I.Wide.width I.WideUInt.natural graph.now.fill_rule overlay_rule options)
         (graph_edges graph.now) (plain_shapes I.whole v.items)) }
-    ensures err { IsOkUnless result OverlayError.Memory }
 {
     let placed = placed_contours(graph, overlay_rule, options, buffer, tree_from)?;
     let alloc = graph.allocator().clone()?;
@@ -157,13 +155,12 @@ fn kept_walks<I: IntNumber, C: EdgeCount, A: Allocator + Clone>(
     overlay_rule: OverlayRule,
     options: IntOverlayOptions<I::WideUInt>,
     buffer: &mut BooleanExtractionBuffer<I, A>,
-) -> Result<Vec<Vec<Step<I>, A>, A>, OverlayError>
+) -> Result<Vec<Vec<Step<I>, A>, A>, AllocError>
     requires { HasBalancedCounts (graph_edges graph.now) }
     ensures kept { IfOk result (λ ws. AreKeptWalks
         (asked I.Wide.width I.WideUInt.natural graph.now.fill_rule overlay_rule options)
         (graph_edges graph.now) (plain_walks I.whole ws.items)) }
     ensures long { IfOk result (λ ws. All (All (IsLong I.limit)) (plain_walks I.whole ws.items)) }
-    ensures err { IsOkUnless result OverlayError.Memory }
 {
     let walks = selected_walks(graph, overlay_rule, options.output_direction, buffer)?;
     large_walks(graph.allocator().clone()?, walks, options.min_output_area)

@@ -1,29 +1,27 @@
 //! Contours in the order of their shapes.
 
-ghost use Rattle.std.specs.Prelude.{◌≡◌, ◌++◌, ◌<◌, length, map, All, IfOk, OnOk, IsOkUnless};
+ghost use Rattle.std.specs.Prelude.{◌≡◌, ◌++◌, ◌<◌, length, map, All, IfOk, OnOk};
 ghost use Rattle.overlay_plane.specs.PlacedContours.{walk_at, walks_at};
 ghost use Rattle.overlay_plane.specs.RoledContours.{group_contours_from};
 ghost use Rattle.overlay_walk.specs.GroupedContours.{plain_contours, plain_role, contours_of_group};
 ghost use Rattle.overlay_extract.specs.InShapes.{role_at, AreBegun};
 ghost use Rattle.overlay_extract.specs.Places.{place_lists, AreInside};
 
-use overlay_geom::error::OverlayError;
 use overlay_geom::number::IntNumber;
 use overlay_walk::contour::{Contour, Role};
-use std::alloc::Allocator;
+use std::alloc::{AllocError, Allocator};
 
 /// Returns the contours at these places, shape by shape. The first contour of each shape is its outline, and the others
-/// are holes of the outline's group. The only refusal is `Memory`.
+/// are holes of the outline's group.
 pub(crate) fn in_shapes<I: IntNumber, A: Allocator + Clone>(
     alloc: A,
     contours: &[Contour<I, A>],
     places: &[Vec<usize, A>],
-) -> Result<Vec<Contour<I, A>, A>, OverlayError>
+) -> Result<Vec<Contour<I, A>, A>, AllocError>
     requires inside { AreInside (length (plain_contours I.whole contours.now)) (place_lists places.now) }
     requires begun { AreBegun (place_lists places.now) }
     ensures ok { IfOk result (λ v. plain_contours I.whole v.items
         ≡ group_contours_from 0 (walks_at (plain_contours I.whole contours.now) (place_lists places.now))) }
-    ensures err { IsOkUnless result OverlayError.Memory }
 {
     let mut ordered = Vec::new(alloc.clone()?);
     for number in 0..places.len() {
@@ -39,11 +37,10 @@ fn push_shape<I: IntNumber, A: Allocator + Clone>(
     contours: &[Contour<I, A>],
     places: &[usize],
     number: usize,
-) -> Result<(), OverlayError>
+) -> Result<(), AllocError>
     requires inside { All (λ k. k < length (plain_contours I.whole contours.now)) places.now }
     ensures pushed { OnOk result (plain_contours I.whole ordered.new.items ≡ plain_contours I.whole ordered.old.items
         ++ contours_of_group number (map (walk_at (plain_contours I.whole contours.now)) places.now)) }
-    ensures err { IsOkUnless result OverlayError.Memory }
 {
     for i in 0..places.len() {
         let place = places[i];

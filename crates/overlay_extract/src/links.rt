@@ -1,6 +1,6 @@
 //! The links of contours placed in shapes.
 
-ghost use Rattle.std.specs.Prelude.{◌≡◌, ◌<◌, length, map, option_map, All, IfOk, IfSome, IsOkUnless};
+ghost use Rattle.std.specs.Prelude.{◌≡◌, ◌<◌, length, map, option_map, All, IfOk, IfSome};
 ghost use Rattle.overlay_plane.specs.BoundContours.{walks_in};
 ghost use Rattle.overlay_plane.specs.Islands.{AreInShapes, AreLinks};
 ghost use Rattle.overlay_plane.specs.KeptContours.{CanBeBound};
@@ -13,28 +13,25 @@ use crate::binding::islands::holes_round;
 use crate::binding::scans::scan_for_islands;
 use crate::child_link::{ChildLink, sort_links};
 use overlay_arrange::options::ContourDirection;
-use overlay_geom::error::OverlayError;
 use overlay_geom::number::IntNumber;
 use overlay_walk::contour::Contour;
-use std::alloc::Allocator;
+use std::alloc::{AllocError, Allocator};
 
 /// Returns the links of contours that all stand in shapes, shape by shape, in order. Each shape in a hole of another
 /// shape has a link: the other shape, the place of the hole among the contours, and the shape. With `tree_from` or more
-/// holes the live edges are kept in a tree, else in a list; the answer does not depend on it. The only refusal is
-/// `Memory`.
+/// holes the live edges are kept in a tree, else in a list; the answer does not depend on it.
 pub(crate) fn links<I: IntNumber, A: Allocator + Clone>(
     alloc: A,
     contours: &[Contour<I, A>],
     direction: ContourDirection,
     tree_from: usize,
-) -> Result<Vec<ChildLink, A>, OverlayError>
+) -> Result<Vec<ChildLink, A>, AllocError>
     requires long { All (All (IsLong I.limit)) (walks_in (plain_contours I.whole contours.now)) }
     requires bindable { CanBeBound (filled_hand direction) (walks_in (plain_contours I.whole contours.now)) }
     requires in_shapes { AreInShapes (plain_contours I.whole contours.now) }
     ensures links { IfOk result (λ v. AreLinks (filled_hand direction) (plain_contours I.whole contours.now)
         (map plain_link v.items)) }
     ensures children { IfOk result (λ v. HaveOtherChildren (map plain_link v.items)) }
-    ensures err { IsOkUnless result OverlayError.Memory }
 {
     let mut scan = scan_for_islands(alloc.clone()?, contours, tree_from);
     let holes = holes_round(alloc.clone()?, &mut scan, contours, direction)?;
@@ -48,11 +45,10 @@ fn links_by<I: IntNumber, A: Allocator>(
     alloc: A,
     contours: &[Contour<I, A>],
     holes: &[Option<usize>],
-) -> Result<Vec<ChildLink, A>, OverlayError>
+) -> Result<Vec<ChildLink, A>, AllocError>
     requires { All (λ h. IfSome h (λ k. k < length contours.now)) holes.now }
     ensures ok { IfOk result
         (λ v. map plain_link v.items ≡ links_from (plain_contours I.whole contours.now) 0 holes.now) }
-    ensures err { IsOkUnless result OverlayError.Memory }
 {
     let mut links = Vec::new(alloc);
     for child in 0..holes.len() {

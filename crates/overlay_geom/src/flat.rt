@@ -1,13 +1,12 @@
 //! Contours and shapes whose points are held in a single list.
 
-ghost use Rattle.std.specs.Prelude.{◌≡◌, ◌≤◌, IfOk, IsOkUnless};
+ghost use Rattle.std.specs.Prelude.{◌≡◌, ◌≤◌, IfOk};
 ghost use Rattle.overlay_geom.specs.Flat.{range_within, part_in};
 
 pub mod contours;
 pub mod shapes;
 
-use crate::error::OverlayError;
-use std::alloc::Allocator;
+use std::alloc::{AllocError, Allocator};
 use std::ops::Range;
 
 // Returns the range itself if it lies inside a list of length `count`, else an empty range.
@@ -31,10 +30,9 @@ fn part_in<'a, T>(items: &'a [T], range: &Range<usize>) -> &'a [T]
     &items[within.start..within.end]
 }
 
-/// Returns a copy of the items in a new list. The only refusal is `Memory`.
-pub fn copied<T: Copy, A: Allocator>(alloc: A, items: &[T]) -> Result<Vec<T, A>, OverlayError>
+/// Returns a copy of the items in a new list.
+pub fn copied<T: Copy, A: Allocator>(alloc: A, items: &[T]) -> Result<Vec<T, A>, AllocError>
     ensures ok { IfOk result (λ v. v.items ≡ items.now) }
-    ensures only { IsOkUnless result OverlayError.Memory }
 {
     let mut list = Vec::new(alloc);
     list.extend_from_slice(items)?;
@@ -45,9 +43,8 @@ pub fn copied<T: Copy, A: Allocator>(alloc: A, items: &[T]) -> Result<Vec<T, A>,
 fn copied_ranges<A: Allocator>(
     alloc: A,
     ranges: &[Range<usize>],
-) -> Result<Vec<Range<usize>, A>, OverlayError>
+) -> Result<Vec<Range<usize>, A>, AllocError>
     ensures ok { IfOk result (λ v. v.items ≡ ranges.now) }
-    ensures only { IsOkUnless result OverlayError.Memory }
 {
     Ok(ranges.to_vec(alloc)?)
 }

@@ -1,27 +1,25 @@
 //! Thinning of closed lists of points: removal of collinear points.
 
-ghost use Rattle.std.specs.Prelude.{◌↔◌, ◌≤◌, [], ◌∷◌, ◌++◌, length, slice_range, IfOk, IsOkUnless, IsTrue};
+ghost use Rattle.std.specs.Prelude.{◌↔◌, ◌≤◌, [], ◌∷◌, ◌++◌, length, slice_range, IfOk, IsTrue};
 ghost use Rattle.overlay_geom.specs.Points.{plain_point, plain_points, InRange, AllInRange};
 ghost use Rattle.overlay_geom.specs.Thinned.{IsOnOneLine, IsThinned};
 ghost use Rattle.overlay_geom.specs.Narrowed.{IsNarrowed, IsNarrowedBefore, IsBentInside};
 
-use crate::error::OverlayError;
 use crate::number::{IntNumber, WideIntNumber};
 use crate::point::IntPoint;
 use crate::vector::cross_at;
-use std::alloc::Allocator;
+use std::alloc::{AllocError, Allocator};
 
 /// Returns the closed list without the points that are collinear with their two neighbours. It drops them one by one
 /// until none is left.
 pub fn thinned<I: IntNumber, A: Allocator>(
     alloc: A,
     points: &[IntPoint<I>],
-) -> Result<Vec<IntPoint<I>, A>, OverlayError>
+) -> Result<Vec<IntPoint<I>, A>, AllocError>
     requires { AllInRange I.limit (plain_points I.whole points.now) }
     ensures ok { IfOk result (λ v.
         IsThinned (plain_points I.whole points.now) (plain_points I.whole v.items)) }
     ensures in_range { IfOk result (λ v. AllInRange I.limit (plain_points I.whole v.items)) }
-    ensures err { IsOkUnless result OverlayError.Memory }
 {
     let mut bent = bent_inside(alloc, points)?;
     let (from, to) = bent_part(&bent);
@@ -35,13 +33,12 @@ pub fn thinned<I: IntNumber, A: Allocator>(
 fn bent_inside<I: IntNumber, A: Allocator>(
     alloc: A,
     points: &[IntPoint<I>],
-) -> Result<Vec<IntPoint<I>, A>, OverlayError>
+) -> Result<Vec<IntPoint<I>, A>, AllocError>
     requires { AllInRange I.limit (plain_points I.whole points.now) }
     ensures narrowed { IfOk result (λ v.
         IsNarrowed (plain_points I.whole points.now) (plain_points I.whole v.items)) }
     ensures bent { IfOk result (λ v. IsBentInside (plain_points I.whole v.items)) }
     ensures in_range { IfOk result (λ v. AllInRange I.limit (plain_points I.whole v.items)) }
-    ensures err { IsOkUnless result OverlayError.Memory }
 {
     let mut bent = Vec::new(alloc);
     for point in points {

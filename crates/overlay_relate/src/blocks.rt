@@ -1,6 +1,6 @@
 //! Blocks of edges that stand in a row, each with numbers between which its edges lie.
 
-ghost use Rattle.std.specs.Prelude.{◌≡◌, ◌<◌, ◌≤◌, ◌≤ℤ◌, length, map, All, IfOk, IsOkUnless};
+ghost use Rattle.std.specs.Prelude.{◌≡◌, ◌<◌, ◌≤◌, ◌≤ℤ◌, length, map, All, IfOk};
 ghost use Rattle.overlay_geom.specs.Points.{plain_point};
 ghost use Rattle.overlay_geom.specs.Resolved.{plain_edge, plain_edges, IsLongEdge};
 ghost use Rattle.overlay_relate.specs.Blocks.{plain_block, plain_blocks, is_clear};
@@ -9,10 +9,9 @@ ghost use Rattle.overlay_relate.specs.Blocks.{LiesBetween, IsBlockOf, AreClear};
 use crate::form::FormOf;
 use crate::order::{greater, is_less, lesser};
 use overlay_geom::edge::IntEdge;
-use overlay_geom::error::OverlayError;
 use overlay_geom::number::IntNumber;
 use overlay_geom::point::IntPoint;
-use std::alloc::Allocator;
+use std::alloc::{AllocError, Allocator};
 
 /// The edges from one place up to another, and numbers between which they lie.
 #[derive(Clone, Copy)]
@@ -43,15 +42,14 @@ impl<I: Copy> FormOf<Block<I>> for Block<I> {
     }
 }
 
-/// Returns the blocks of `size` edges, in their order; the last may have fewer. The only refusal is `Memory`.
+/// Returns the blocks of `size` edges, in their order; the last may have fewer.
 pub(crate) fn blocks_over<I: IntNumber, A: Allocator>(
     alloc: A,
     edges: &[IntEdge<I>],
     size: usize,
-) -> Result<Vec<Block<I>, A>, OverlayError>
+) -> Result<Vec<Block<I>, A>, AllocError>
     requires some { 0 < size }
     ensures ok { IfOk result (λ v. All (IsBlockOf (plain_edges I.whole edges.now)) (plain_blocks I.whole v.items)) }
-    ensures err { IsOkUnless result OverlayError.Memory }
 {
     let mut blocks = Vec::new(alloc);
     let mut start = 0;

@@ -1,6 +1,6 @@
 //! The edges that bound the shape of an arrangement.
 
-ghost use Rattle.std.specs.Prelude.{◌≡◌, ◌++◌, map, flat_map, All, IfOk, OnOk, IsOkUnless};
+ghost use Rattle.std.specs.Prelude.{◌≡◌, ◌++◌, map, flat_map, All, IfOk, OnOk};
 ghost use Rattle.overlay_arrange.specs.Counts.{has_bit};
 ghost use Rattle.overlay_arrange.specs.Graphs.{graph_edges};
 ghost use Rattle.overlay_arrange.specs.Rules.{is_filled};
@@ -15,20 +15,18 @@ use overlay_arrange::count::EdgeCount;
 use overlay_arrange::graph::Graph;
 use overlay_arrange::vector::{DataVectorEdge, SUBJ_LEFT, SUBJ_RIGHT, SideFill};
 use overlay_geom::edge::IntEdge;
-use overlay_geom::error::OverlayError;
 use overlay_geom::number::IntNumber;
-use std::alloc::Allocator;
+use std::alloc::{AllocError, Allocator};
 
-/// Returns the edges with exactly one side filled by the subject, in their order. The only refusal is `Memory`.
+/// Returns the edges with exactly one side filled by the subject, in their order.
 pub(crate) fn boundary_of<I: IntNumber, C: EdgeCount, A: Allocator + Clone>(
     alloc: A,
     graph: &Graph<I, C, A>,
-) -> Result<Vec<IntEdge<I>, A>, OverlayError>
+) -> Result<Vec<IntEdge<I>, A>, AllocError>
     requires { HasBalancedCounts (graph_edges graph.now) }
     ensures bounds { IfOk result (λ v. Bounds (is_filled graph.now.fill_rule) (graph_edges graph.now)
         (plain_edges I.whole v.items)) }
     ensures long { IfOk result (λ v. All (IsLongEdge I.limit) (plain_edges I.whole v.items)) }
-    ensures err { IsOkUnless result OverlayError.Memory }
 {
     let boundary = bounding_edges(alloc, graph.edges())?;
     Ok(boundary)
@@ -38,10 +36,9 @@ pub(crate) fn boundary_of<I: IntNumber, C: EdgeCount, A: Allocator + Clone>(
 fn bounding_edges<I: IntNumber, D: Copy, A: Allocator>(
     alloc: A,
     edges: &[DataVectorEdge<I, D>],
-) -> Result<Vec<IntEdge<I>, A>, OverlayError>
+) -> Result<Vec<IntEdge<I>, A>, AllocError>
     ensures ok { IfOk result (λ v. plain_edges I.whole v.items
         ≡ flat_map bounding (map (plain_vector I.whole) edges.now)) }
-    ensures err { IsOkUnless result OverlayError.Memory }
 {
     let mut boundary = Vec::new(alloc);
     for number in 0..edges.len() {
@@ -54,10 +51,9 @@ fn bounding_edges<I: IntNumber, D: Copy, A: Allocator>(
 fn push_bounding<I: IntNumber, D: Copy, A: Allocator>(
     boundary: &mut Vec<IntEdge<I>, A>,
     edge: DataVectorEdge<I, D>,
-) -> Result<(), OverlayError>
+) -> Result<(), AllocError>
     ensures ok { OnOk result (plain_edges I.whole boundary.new.items
         ≡ plain_edges I.whole boundary.old.items ++ bounding (plain_vector I.whole edge)) }
-    ensures err { IsOkUnless result OverlayError.Memory }
 {
     if fills_one_side(edge.fill) {
         boundary.push(IntEdge {

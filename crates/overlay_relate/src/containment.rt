@@ -17,7 +17,7 @@ use overlay_geom::error::OverlayError;
 use overlay_geom::integer::OverlayInt;
 use overlay_geom::path::{IntContour, IntShape, IntShapes};
 use overlay_geom::point::IntPoint;
-use std::alloc::Allocator;
+use std::alloc::{AllocError, Allocator};
 
 mod borrowed;
 
@@ -112,13 +112,12 @@ impl<I: OverlayInt, B: Allocator> IntPointContainment<I> for IntShapes<I, B> {
     }
 }
 
-// Which of the locations are `Inside`. The only refusal is `Memory`.
+// Which of the locations are `Inside`.
 fn are_inside<A: Allocator>(
     alloc: A,
     locations: &[PointLocation],
-) -> Result<Vec<bool, A>, OverlayError>
+) -> Result<Vec<bool, A>, AllocError>
     ensures inside { IfOk result (λ v. v.items ≡ map is_inside locations.now) }
-    ensures err { IsOkUnless result OverlayError.Memory }
 {
     let mut inside = Vec::with_capacity(alloc, locations.len())?;
     for l in locations {

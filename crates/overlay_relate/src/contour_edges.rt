@@ -1,25 +1,23 @@
 //! The edges of a contour.
 
-ghost use Rattle.std.specs.Prelude.{◌≡◌, ◌++◌, [], ◌∷◌, All, IfOk, OnOk, IsOkUnless};
+ghost use Rattle.std.specs.Prelude.{◌≡◌, ◌++◌, [], ◌∷◌, All, IfOk, OnOk};
 ghost use Rattle.overlay_geom.specs.Points.{plain_point, plain_points, InRange, AllInRange};
 ghost use Rattle.overlay_geom.specs.Resolved.{plain_edges, edges_between, edges_through};
 ghost use Rattle.overlay_geom.specs.Resolved.{edges_of, IsLongEdge};
 
 use overlay_geom::edge::{IntEdge, edge_between};
-use overlay_geom::error::OverlayError;
 use overlay_geom::number::IntNumber;
 use overlay_geom::point::IntPoint;
-use std::alloc::Allocator;
+use std::alloc::{AllocError, Allocator};
 
-/// The edges of a contour's steps, in their order. The only refusal is `Memory`.
+/// The edges of a contour's steps, in their order.
 pub(crate) fn contour_edges<I: IntNumber, A: Allocator>(
     alloc: A,
     contour: &[IntPoint<I>],
-) -> Result<Vec<IntEdge<I>, A>, OverlayError>
+) -> Result<Vec<IntEdge<I>, A>, AllocError>
     requires { AllInRange I.limit (plain_points I.whole contour.now) }
     ensures edges { IfOk result (λ v. plain_edges I.whole v.items ≡ edges_of (plain_points I.whole contour.now)) }
     ensures long { IfOk result (λ v. All (IsLongEdge I.limit) (plain_edges I.whole v.items)) }
-    ensures err { IsOkUnless result OverlayError.Memory }
 {
     let mut edges = Vec::new(alloc);
     let Some(first) = contour.first() else {
@@ -34,7 +32,7 @@ fn push_round<I: IntNumber, A: Allocator>(
     edges: &mut Vec<IntEdge<I>, A>,
     first: IntPoint<I>,
     contour: &[IntPoint<I>],
-) -> Result<(), OverlayError>
+) -> Result<(), AllocError>
     requires first { InRange I.limit (plain_point I.whole first) }
     requires contour { AllInRange I.limit (plain_points I.whole contour.now) }
     requires long { All (IsLongEdge I.limit) (plain_edges I.whole edges.old.items) }
@@ -42,7 +40,6 @@ fn push_round<I: IntNumber, A: Allocator>(
         ++ edges_through (plain_point I.whole first)
         (plain_points I.whole contour.now ++ plain_point I.whole first ∷ [])) }
     ensures long { All (IsLongEdge I.limit) (plain_edges I.whole edges.new.items) }
-    ensures err { IsOkUnless result OverlayError.Memory }
 {
     let mut from = first;
     for to in contour {
@@ -57,14 +54,13 @@ fn push_step<I: IntNumber, A: Allocator>(
     edges: &mut Vec<IntEdge<I>, A>,
     from: IntPoint<I>,
     to: IntPoint<I>,
-) -> Result<(), OverlayError>
+) -> Result<(), AllocError>
     requires from { InRange I.limit (plain_point I.whole from) }
     requires to { InRange I.limit (plain_point I.whole to) }
     requires long { All (IsLongEdge I.limit) (plain_edges I.whole edges.old.items) }
     ensures ok { OnOk result (plain_edges I.whole edges.new.items ≡ plain_edges I.whole edges.old.items
         ++ edges_between (plain_point I.whole from) (plain_point I.whole to)) }
     ensures long { All (IsLongEdge I.limit) (plain_edges I.whole edges.new.items) }
-    ensures err { IsOkUnless result OverlayError.Memory }
 {
     if let Some(edge) = edge_between(from, to) {
         edges.push(edge)?;

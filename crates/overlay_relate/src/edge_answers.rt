@@ -1,6 +1,6 @@
 //! What answers predicates, found from the filled sides of the edges of an arrangement.
 
-ghost use Rattle.std.specs.Prelude.{◌≡◌, ◌↔◌, ◌⊎◌, IsTrue, IfOk, IsOkUnless};
+ghost use Rattle.std.specs.Prelude.{◌≡◌, ◌↔◌, ◌⊎◌, IsTrue, IfOk};
 ghost use Rattle.overlay_arrange.specs.Graphs.{graph_edges};
 ghost use Rattle.overlay_arrange.specs.Rules.{is_filled};
 ghost use Rattle.overlay_plane.specs.Balance.{HasBalancedCounts};
@@ -14,21 +14,18 @@ use crate::shared_end::has_shared_end;
 use overlay_arrange::count::EdgeCount;
 use overlay_arrange::fill_rule::FillRule;
 use overlay_arrange::graph::Graph;
-use overlay_geom::error::OverlayError;
 use overlay_geom::number::IntNumber;
-use std::alloc::Allocator;
+use std::alloc::{AllocError, Allocator};
 
 /// What is found of the edges with the sides that the subject and the clip fill, under the graph's rule.
-/// The only refusal is `Memory`.
 pub(crate) fn found_in<I: IntNumber, C: EdgeCount, A: Allocator + Clone>(
     graph: &Graph<I, C, A>,
     fill_rule: FillRule,
-) -> Result<Found, OverlayError>
+) -> Result<Found, AllocError>
     requires balanced { HasBalancedCounts (graph_edges graph.now) }
     requires rule { graph.now.fill_rule ≡ fill_rule }
     ensures ok { IfOk result (IsFoundUnder fill_rule (graph_edges graph.now)) }
     ensures rule { IfOk result (λ f. f.fill_rule ≡ fill_rule) }
-    ensures err { IsOkUnless result OverlayError.Memory }
 {
     graph.note_arrangement();
     Ok(Found {
@@ -46,11 +43,10 @@ pub(crate) fn found_in<I: IntNumber, C: EdgeCount, A: Allocator + Clone>(
 // Whether some edge has sides of both shapes, or their borders share an end.
 fn meet<I: IntNumber, C: EdgeCount, A: Allocator + Clone>(
     graph: &Graph<I, C, A>,
-) -> Result<bool, OverlayError>
+) -> Result<bool, AllocError>
     ensures ok { let es = graph_edges graph.now in
         let filled = is_filled graph.now.fill_rule in
         IfOk result (λ b. IsTrue b ↔ (SomeEdge (has_both filled es) es ⊎ HasSharedEnd filled es)) }
-    ensures err { IsOkUnless result OverlayError.Memory }
 {
     let is_met = some_edge(graph, EdgeTest::BothShapes);
     if is_met {

@@ -1,6 +1,6 @@
 //! Where points lie in shapes.
 
-ghost use Rattle.std.specs.Prelude.{◌≡◌, ◌++◌, [], ◌∷◌, length, All, IfOk, OnOk, IsOkUnless};
+ghost use Rattle.std.specs.Prelude.{◌≡◌, ◌++◌, [], ◌∷◌, length, All, IfOk, OnOk};
 ghost use Rattle.overlay_geom.specs.Points.{plain_points, AllInRange};
 ghost use Rattle.overlay_geom.specs.Paths.{paths_of_shape, plain_shapes};
 ghost use Rattle.overlay_geom.specs.Resolved.{IsResolved};
@@ -13,26 +13,23 @@ use crate::joined::{Parts, join_from};
 use crate::location::PointLocation;
 use crate::queries::{in_given_order, points_asked, queries_by_x};
 use crate::runs::{run_over, run_over_all};
-use overlay_geom::error::OverlayError;
 use overlay_geom::number::IntNumber;
 use overlay_geom::path::{IntContour, IntShape};
 use overlay_geom::point::IntPoint;
-use std::alloc::Allocator;
+use std::alloc::{AllocError, Allocator};
 
-/// Returns where each point lies in the shape, in order, with trees for contours of `tree_from` edges or more. The
-/// only refusal is `Memory`.
+/// Returns where each point lies in the shape, in order, with trees for contours of `tree_from` edges or more.
 pub fn locate_in_shape<I: IntNumber, A: Allocator, B: Allocator + Clone>(
     alloc: B,
     contours: &[IntContour<I, A>],
     points: &[IntPoint<I>],
     tree_from: usize,
-) -> Result<Vec<PointLocation, B>, OverlayError>
+) -> Result<Vec<PointLocation, B>, AllocError>
     requires contours { All (AllInRange I.limit) (paths_of_shape I.whole contours.now) }
     requires resolved { All IsResolved (paths_of_shape I.whole contours.now) }
     requires points { AllInRange I.limit (plain_points I.whole points.now) }
     ensures located { IfOk result (λ v. AnswersWhere (IsLocatedIn (paths_of_shape I.whole contours.now))
         (plain_points I.whole points.now) v.items) }
-    ensures err { IsOkUnless result OverlayError.Memory }
 {
     let queries = queries_by_x(alloc.clone()?, points)?;
     let asked = points_asked(alloc.clone()?, &queries)?;
@@ -41,19 +38,17 @@ pub fn locate_in_shape<I: IntNumber, A: Allocator, B: Allocator + Clone>(
 }
 
 /// Returns where each point lies among the shapes, in order, with trees for contours of `tree_from` edges or more.
-/// The only refusal is `Memory`.
 pub fn locate_in_shapes<I: IntNumber, A: Allocator, B: Allocator + Clone>(
     alloc: B,
     shapes: &[IntShape<I, A>],
     points: &[IntPoint<I>],
     tree_from: usize,
-) -> Result<Vec<PointLocation, B>, OverlayError>
+) -> Result<Vec<PointLocation, B>, AllocError>
     requires shapes { All (All (AllInRange I.limit)) (plain_shapes I.whole shapes.now) }
     requires resolved { All (All IsResolved) (plain_shapes I.whole shapes.now) }
     requires points { AllInRange I.limit (plain_points I.whole points.now) }
     ensures located { IfOk result (λ v. AnswersWhere (IsLocatedAmong (plain_shapes I.whole shapes.now))
         (plain_points I.whole points.now) v.items) }
-    ensures err { IsOkUnless result OverlayError.Memory }
 {
     let queries = queries_by_x(alloc.clone()?, points)?;
     let asked = points_asked(alloc.clone()?, &queries)?;
@@ -61,20 +56,19 @@ pub fn locate_in_shapes<I: IntNumber, A: Allocator, B: Allocator + Clone>(
     in_given_order(alloc, points, &queries, &located)
 }
 
-/// Returns where each of the points, sorted by x, lies among the shapes. The only refusal is `Memory`.
+/// Returns where each of the points, sorted by x, lies among the shapes.
 fn located_in_shapes<I: IntNumber, A: Allocator, B: Allocator + Clone>(
     alloc: B,
     shapes: &[IntShape<I, A>],
     points: &[IntPoint<I>],
     tree_from: usize,
-) -> Result<Vec<PointLocation, B>, OverlayError>
+) -> Result<Vec<PointLocation, B>, AllocError>
     requires shapes { All (All (AllInRange I.limit)) (plain_shapes I.whole shapes.now) }
     requires resolved { All (All IsResolved) (plain_shapes I.whole shapes.now) }
     requires points { AllInRange I.limit (plain_points I.whole points.now) }
     requires order { AreByX (plain_points I.whole points.now) }
     ensures located { IfOk result (λ v. AnswersWhere (IsLocatedAmong (plain_shapes I.whole shapes.now))
         (plain_points I.whole points.now) v.items) }
-    ensures err { IsOkUnless result OverlayError.Memory }
 {
     let mut located = outside(alloc.clone()?, points)?;
     for shape in shapes {
@@ -83,15 +77,15 @@ fn located_in_shapes<I: IntNumber, A: Allocator, B: Allocator + Clone>(
     Ok(located)
 }
 
-/// Joins the locations of the points, sorted by x, in one more shape to those among some shapes. Only points that
-/// do not lie beside it are asked. The only refusal is `Memory`.
+/// Joins the locations of the points, sorted by x, in one more shape to those among some shapes. Only points that do
+/// not lie beside it are asked.
 fn join_shape<I: IntNumber, A: Allocator, B: Allocator + Clone>(
     alloc: B,
     located: &mut Vec<PointLocation, B>,
     shape: &[IntContour<I, A>],
     points: &[IntPoint<I>],
     tree_from: usize,
-) -> Result<(), OverlayError>
+) -> Result<(), AllocError>
     requires contours { All (AllInRange I.limit) (paths_of_shape I.whole shape.now) }
     requires resolved { All IsResolved (paths_of_shape I.whole shape.now) }
     requires points { AllInRange I.limit (plain_points I.whole points.now) }
@@ -102,7 +96,6 @@ fn join_shape<I: IntNumber, A: Allocator, B: Allocator + Clone>(
         → AnswersWhere (IsLocatedAmong (seen ++ paths_of_shape I.whole shape.now ∷ []))
         (plain_points I.whole points.now) located.new.items) }
     ensures counted { OnOk result (length located.new.items ≡ length points.now) }
-    ensures err { IsOkUnless result OverlayError.Memory }
 {
     let (start, end) = run_over_all(shape, points);
     if start == end {
@@ -113,20 +106,19 @@ fn join_shape<I: IntNumber, A: Allocator, B: Allocator + Clone>(
     Ok(())
 }
 
-/// Returns where each of the points, sorted by x, lies in the shape. The only refusal is `Memory`.
+/// Returns where each of the points, sorted by x, lies in the shape.
 fn located_in_shape<I: IntNumber, A: Allocator, B: Allocator + Clone>(
     alloc: B,
     contours: &[IntContour<I, A>],
     points: &[IntPoint<I>],
     tree_from: usize,
-) -> Result<Vec<PointLocation, B>, OverlayError>
+) -> Result<Vec<PointLocation, B>, AllocError>
     requires contours { All (AllInRange I.limit) (paths_of_shape I.whole contours.now) }
     requires resolved { All IsResolved (paths_of_shape I.whole contours.now) }
     requires points { AllInRange I.limit (plain_points I.whole points.now) }
     requires order { AreByX (plain_points I.whole points.now) }
     ensures located { IfOk result (λ v. AnswersWhere (IsLocatedIn (paths_of_shape I.whole contours.now))
         (plain_points I.whole points.now) v.items) }
-    ensures err { IsOkUnless result OverlayError.Memory }
 {
     let mut located = outside(alloc.clone()?, points)?;
     for contour in contours {
@@ -136,14 +128,14 @@ fn located_in_shape<I: IntNumber, A: Allocator, B: Allocator + Clone>(
 }
 
 /// Joins the locations of the points, sorted by x, in one more contour of a shape to those in some contours. Only
-/// points that do not lie beside it are asked. The only refusal is `Memory`.
+/// points that do not lie beside it are asked.
 fn join_contour<I: IntNumber, B: Allocator + Clone>(
     alloc: B,
     located: &mut Vec<PointLocation, B>,
     contour: &[IntPoint<I>],
     points: &[IntPoint<I>],
     tree_from: usize,
-) -> Result<(), OverlayError>
+) -> Result<(), AllocError>
     requires contour { AllInRange I.limit (plain_points I.whole contour.now) }
     requires resolved { IsResolved (plain_points I.whole contour.now) }
     requires points { AllInRange I.limit (plain_points I.whole points.now) }
@@ -154,7 +146,6 @@ fn join_contour<I: IntNumber, B: Allocator + Clone>(
         → AnswersWhere (IsLocatedIn (seen ++ plain_points I.whole contour.now ∷ []))
         (plain_points I.whole points.now) located.new.items) }
     ensures counted { OnOk result (length located.new.items ≡ length points.now) }
-    ensures err { IsOkUnless result OverlayError.Memory }
 {
     let (start, end) = run_over(contour, points);
     if start == end {
@@ -169,10 +160,9 @@ fn join_contour<I: IntNumber, B: Allocator + Clone>(
 fn outside<I: IntNumber, A: Allocator>(
     alloc: A,
     points: &[IntPoint<I>],
-) -> Result<Vec<PointLocation, A>, OverlayError>
+) -> Result<Vec<PointLocation, A>, AllocError>
     ensures value { IfOk result (λ v. AnswersWhere (λ p l. l ≡ PointLocation.Outside)
         (plain_points I.whole points.now) v.items) }
-    ensures err { IsOkUnless result OverlayError.Memory }
 {
     let mut answers = Vec::new(alloc);
     answers.resize(points.len(), PointLocation::Outside)?;

@@ -1,16 +1,15 @@
 //! Points in the order in which a sweep comes to them.
 
-ghost use Rattle.std.specs.Prelude.{◌≡◌, length, IfOk, IsOkUnless};
+ghost use Rattle.std.specs.Prelude.{◌≡◌, length, IfOk};
 ghost use Rattle.overlay_geom.specs.Numbered.{numbered};
 ghost use Rattle.overlay_geom.specs.Points.{plain_points};
 ghost use Rattle.overlay_relate.specs.Answers.{AnswersEach};
 ghost use Rattle.overlay_relate.specs.Queries.{plain_queries, points_asked, AreQueries, IsAnswered};
 
 use crate::location::PointLocation;
-use overlay_geom::error::OverlayError;
 use overlay_geom::number::IntNumber;
 use overlay_geom::point::IntPoint;
-use std::alloc::Allocator;
+use std::alloc::{AllocError, Allocator};
 
 /// A point that is asked for.
 #[derive(Clone, Copy)]
@@ -21,13 +20,12 @@ pub(crate) struct Query<I> {
     pub place: usize,
 }
 
-/// Returns the points sorted by x, each with its place. The only refusal is `Memory`.
+/// Returns the points sorted by x, each with its place.
 pub(crate) fn queries_by_x<I: IntNumber, A: Allocator>(
     alloc: A,
     points: &[IntPoint<I>],
-) -> Result<Vec<Query<I>, A>, OverlayError>
+) -> Result<Vec<Query<I>, A>, AllocError>
     ensures queries { IfOk result (λ v. AreQueries (plain_points I.whole points.now) (plain_queries I.whole v.items)) }
-    ensures err { IsOkUnless result OverlayError.Memory }
 {
     let mut queries = queries_in_order(alloc, points)?;
     queries.sort_by(|q, r| q.point.x.compare(r.point.x))?;
@@ -38,9 +36,8 @@ pub(crate) fn queries_by_x<I: IntNumber, A: Allocator>(
 fn queries_in_order<I: IntNumber, A: Allocator>(
     alloc: A,
     points: &[IntPoint<I>],
-) -> Result<Vec<Query<I>, A>, OverlayError>
+) -> Result<Vec<Query<I>, A>, AllocError>
     ensures ok { IfOk result (λ v. plain_queries I.whole v.items ≡ numbered 0 (plain_points I.whole points.now)) }
-    ensures err { IsOkUnless result OverlayError.Memory }
 {
     let mut queries = Vec::with_capacity(alloc, points.len())?;
     for (place, point) in points.iter().enumerate() {
@@ -52,13 +49,12 @@ fn queries_in_order<I: IntNumber, A: Allocator>(
     Ok(queries)
 }
 
-/// The points of the queries, in their order. The only refusal is `Memory`.
+/// The points of the queries, in their order.
 pub(crate) fn points_asked<I: IntNumber, A: Allocator>(
     alloc: A,
     queries: &[Query<I>],
-) -> Result<Vec<IntPoint<I>, A>, OverlayError>
+) -> Result<Vec<IntPoint<I>, A>, AllocError>
     ensures ok { IfOk result (λ v. plain_points I.whole v.items ≡ points_asked (plain_queries I.whole queries.now)) }
-    ensures err { IsOkUnless result OverlayError.Memory }
 {
     let mut points = Vec::with_capacity(alloc, queries.len())?;
     for query in queries {
@@ -67,19 +63,18 @@ pub(crate) fn points_asked<I: IntNumber, A: Allocator>(
     Ok(points)
 }
 
-/// The answers to queries, in the order of the points. The only refusal is `Memory`.
+/// The answers to queries, in the order of the points.
 pub(crate) fn in_given_order<I: IntNumber, A: Allocator>(
     alloc: A,
     points: &[IntPoint<I>],
     queries: &[Query<I>],
     answers: &[PointLocation],
-) -> Result<Vec<PointLocation, A>, OverlayError>
+) -> Result<Vec<PointLocation, A>, AllocError>
     requires queries { AreQueries (plain_points I.whole points.now) (plain_queries I.whole queries.now) }
     requires counted { length answers.now ≡ length queries.now }
     ensures ok { IfOk result (λ v. AnswersEach
         (IsAnswered (points_asked (plain_queries I.whole queries.now)) answers.now)
         (plain_points I.whole points.now) v.items) }
-    ensures err { IsOkUnless result OverlayError.Memory }
 {
     let mut ordered = Vec::new(alloc);
     ordered.resize(points.len(), PointLocation::Outside)?;

@@ -16,7 +16,7 @@ use overlay_geom::edge::IntEdge;
 use overlay_geom::error::OverlayError;
 use overlay_geom::number::IntNumber;
 use overlay_geom::point::IntPoint;
-use std::alloc::Allocator;
+use std::alloc::{AllocError, Allocator};
 
 /// Returns whether two steps at different places of the contour never share a point that isn't an end of both: so
 /// for no points, true. The points are in range. It tells what `overlay_geom::resolved::is_resolved` does, but
@@ -31,19 +31,17 @@ pub fn is_resolved_in<I: IntNumber, A: Allocator + Clone>(
 {
     let edges = contour_edges(alloc.clone()?, contour)?;
     let sorted = sorted_edges(alloc.clone()?, &edges)?;
-    are_apart(alloc, &sorted)
+    Ok(are_apart(alloc, &sorted)?)
 }
 
-/// Returns whether edges in order, equal ones side by side, meet in ends alone. Two equal ones do not. The only
-/// refusal is `Memory`.
+/// Returns whether edges in order, equal ones side by side, meet in ends alone. Two equal ones do not.
 fn are_apart<I: IntNumber, A: Allocator + Clone>(
     alloc: A,
     edges: &[CountedEdge<I, ShapeCountBoolean>],
-) -> Result<bool, OverlayError>
+) -> Result<bool, AllocError>
     requires long { All (IsLongEdge I.limit) (ends_once I.whole edges.now) }
     requires order { IsInOrder (edges_once I.whole edges.now) }
     ensures ok { IfOk result (λ b. IsTrue b ↔ AreApart (ends_once I.whole edges.now)) }
-    ensures err { IsOkUnless result OverlayError.Memory }
 {
     if ascend(edges) {
         is_settled(alloc, edges)
@@ -64,27 +62,25 @@ fn ascend<I: IntNumber>(edges: &[CountedEdge<I, ShapeCountBoolean>]) -> bool
     true
 }
 
-/// The edges in ascending order, equal ones side by side. The only refusal is `Memory`.
+/// The edges in ascending order, equal ones side by side.
 fn sorted_edges<I: IntNumber, A: Allocator>(
     alloc: A,
     edges: &[IntEdge<I>],
-) -> Result<Vec<CountedEdge<I, ShapeCountBoolean>, A>, OverlayError>
+) -> Result<Vec<CountedEdge<I, ShapeCountBoolean>, A>, AllocError>
     ensures same { IfOk result (λ v. IsPermutation (plain_edges I.whole edges.now) (ends_once I.whole v.items)) }
     ensures order { IfOk result (λ v. IsInOrder (edges_once I.whole v.items)) }
-    ensures err { IsOkUnless result OverlayError.Memory }
 {
     let mut sorted = counted_once(alloc, edges)?;
     sorted.sort_by(|e, f| compare_edges(e, f))?;
     Ok(sorted)
 }
 
-/// The edges, each passed once by the subject. The only refusal is `Memory`.
+/// The edges, each passed once by the subject.
 fn counted_once<I: IntNumber, A: Allocator>(
     alloc: A,
     edges: &[IntEdge<I>],
-) -> Result<Vec<CountedEdge<I, ShapeCountBoolean>, A>, OverlayError>
+) -> Result<Vec<CountedEdge<I, ShapeCountBoolean>, A>, AllocError>
     ensures ok { IfOk result (λ v. ends_once I.whole v.items ≡ plain_edges I.whole edges.now) }
-    ensures err { IsOkUnless result OverlayError.Memory }
 {
     let mut counted = Vec::with_capacity(alloc, edges.len())?;
     for e in edges {

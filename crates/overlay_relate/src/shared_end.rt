@@ -1,6 +1,6 @@
 //! Ends that the borders of two shapes share.
 
-ghost use Rattle.std.specs.Prelude.{◌≡◌, ◌++◌, ◌↔◌, map, flat_map, IsTrue, IfOk, OnOk, IsOkUnless};
+ghost use Rattle.std.specs.Prelude.{◌≡◌, ◌++◌, ◌↔◌, map, flat_map, IsTrue, IfOk, OnOk};
 ghost use Rattle.overlay_arrange.specs.Graphs.{graph_edges};
 ghost use Rattle.overlay_arrange.specs.Rules.{is_filled};
 ghost use Rattle.overlay_arrange.specs.Vectors.{plain_vector};
@@ -12,17 +12,15 @@ use overlay_arrange::count::EdgeCount;
 use overlay_arrange::graph::Graph;
 use overlay_arrange::vector::{CLIP_LEFT, CLIP_RIGHT, DataVectorEdge, SUBJ_LEFT, SUBJ_RIGHT};
 use overlay_geom::edge::compare_points;
-use overlay_geom::error::OverlayError;
 use overlay_geom::number::IntNumber;
-use std::alloc::Allocator;
+use std::alloc::{AllocError, Allocator};
 
-/// Returns whether some point is an end of an edge that the subject alone fills on one side alone, and of an edge
-/// that the clip alone fills so. The only refusal is `Memory`.
+/// Returns whether some point is an end of an edge that the subject alone fills on one side alone, and of an edge that
+/// the clip alone fills so.
 pub(crate) fn has_shared_end<I: IntNumber, C: EdgeCount, A: Allocator + Clone>(
     graph: &Graph<I, C, A>,
-) -> Result<bool, OverlayError>
+) -> Result<bool, AllocError>
     ensures ok { IfOk result (λ b. IsTrue b ↔ HasSharedEnd (is_filled graph.now.fill_rule) (graph_edges graph.now)) }
-    ensures err { IsOkUnless result OverlayError.Memory }
 {
     let mut ends = ends_of_borders(graph.allocator().clone()?, graph.edges())?;
     ends.sort_by(|m, n| compare_points(m.point, n.point))?;
@@ -33,10 +31,9 @@ pub(crate) fn has_shared_end<I: IntNumber, C: EdgeCount, A: Allocator + Clone>(
 fn ends_of_borders<I: IntNumber, D: Copy, A: Allocator>(
     alloc: A,
     edges: &[DataVectorEdge<I, D>],
-) -> Result<Vec<BorderEnd<I>, A>, OverlayError>
+) -> Result<Vec<BorderEnd<I>, A>, AllocError>
     ensures ok { IfOk result (λ v. plain_ends I.whole v.items
         ≡ flat_map border_ends (map (plain_vector I.whole) edges.now)) }
-    ensures err { IsOkUnless result OverlayError.Memory }
 {
     let mut ends = Vec::new(alloc);
     for number in 0..edges.len() {
@@ -49,10 +46,9 @@ fn ends_of_borders<I: IntNumber, D: Copy, A: Allocator>(
 fn push_border<I: IntNumber, D: Copy, A: Allocator>(
     ends: &mut Vec<BorderEnd<I>, A>,
     edge: DataVectorEdge<I, D>,
-) -> Result<(), OverlayError>
+) -> Result<(), AllocError>
     ensures ok { OnOk result (plain_ends I.whole ends.new.items
         ≡ plain_ends I.whole ends.old.items ++ border_ends (plain_vector I.whole edge)) }
-    ensures err { IsOkUnless result OverlayError.Memory }
 {
     let of_subj = edge.fill == SUBJ_LEFT || edge.fill == SUBJ_RIGHT;
     let of_clip = edge.fill == CLIP_LEFT || edge.fill == CLIP_RIGHT;

@@ -1,6 +1,6 @@
 //! The edges of a contour in the order in which a sweep comes to them.
 
-ghost use Rattle.std.specs.Prelude.{◌≡◌, ◌++◌, All, filter, IfOk, OnOk, IsOkUnless};
+ghost use Rattle.std.specs.Prelude.{◌≡◌, ◌++◌, All, filter, IfOk, OnOk};
 ghost use Rattle.std.specs.Ordering.{is_lt};
 ghost use Rattle.overlay_geom.specs.Resolved.{plain_edge, plain_edges, IsLongEdge};
 ghost use Rattle.overlay_plane.specs.Anchors.{is_anchored_before};
@@ -9,22 +9,19 @@ ghost use Rattle.overlay_relate.specs.Sweeps.{AreByStart, AreOfContour};
 
 use crate::wide_edge::WideEdge;
 use overlay_geom::edge::{IntEdge, compare_points};
-use overlay_geom::error::OverlayError;
 use overlay_geom::number::{IntNumber, WideIntNumber};
 use overlay_geom::vector::cross_at;
-use std::alloc::Allocator;
+use std::alloc::{AllocError, Allocator};
 use std::cmp::Ordering;
 
-/// The edges that are not vertical by their left ends, and those from one point from the lower slope to
-/// the higher one. The only refusal is `Memory`.
+/// The edges that are not vertical by their left ends, and those from one point from the lower slope to the higher one.
 pub(crate) fn edges_by_start<I: IntNumber, A: Allocator>(
     alloc: A,
     edges: &[IntEdge<I>],
-) -> Result<Vec<WideEdge<I>, A>, OverlayError>
+) -> Result<Vec<WideEdge<I>, A>, AllocError>
     requires edges { All (IsLongEdge I.limit) (plain_edges I.whole edges.now) }
     requires contour { AreOfContour (plain_edges I.whole edges.now) }
     ensures order { IfOk result (λ v. AreByStart (plain_edges I.whole edges.now) (wide_edges I.whole v.items)) }
-    ensures err { IsOkUnless result OverlayError.Memory }
 {
     let mut wide = wide_ones(alloc, edges)?;
     wide.sort_by(|e, f| compare_starts(e, f))?;
@@ -35,10 +32,9 @@ pub(crate) fn edges_by_start<I: IntNumber, A: Allocator>(
 fn wide_ones<I: IntNumber, A: Allocator>(
     alloc: A,
     edges: &[IntEdge<I>],
-) -> Result<Vec<WideEdge<I>, A>, OverlayError>
+) -> Result<Vec<WideEdge<I>, A>, AllocError>
     requires { All (IsLongEdge I.limit) (plain_edges I.whole edges.now) }
     ensures ok { IfOk result (λ v. wide_edges I.whole v.items ≡ filter is_wide (plain_edges I.whole edges.now)) }
-    ensures err { IsOkUnless result OverlayError.Memory }
 {
     let mut wide = Vec::new(alloc);
     for e in edges {

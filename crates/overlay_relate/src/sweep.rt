@@ -1,7 +1,7 @@
 //! The sweep over the edges of a contour that tells where points lie.
 
 ghost use Rattle.std.specs.Prelude.{◌≡◌, ◌+◌, ◌<◌, ◌≤◌, ◌<ℤ◌, ◌≤ℤ◌, false, length, drop, slice_index_or, All};
-ghost use Rattle.std.specs.Prelude.{pos, Some, IfOk, OnOk, IsOkUnless};
+ghost use Rattle.std.specs.Prelude.{pos, Some, IfOk, OnOk};
 ghost use Rattle.overlay_geom.specs.Plane.{in_plane};
 ghost use Rattle.overlay_geom.specs.Lines.{plain_line};
 ghost use Rattle.overlay_geom.specs.Points.{plain_point, plain_points, InRange, AllInRange};
@@ -21,30 +21,28 @@ use crate::starts::edges_by_start;
 use crate::walls::{is_on_wall, walls_of};
 use crate::wide_edge::WideEdge;
 use overlay_geom::edge::IntEdge;
-use overlay_geom::error::OverlayError;
 use overlay_geom::number::{IntNumber, WideIntNumber};
 use overlay_geom::path::IntLine;
 use overlay_geom::point::IntPoint;
 use overlay_geom::vector::cross_at;
 use overlay_scan::scan::Scan;
-use std::alloc::Allocator;
+use std::alloc::{AllocError, Allocator};
 use std::cmp::Ordering;
 
-/// Returns where each point lies by the edges of a resolved contour, in their order. The scan is empty at first;
-/// what it holds afterwards is left open. The only refusal is `Memory`.
+/// Returns where each point lies by the edges of a resolved contour, in their order. The scan is empty at first; what
+/// it holds afterwards is left open.
 pub(crate) fn locate_by_sweep<I: IntNumber, A: Allocator + Clone, S: Scan<I, usize>>(
     alloc: A,
     scan: &mut S,
     edges: &[IntEdge<I>],
     points: &[IntPoint<I>],
-) -> Result<Vec<PointLocation, A>, OverlayError>
+) -> Result<Vec<PointLocation, A>, AllocError>
     requires edges { All (IsLongEdge I.limit) (plain_edges I.whole edges.now) }
     requires contour { AreOfContour (plain_edges I.whole edges.now) }
     requires points { AllInRange I.limit (plain_points I.whole points.now) }
     requires empty { S.content scan.old ≡ empty_sweep }
     ensures located { IfOk result (λ v. AnswersWhere (IsLocatedBy (plain_edges I.whole edges.now))
         (plain_points I.whole points.now) v.items) }
-    ensures err { IsOkUnless result OverlayError.Memory }
 {
     let starting = edges_by_start(alloc.clone()?, edges)?;
     let walls = walls_of(alloc.clone()?, edges)?;
@@ -66,7 +64,7 @@ fn put_up_to<I: IntNumber, A: Allocator, S: Scan<I, usize>>(
     edges: &[WideEdge<I>],
     inside: &mut Vec<bool, A>,
     x: I,
-) -> Result<(), OverlayError>
+) -> Result<(), AllocError>
     requires edges { AreSweepable (wide_edges I.whole edges.now) }
     requires within { length inside.old.items ≤ length edges.now }
     requires moves { MayMoveTo (I.whole x) (S.content scan.old) }
@@ -80,7 +78,6 @@ fn put_up_to<I: IntNumber, A: Allocator, S: Scan<I, usize>>(
     ensures told { OnOk result ((es : _) → AreOfContour es → AreByStart es (wide_edges I.whole edges.now)
         → AreTold es (wide_edges I.whole edges.now) inside.old.items
         → AreTold es (wide_edges I.whole edges.now) inside.new.items) }
-    ensures err { IsOkUnless result OverlayError.Memory }
 {
     for i in inside.len()..edges.len() {
         let e = &edges[i];
@@ -97,7 +94,7 @@ fn put_next<I: IntNumber, A: Allocator, S: Scan<I, usize>>(
     scan: &mut S,
     edges: &[WideEdge<I>],
     inside: &mut Vec<bool, A>,
-) -> Result<(), OverlayError>
+) -> Result<(), AllocError>
     requires edges { AreSweepable (wide_edges I.whole edges.now) }
     requires within { length inside.old.items < length edges.now }
     requires swept { IsSwept I.limit (wide_edges I.whole edges.now) (length inside.old.items) (S.content scan.old) }
@@ -110,13 +107,14 @@ fn put_next<I: IntNumber, A: Allocator, S: Scan<I, usize>>(
     ensures told { OnOk result ((es : _) → AreOfContour es → AreByStart es (wide_edges I.whole edges.now)
         → AreTold es (wide_edges I.whole edges.now) inside.old.items
         → AreTold es (wide_edges I.whole edges.now) inside.new.items) }
-    ensures err { IsOkUnless result OverlayError.Memory }
 {
     let place = inside.len();
     let e = &edges[place];
     let below = scan.first_less(e.a.x, place, [e.a, e.b]);
     let is_inside = !is_told(inside, below);
-    scan.insert([e.a, e.b], place, e.a.x)?;
+    let Ok(()) = scan.insert([e.a, e.b], place, e.a.x) else {
+        return Err(AllocError);
+    };
     inside.push(is_inside)?;
     Ok(())
 }

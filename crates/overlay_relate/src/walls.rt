@@ -1,6 +1,6 @@
 //! The vertical edges of a contour, and the right ends of its other edges.
 
-ghost use Rattle.std.specs.Prelude.{◌≡◌, ◌↔◌, IsTrue, map, All, IfOk, IsOkUnless};
+ghost use Rattle.std.specs.Prelude.{◌≡◌, ◌↔◌, IsTrue, map, All, IfOk};
 ghost use Rattle.std.specs.Ordering.{is_lt};
 ghost use Rattle.overlay_geom.specs.Plane.{edge_lt};
 ghost use Rattle.overlay_geom.specs.Points.{plain_point};
@@ -10,20 +10,18 @@ ghost use Rattle.overlay_relate.specs.Walls.{starts_up_to, IsOnSomeWall};
 ghost use Rattle.overlay_relate.specs.Sweeps.{AreOfContour};
 
 use overlay_geom::edge::{IntEdge, compare_points};
-use overlay_geom::error::OverlayError;
 use overlay_geom::number::IntNumber;
 use overlay_geom::point::IntPoint;
-use std::alloc::Allocator;
+use std::alloc::{AllocError, Allocator};
 use std::cmp::Ordering;
 
-/// The vertical edges, and the right end of each other edge as an edge from it to itself, by their lower
-/// ends and then by their upper ones. The only refusal is `Memory`.
+/// The vertical edges, and the right end of each other edge as an edge from it to itself, by their lower ends and then
+/// by their upper ones.
 pub(crate) fn walls_of<I: IntNumber, A: Allocator>(
     alloc: A,
     edges: &[IntEdge<I>],
-) -> Result<Vec<IntEdge<I>, A>, OverlayError>
+) -> Result<Vec<IntEdge<I>, A>, AllocError>
     ensures walls { IfOk result (λ v. AreWalls (plain_edges I.whole edges.now) (plain_edges I.whole v.items)) }
-    ensures err { IsOkUnless result OverlayError.Memory }
 {
     let mut walls = Vec::with_capacity(alloc, edges.len())?;
     for e in edges {

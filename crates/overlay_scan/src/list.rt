@@ -16,7 +16,7 @@ use overlay_geom::number::{IntNumber, WideIntNumber};
 use overlay_geom::path::IntLine;
 use overlay_geom::point::IntPoint;
 use overlay_geom::vector::cross_at;
-use std::alloc::Allocator;
+use std::alloc::{AllocError, Allocator};
 use std::cmp::Ordering;
 
 /// An edge of the list, and its value.
@@ -68,7 +68,7 @@ impl<I: IntNumber, V: Copy, A: Allocator> ScanList<I, V, A> {
         x: I,
         entry: LiveEdge<I, V>,
         order: &F,
-    ) -> Result<(), OverlayError>
+    ) -> Result<(), AllocError>
         requires live { int_lt (I.whole x) (I.whole entry.b.x) ≡ true }
         requires callable { IsCallableOn I.whole (F.pre order.now) (live_of I.whole (I.whole x) self.old.live) }
         ensures ok { OnOk result ((v : _) × IsLookedUp I.whole (F.post order.now) (I.whole x) self.old.live
@@ -76,7 +76,6 @@ impl<I: IntNumber, V: Copy, A: Allocator> ScanList<I, V, A> {
         ensures err { OnErr result
             (live_of I.whole (I.whole x) self.new.live ≡ live_of I.whole (I.whole x) self.old.live) }
         ensures reached { self.new.reached ≡ Some x }
-        ensures only { IsOkUnless result OverlayError.Memory }
     {
         let place = self.live.find(x, order);
         self.reached = Some(x);

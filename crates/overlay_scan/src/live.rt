@@ -1,7 +1,7 @@
 //! Live edges in a list that may still hold ended edges.
 
 ghost use Rattle.std.specs.Prelude.{◌≡◌, ◌≤◌, [], ◌∷◌, ◌++◌, true, take, drop, filter, int_lt, length};
-ghost use Rattle.std.specs.Prelude.{None, OnOk, OnErr, IsOkUnless, option_map};
+ghost use Rattle.std.specs.Prelude.{None, OnOk, OnErr, option_map};
 ghost use Rattle.std.specs.List.{last_or};
 ghost use Rattle.overlay_scan.specs.HeldEntries.{live_of};
 ghost use Rattle.overlay_scan.specs.Lists.{plain_entry};
@@ -10,10 +10,9 @@ ghost use Rattle.overlay_scan.specs.Searches.{IsBetween};
 
 use crate::list::{LiveEdge, has_ended};
 use crate::search::search;
-use overlay_geom::error::OverlayError;
 use overlay_geom::number::IntNumber;
 use overlay_geom::path::IntLine;
-use std::alloc::Allocator;
+use std::alloc::{AllocError, Allocator};
 use std::cmp::Ordering;
 use std::marker::Model;
 
@@ -96,15 +95,14 @@ impl<I: IntNumber, V: Copy, A: Allocator> LiveEdges<I, V, A> {
         }
     }
 
-    /// Inserts an edge that is live at x at a place, and may drop ended edges. The only refusal is `Memory`, after
-    /// which the edges are as they were.
-    pub fn put(&mut self, place: usize, edge: LiveEdge<I, V>, x: I) -> Result<(), OverlayError>
+    /// Inserts an edge that is live at x at a place, and may drop ended edges. After a refusal, the edges are as they
+    /// were.
+    pub fn put(&mut self, place: usize, edge: LiveEdge<I, V>, x: I) -> Result<(), AllocError>
         requires within { place ≤ length self.old }
         requires live { int_lt (I.whole x) (I.whole edge.b.x) ≡ true }
         ensures ok { OnOk result (live_of I.whole (I.whole x) self.new ≡ live_of I.whole (I.whole x)
             (take place self.old) ++ plain_entry I.whole edge ∷ live_of I.whole (I.whole x) (drop place self.old)) }
         ensures err { OnErr result (self.new ≡ self.old) }
-        ensures only { IsOkUnless result OverlayError.Memory }
     {
         self.guess = place.saturating_add(1);
         if place < self.entries.len() && has_ended(&self.entries[place], x) {
@@ -115,13 +113,12 @@ impl<I: IntNumber, V: Copy, A: Allocator> LiveEdges<I, V, A> {
     }
 
     // Inserts an edge between the edges at a place, and drops ended edges where it is time.
-    fn insert(&mut self, place: usize, edge: LiveEdge<I, V>, x: I) -> Result<(), OverlayError>
+    fn insert(&mut self, place: usize, edge: LiveEdge<I, V>, x: I) -> Result<(), AllocError>
         requires within { place ≤ length self.old }
         requires live { int_lt (I.whole x) (I.whole edge.b.x) ≡ true }
         ensures ok { OnOk result (live_of I.whole (I.whole x) self.new ≡ live_of I.whole (I.whole x)
             (take place self.old) ++ plain_entry I.whole edge ∷ live_of I.whole (I.whole x) (drop place self.old)) }
         ensures err { OnErr result (self.new ≡ self.old) }
-        ensures only { IsOkUnless result OverlayError.Memory }
     {
         self.entries.insert(place, edge)?;
         if self.spare == 0 {

@@ -18,7 +18,7 @@ use crate::tree::nodes::ScanNodes;
 use overlay_geom::error::OverlayError;
 use overlay_geom::number::IntNumber;
 use overlay_geom::path::IntLine;
-use std::alloc::Allocator;
+use std::alloc::{AllocError, Allocator};
 use std::cmp::Ordering;
 use std::marker::Model;
 
@@ -98,7 +98,7 @@ impl<I: IntNumber, V: Copy, A: Allocator> ScanTree<I, V, A> {
         x: I,
         entry: LiveEdge<I, V>,
         order: &F,
-    ) -> Result<(), OverlayError>
+    ) -> Result<(), AllocError>
         requires live { int_lt (I.whole x) (I.whole entry.b.x) ≡ true }
         requires callable { IsCallableOn I.whole (F.pre order.now) (live_of I.whole (I.whole x) self.old.entries) }
         ensures ok { OnOk result ((v : _) × IsLookedUp I.whole (F.post order.now) (I.whole x) self.old.entries
@@ -106,7 +106,6 @@ impl<I: IntNumber, V: Copy, A: Allocator> ScanTree<I, V, A> {
         ensures quick { OnOk result (IsQuick self.old self.new 1) }
         ensures err { OnErr result (self.new ≡ record self.old { reached = Some x }) }
         ensures reached { self.new.reached ≡ Some x }
-        ensures only { IsOkUnless result OverlayError.Memory }
     {
         self.reached = Some(x);
         let fresh = self.nodes.fresh(self.free, entry)?;

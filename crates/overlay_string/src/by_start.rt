@@ -1,6 +1,6 @@
 //! Pieces, seen on a way, by the points where they begin.
 
-ghost use Rattle.std.specs.Prelude.{◌≡◌, ◌<◌, length, All, IfOk, IsOkUnless};
+ghost use Rattle.std.specs.Prelude.{◌≡◌, ◌<◌, length, All, IfOk};
 ghost use Rattle.overlay_geom.specs.Points.{plain_point};
 ghost use Rattle.overlay_string.specs.PieceOrder.{AreByStart, AreInOrder, AreNumbered, IsFirstFrom, IsRunStart};
 ghost use Rattle.overlay_string.specs.Pieces.{plain_piece, plain_pieces, turned};
@@ -9,21 +9,19 @@ ghost use Rattle.overlay_walk.specs.Steps.{plain_step, plain_steps, IsByFrom};
 use crate::piece::{Piece, Way};
 use crate::taken_pieces::is_taken;
 use overlay_arrange::edge::compare_points;
-use overlay_geom::error::OverlayError;
 use overlay_geom::number::IntNumber;
 use overlay_geom::point::IntPoint;
 use overlay_walk::step::Step;
-use std::alloc::Allocator;
+use std::alloc::{AllocError, Allocator};
 
 /// The pieces, seen on the way, each with its place, by the points that they leave, and those from one point by their
-/// places. The only refusal is `Memory`.
+/// places.
 pub(crate) fn steps_by_start<I: IntNumber, A: Allocator>(
     alloc: A,
     pieces: &[Piece<I>],
     way: Way,
-) -> Result<Vec<Step<I>, A>, OverlayError>
+) -> Result<Vec<Step<I>, A>, AllocError>
     ensures ok { IfOk result (λ v. AreByStart I.whole way (plain_pieces I.whole pieces.now) v.items) }
-    ensures err { IsOkUnless result OverlayError.Memory }
 {
     let mut steps = numbered_steps(alloc, pieces, way)?;
     steps.sort_by(|s, t| compare_points(s.from, t.from))?;
@@ -35,10 +33,9 @@ fn numbered_steps<I: IntNumber, A: Allocator>(
     alloc: A,
     pieces: &[Piece<I>],
     way: Way,
-) -> Result<Vec<Step<I>, A>, OverlayError>
+) -> Result<Vec<Step<I>, A>, AllocError>
     ensures ok { IfOk result (λ v.
         AreNumbered I.whole way (plain_pieces I.whole pieces.now) (length pieces.now) v.items) }
-    ensures err { IsOkUnless result OverlayError.Memory }
 {
     let mut steps = Vec::with_capacity(alloc, pieces.len())?;
     for place in 0..pieces.len() {

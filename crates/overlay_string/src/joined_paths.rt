@@ -1,6 +1,6 @@
 //! The paths that pieces of strings are joined to.
 
-ghost use Rattle.std.specs.Prelude.{IfOk, OnOk, IsOkUnless};
+ghost use Rattle.std.specs.Prelude.{IfOk, OnOk};
 ghost use Rattle.overlay_geom.specs.Paths.{paths_of_shape};
 ghost use Rattle.overlay_geom.specs.Points.{plain_point, plain_points};
 ghost use Rattle.overlay_string.specs.ClipPaths.{ArePathsOf};
@@ -8,21 +8,19 @@ ghost use Rattle.overlay_string.specs.Pieces.{plain_piece, GoesOn, IsShownPath};
 
 use crate::open_pieces::OpenPieces;
 use crate::piece::{Piece, Way};
-use overlay_geom::error::OverlayError;
 use overlay_geom::number::IntNumber;
 use overlay_geom::path::IntPath;
 use overlay_geom::point::IntPoint;
-use std::alloc::Allocator;
+use std::alloc::{AllocError, Allocator};
 
 /// The paths of the open pieces. Each begins with the first of them, or, if that runs back along its edge, ends with
-/// it, and takes at its end, or at its beginning, the first piece that goes on there, until there is none. The only
-/// refusal is `Memory`, after which some pieces may be open.
+/// it, and takes at its end, or at its beginning, the first piece that goes on there, until there is none. After a
+/// refusal, some pieces may be open.
 pub(crate) fn joined_paths<I: IntNumber, A: Allocator + Clone>(
     alloc: A,
     pieces: &mut OpenPieces<I, A>,
-) -> Result<Vec<IntPath<I, A>, A>, OverlayError>
+) -> Result<Vec<IntPath<I, A>, A>, AllocError>
     ensures ok { IfOk result (λ v. ArePathsOf pieces.old (paths_of_shape I.whole v.items)) }
-    ensures err { IsOkUnless result OverlayError.Memory }
 {
     let mut paths = Vec::new(alloc.clone()?);
     while let Some(piece) = pieces.take_first() {
@@ -36,10 +34,9 @@ fn path_of<I: IntNumber, A: Allocator>(
     alloc: A,
     pieces: &mut OpenPieces<I, A>,
     piece: Piece<I>,
-) -> Result<IntPath<I, A>, OverlayError>
+) -> Result<IntPath<I, A>, AllocError>
     ensures ok { IfOk result (λ v. IsShownPath (plain_piece I.whole piece) pieces.old pieces.new
         (plain_points I.whole v.items)) }
-    ensures err { IsOkUnless result OverlayError.Memory }
 {
     let way = piece.way();
     let end = piece.end(way);
@@ -62,10 +59,9 @@ fn go_on<I: IntNumber, A: Allocator>(
     pieces: &mut OpenPieces<I, A>,
     way: Way,
     from: IntPoint<I>,
-) -> Result<(), OverlayError>
+) -> Result<(), AllocError>
     ensures ok { OnOk result (GoesOn way (plain_point I.whole from) pieces.old pieces.new
         (plain_points I.whole path.old.items) (plain_points I.whole path.new.items)) }
-    ensures err { IsOkUnless result OverlayError.Memory }
 {
     let mut end = from;
     while let Some(piece) = pieces.take_at(way, end) {

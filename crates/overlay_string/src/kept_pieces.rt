@@ -1,6 +1,6 @@
 //! The pieces of strings that a clip keeps.
 
-ghost use Rattle.std.specs.Prelude.{◌≡◌, ◌++◌, ◌∷◌, [], cond, IfOk, OnOk, IsOkUnless};
+ghost use Rattle.std.specs.Prelude.{◌≡◌, ◌++◌, ◌∷◌, [], cond, IfOk, OnOk};
 ghost use Rattle.overlay_arrange.specs.Counts.{has_bit};
 ghost use Rattle.overlay_geom.specs.Points.{plain_point};
 ghost use Rattle.overlay_arrange.specs.Graphs.{graph_edges};
@@ -12,20 +12,17 @@ use crate::piece::Piece;
 use overlay_arrange::graph::Graph;
 use overlay_arrange::string_count::ShapeCountString;
 use overlay_arrange::vector::{DataVectorEdge, SUBJ_LEFT, SUBJ_RIGHT, SideFill};
-use overlay_geom::error::OverlayError;
 use overlay_geom::number::IntNumber;
 use overlay_geom::point::IntPoint;
-use std::alloc::Allocator;
+use std::alloc::{AllocError, Allocator};
 
-/// The pieces that a clip keeps of the strings along the edges of the graph, in the order of the edges. The only
-/// refusal is `Memory`.
+/// The pieces that a clip keeps of the strings along the edges of the graph, in the order of the edges.
 pub(crate) fn kept_pieces<I: IntNumber, A: Allocator + Clone>(
     graph: &Graph<I, ShapeCountString, A>,
     rule: ClipRule,
-) -> Result<Vec<Piece<I>, A>, OverlayError>
+) -> Result<Vec<Piece<I>, A>, AllocError>
     ensures ok { IfOk result (λ v.
         plain_pieces I.whole v.items ≡ clip_pieces graph.now.fill_rule rule (graph_edges graph.now)) }
-    ensures err { IsOkUnless result OverlayError.Memory }
 {
     let mut pieces = Vec::new(graph.allocator().clone()?);
     let edges = graph.edges();
@@ -40,10 +37,9 @@ fn push_kept<I: IntNumber, A: Allocator>(
     pieces: &mut Vec<Piece<I>, A>,
     edge: DataVectorEdge<I, ShapeCountString>,
     rule: ClipRule,
-) -> Result<(), OverlayError>
+) -> Result<(), AllocError>
     ensures ok { OnOk result (plain_pieces I.whole pieces.new.items
         ≡ plain_pieces I.whole pieces.old.items ++ pieces_by_bits I.whole rule edge) }
-    ensures err { IsOkUnless result OverlayError.Memory }
 {
     if !is_kept(edge.fill, rule) {
         return Ok(());
@@ -58,10 +54,9 @@ fn push_if<I: IntNumber, A: Allocator>(
     runs_so: bool,
     from: IntPoint<I>,
     to: IntPoint<I>,
-) -> Result<(), OverlayError>
+) -> Result<(), AllocError>
     ensures ok { OnOk result (plain_pieces I.whole pieces.new.items ≡ plain_pieces I.whole pieces.old.items
         ++ cond runs_so (record { from = plain_point I.whole from; to = plain_point I.whole to } ∷ []) []) }
-    ensures err { IsOkUnless result OverlayError.Memory }
 {
     if runs_so {
         pieces.push(Piece { from, to })?;

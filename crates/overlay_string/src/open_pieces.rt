@@ -1,6 +1,6 @@
 //! Pieces of strings, and which of them no path has taken yet.
 
-ghost use Rattle.std.specs.Prelude.{◌≡◌, ◌<◌, [], length, All, IfOk, IsOkUnless, option_map};
+ghost use Rattle.std.specs.Prelude.{◌≡◌, ◌<◌, [], length, All, IfOk, option_map};
 ghost use Rattle.overlay_geom.specs.Points.{plain_point};
 ghost use Rattle.overlay_string.specs.OpenPlaces.{open_before, IsFirstPlace};
 ghost use Rattle.overlay_string.specs.PieceOrder.{seen_on, AreInOrder, IsFirstFrom};
@@ -9,11 +9,10 @@ ghost use Rattle.overlay_string.specs.Pieces.{plain_piece, plain_pieces, IsTaken
 use crate::by_start::{first_open_from, steps_by_start};
 use crate::piece::{Piece, Way};
 use crate::taken_pieces::is_taken;
-use overlay_geom::error::OverlayError;
 use overlay_geom::number::IntNumber;
 use overlay_geom::point::IntPoint;
 use overlay_walk::step::Step;
-use std::alloc::Allocator;
+use std::alloc::{AllocError, Allocator};
 use std::marker::Model;
 
 /// Pieces, in order, and which of them are open: no path has taken them yet.
@@ -68,10 +67,9 @@ impl<I: IntNumber, A: Allocator> OpenPieces<I, A> {
 }
 
 impl<I: IntNumber, A: Allocator + Clone> OpenPieces<I, A> {
-    /// All the pieces, none of them taken. The only refusal is `Memory`.
-    pub(crate) fn new(pieces: Vec<Piece<I>, A>) -> Result<Self, OverlayError>
+    /// All the pieces, none of them taken.
+    pub(crate) fn new(pieces: Vec<Piece<I>, A>) -> Result<Self, AllocError>
         ensures ok { IfOk result (λ o. o ≡ plain_pieces I.whole pieces.items) }
-        ensures err { IsOkUnless result OverlayError.Memory }
     {
         let onward = steps_by_start(pieces.allocator().clone()?, &pieces, Way::Onward)?;
         let back = steps_by_start(pieces.allocator().clone()?, &pieces, Way::Back)?;

@@ -52,11 +52,11 @@ impl<I: OverlayInt, A: Allocator + Clone> StringGraph<'_, I, A> {
         ensures err { IsOkUnless result OverlayError.Memory }
     {
         match string_rule {
-            StringRule::Slice => sliced_shapes(
+            StringRule::Slice => Ok(sliced_shapes(
                 self.graph.graph(),
                 options.output_direction,
                 options.min_output_area,
-            ),
+            )?),
         }
     }
 }

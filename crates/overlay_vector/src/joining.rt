@@ -1,6 +1,6 @@
 //! Closed contours of edges with data, in which edges that go straight on are joined.
 
-ghost use Rattle.std.specs.Prelude.{◌≡◌, ◌↔◌, ◌∷◌, ◌++◌, [], All, IfOk, OnOk, IsOkUnless, IsTrue};
+ghost use Rattle.std.specs.Prelude.{◌≡◌, ◌↔◌, ◌∷◌, ◌++◌, [], All, IfOk, OnOk, IsTrue};
 ghost use Rattle.overlay_vector.specs.DataVectors.{plain_data_vector, plain_data_vectors};
 ghost use Rattle.overlay_vector.specs.Joining.{joined, AreJoinable, IsJoined, NoneJoinable};
 ghost use Rattle.overlay_vector.specs.Joining.{IsInRange, IsAppended};
@@ -9,22 +9,20 @@ use crate::path::DataVectorPath;
 use overlay_arrange::data::OverlayEdgeData;
 use overlay_arrange::edge::compare_points;
 use overlay_arrange::vector::DataVectorEdge;
-use overlay_geom::error::OverlayError;
 use overlay_geom::number::{IntNumber, WideIntNumber};
 use overlay_geom::vector::cross_at;
-use std::alloc::Allocator;
+use std::alloc::{AllocError, Allocator};
 
-/// The closed contour in which each edge that goes straight on from the one before it, with equal filled
-/// sides and equal data, is joined with it, the first one with the last too, until none is left that can be.
-/// A joined edge has the data of the first of its edges. The only refusal is `Memory`.
+/// The closed contour in which each edge that goes straight on from the one before it, with equal filled sides and
+/// equal data, is joined with it, the first one with the last too, until none is left that can be. A joined edge has
+/// the data of the first of its edges.
 pub(crate) fn joined<I: IntNumber, D: OverlayEdgeData, A: Allocator>(
     alloc: A,
     vectors: &[DataVectorEdge<I, D>],
-) -> Result<DataVectorPath<I, D, A>, OverlayError>
+) -> Result<DataVectorPath<I, D, A>, AllocError>
     requires { All (IsInRange I.limit) (plain_data_vectors I.whole vectors.now) }
     ensures joined { IfOk result (λ v.
         IsJoined D.eq (plain_data_vectors I.whole vectors.now) (plain_data_vectors I.whole v.items)) }
-    ensures err { IsOkUnless result OverlayError.Memory }
 {
     let mut path = Vec::new(alloc);
     for vector in vectors {
@@ -37,12 +35,11 @@ pub(crate) fn joined<I: IntNumber, D: OverlayEdgeData, A: Allocator>(
 // Joins the last edge with the first one while they can be joined.
 fn join_ends<I: IntNumber, D: OverlayEdgeData, A: Allocator>(
     path: &mut DataVectorPath<I, D, A>,
-) -> Result<(), OverlayError>
+) -> Result<(), AllocError>
     requires inside { NoneJoinable D.eq (plain_data_vectors I.whole path.old.items) }
     requires in_range { All (IsInRange I.limit) (plain_data_vectors I.whole path.old.items) }
     ensures joined { OnOk result
         (IsJoined D.eq (plain_data_vectors I.whole path.old.items) (plain_data_vectors I.whole path.new.items)) }
-    ensures err { IsOkUnless result OverlayError.Memory }
 {
     while path.len() >= 2 {
         let first = path[0];
@@ -61,13 +58,12 @@ fn join_ends<I: IntNumber, D: OverlayEdgeData, A: Allocator>(
 fn append<I: IntNumber, D: OverlayEdgeData, A: Allocator>(
     path: &mut DataVectorPath<I, D, A>,
     vector: DataVectorEdge<I, D>,
-) -> Result<(), OverlayError>
+) -> Result<(), AllocError>
     requires inside { NoneJoinable D.eq (plain_data_vectors I.whole path.old.items) }
     requires in_range { All (IsInRange I.limit) (plain_data_vectors I.whole path.old.items) }
     requires vector { IsInRange I.limit (plain_data_vector I.whole vector) }
     ensures ok { OnOk result (IsAppended D.eq I.limit (plain_data_vectors I.whole path.old.items)
         (plain_data_vector I.whole vector) (plain_data_vectors I.whole path.new.items)) }
-    ensures err { IsOkUnless result OverlayError.Memory }
 {
     let vector = join_back(path, vector);
     path.push(vector)?;

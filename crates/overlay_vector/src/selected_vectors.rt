@@ -1,6 +1,6 @@
 //! The selected edges of a graph, with their filled sides and data.
 
-ghost use Rattle.std.specs.Prelude.{◌≡◌, ◌++◌, OnOk, IfOk, IsOkUnless};
+ghost use Rattle.std.specs.Prelude.{◌≡◌, ◌++◌, OnOk, IfOk};
 ghost use Rattle.std.specs.List.{flat_map};
 ghost use Rattle.overlay_walk.specs.Selection.{bits_select};
 ghost use Rattle.overlay_vector.specs.DataVectors.{plain_data_vectors, selected_vectors};
@@ -12,20 +12,17 @@ use overlay_arrange::overlay_rule::OverlayRule;
 use overlay_arrange::vector::{
     CLIP_LEFT, CLIP_RIGHT, DataVectorEdge, SUBJ_LEFT, SUBJ_RIGHT, SideFill,
 };
-use overlay_geom::error::OverlayError;
 use overlay_geom::number::IntNumber;
-use std::alloc::Allocator;
+use std::alloc::{AllocError, Allocator};
 
-/// Returns the edges of the graph with the region of its rule and the overlay rule on exactly one side, in order,
-/// each with its filled sides, seen from its smaller to its larger end, and its data. The only refusal is
-/// `Memory`.
+/// Returns the edges of the graph with the region of its rule and the overlay rule on exactly one side, in order, each
+/// with its filled sides, seen from its smaller to its larger end, and its data.
 pub fn selected_vectors<I: IntNumber, D: OverlayEdgeData, A: Allocator + Clone>(
     graph: &Graph<I, CountWithData<D>, A>,
     overlay_rule: OverlayRule,
-) -> Result<Vec<DataVectorEdge<I, D>, A>, OverlayError>
+) -> Result<Vec<DataVectorEdge<I, D>, A>, AllocError>
     ensures listed { IfOk result (λ v. plain_data_vectors I.whole v.items
         ≡ selected_vectors graph.now.fill_rule overlay_rule graph.now.edges) }
-    ensures err { IsOkUnless result OverlayError.Memory }
 {
     listed(graph.allocator().clone()?, graph.edges(), overlay_rule)
 }
@@ -35,10 +32,9 @@ fn listed<I: IntNumber, D: Copy, A: Allocator>(
     alloc: A,
     edges: &[DataVectorEdge<I, CountWithData<D>>],
     rule: OverlayRule,
-) -> Result<Vec<DataVectorEdge<I, D>, A>, OverlayError>
+) -> Result<Vec<DataVectorEdge<I, D>, A>, AllocError>
     ensures ok { IfOk result (λ v. plain_data_vectors I.whole v.items
         ≡ flat_map (vectors_by_bits I.whole rule) edges.now) }
-    ensures err { IsOkUnless result OverlayError.Memory }
 {
     let mut vectors = Vec::new(alloc);
     for edge in edges {
@@ -52,10 +48,9 @@ fn push_selected<I: IntNumber, D: Copy, A: Allocator>(
     vectors: &mut Vec<DataVectorEdge<I, D>, A>,
     edge: DataVectorEdge<I, CountWithData<D>>,
     rule: OverlayRule,
-) -> Result<(), OverlayError>
+) -> Result<(), AllocError>
     ensures ok { OnOk result (plain_data_vectors I.whole vectors.new.items
         ≡ plain_data_vectors I.whole vectors.old.items ++ vectors_by_bits I.whole rule edge) }
-    ensures err { IsOkUnless result OverlayError.Memory }
 {
     if is_selected(rule, edge.fill) {
         vectors.push(with_data(edge))?;

@@ -1,6 +1,6 @@
 //! Contours as edges with filled sides and data, put together to shapes.
 
-ghost use Rattle.std.specs.Prelude.{◌≡◌, ◌<◌, cond, length, map, All, MatchBool, IfOk, IsOkUnless};
+ghost use Rattle.std.specs.Prelude.{◌≡◌, ◌<◌, cond, length, map, All, MatchBool, IfOk};
 ghost use Rattle.std.specs.List.{AllZip};
 ghost use Rattle.overlay_geom.specs.Edges.{all_ends};
 ghost use Rattle.overlay_geom.specs.Plane.{is_forward};
@@ -22,15 +22,14 @@ use crate::side_fill::Reverse;
 use overlay_arrange::data::{CountWithData, OverlayEdgeData};
 use overlay_arrange::graph::Graph;
 use overlay_arrange::vector::DataVectorEdge;
-use overlay_geom::error::OverlayError;
 use overlay_geom::number::IntNumber;
 use overlay_walk::contour::Contour;
 use overlay_walk::step::{Step, is_forward};
-use std::alloc::Allocator;
+use std::alloc::{AllocError, Allocator};
 
-/// Returns the shapes whose contours, along edges of the graph, stand at these places. Each step has the filled
-/// sides and the data of its edge, both turned round where it leads from the larger end; unless edges are to be
-/// kept, neighbours are joined. The only refusal is `Memory`.
+/// Returns the shapes whose contours, along edges of the graph, stand at these places. Each step has the filled sides
+/// and the data of its edge, both turned round where it leads from the larger end; unless edges are to be kept,
+/// neighbours are joined.
 #[tactic(auto, using(overlay_arrange::proofs::ReachedStores::never_written))]
 pub(crate) fn assembled<I: IntNumber, D: OverlayEdgeData, A: Allocator + Clone>(
     graph: &Graph<I, CountWithData<D>, A>,
@@ -38,7 +37,7 @@ pub(crate) fn assembled<I: IntNumber, D: OverlayEdgeData, A: Allocator + Clone>(
     places: &[Vec<usize, A>],
     keeps_edges: bool,
     store: &mut D::Store,
-) -> Result<Vec<DataVectorShape<I, D, A>, A>, OverlayError>
+) -> Result<Vec<DataVectorShape<I, D, A>, A>, AllocError>
     requires along { All (λ c. All (RunsAlong I.whole (all_ends (graph_edges graph.now))) c.steps.items) contours.now }
     requires inside { AreInside (length (plain_contours I.whole contours.now)) (place_lists places.now) }
     ensures shapes { IfOk result (λ v.
@@ -46,7 +45,6 @@ pub(crate) fn assembled<I: IntNumber, D: OverlayEdgeData, A: Allocator + Clone>(
         (walks_at (plain_contours I.whole contours.now) (place_lists places.now))
         (plain_vector_shapes I.whole v.items)) }
     ensures store { IsStoreReached D.writes store.old store.new }
-    ensures err { IsOkUnless result OverlayError.Memory }
 {
     let mut shapes = Vec::new(graph.allocator().clone()?);
     for shape in places {
@@ -63,14 +61,13 @@ fn shape_at<I: IntNumber, D: OverlayEdgeData, A: Allocator + Clone>(
     places: &[usize],
     keeps_edges: bool,
     store: &mut D::Store,
-) -> Result<DataVectorShape<I, D, A>, OverlayError>
+) -> Result<DataVectorShape<I, D, A>, AllocError>
     requires along { All (λ c. All (RunsAlong I.whole (all_ends (graph_edges graph.now))) c.steps.items) contours.now }
     requires inside { All (λ k. k < length (plain_contours I.whole contours.now)) places.now }
     ensures shape { IfOk result (λ v.
         AllZip (IsVectorContour D.reverses D.eq graph.now.fill_rule keeps_edges graph.now.edges)
         (map (walk_at (plain_contours I.whole contours.now)) places.now) (plain_vector_shape I.whole v.items)) }
     ensures store { IsStoreReached D.writes store.old store.new }
-    ensures err { IsOkUnless result OverlayError.Memory }
 {
     let mut shape = Vec::new(graph.allocator().clone()?);
     for i in 0..places.len() {
@@ -86,12 +83,11 @@ fn contour<I: IntNumber, D: OverlayEdgeData, A: Allocator + Clone>(
     walk: &[Step<I>],
     keeps_edges: bool,
     store: &mut D::Store,
-) -> Result<DataVectorPath<I, D, A>, OverlayError>
+) -> Result<DataVectorPath<I, D, A>, AllocError>
     requires { All (RunsAlong I.whole (all_ends (graph_edges graph.now))) walk.now }
     ensures ok { IfOk result (λ v. IsVectorContour D.reverses D.eq graph.now.fill_rule keeps_edges graph.now.edges
         (plain_steps I.whole walk.now) (plain_data_vectors I.whole v.items)) }
     ensures store { IsStoreReached D.writes store.old store.new }
-    ensures err { IsOkUnless result OverlayError.Memory }
 {
     let vectors = vectors_along(graph, walk, store)?;
     if keeps_edges {
@@ -106,13 +102,12 @@ fn vectors_along<I: IntNumber, D: OverlayEdgeData, A: Allocator + Clone>(
     graph: &Graph<I, CountWithData<D>, A>,
     walk: &[Step<I>],
     store: &mut D::Store,
-) -> Result<DataVectorPath<I, D, A>, OverlayError>
+) -> Result<DataVectorPath<I, D, A>, AllocError>
     requires { All (RunsAlong I.whole (all_ends (graph_edges graph.now))) walk.now }
     ensures along { IfOk result (λ v. AllZip (IsVectorAlong D.reverses graph.now.fill_rule graph.now.edges)
         (plain_steps I.whole walk.now) (plain_data_vectors I.whole v.items)) }
     ensures in_range { IfOk result (λ v. All (IsInRange I.limit) (plain_data_vectors I.whole v.items)) }
     ensures store { IsStoreReached D.writes store.old store.new }
-    ensures err { IsOkUnless result OverlayError.Memory }
 {
     let mut vectors = Vec::with_capacity(graph.allocator().clone()?, walk.len())?;
     for i in 0..walk.len() {

@@ -1,6 +1,6 @@
 //! The contours round the region where rules hold, as edges with filled sides and data, bound to shapes.
 
-ghost use Rattle.std.specs.Prelude.{IfOk, IsOkUnless};
+ghost use Rattle.std.specs.Prelude.{IfOk};
 ghost use Rattle.overlay_plane.specs.Balance.{HasBalancedCounts};
 ghost use Rattle.overlay_arrange.specs.Graphs.{graph_edges};
 ghost use Rattle.overlay_arrange.specs.Stores.{IsStoreReached};
@@ -15,11 +15,10 @@ use overlay_arrange::options::IntOverlayOptions;
 use overlay_arrange::overlay_rule::OverlayRule;
 use overlay_extract::binding::placed::bound_places;
 use overlay_extract::binding::scans::TREE_FROM_PARENTS;
-use overlay_geom::error::OverlayError;
 use overlay_geom::number::IntNumber;
 use overlay_walk::buffer::BooleanExtractionBuffer;
 use overlay_walk::kept_contours::kept_contours;
-use std::alloc::Allocator;
+use std::alloc::{AllocError, Allocator};
 
 /// The shapes round the region where the rules hold, that of the graph and the overlay rule, of the
 /// windings that the graph's edges make: the outline of each, and then its holes, both in the order in
@@ -32,21 +31,19 @@ use std::alloc::Allocator;
 /// equal filled sides and equal data, is joined with it; the first one with the last too. The joined edge
 /// has the data of the first of them. The contours may begin anywhere.
 ///
-/// The graph's counts are balanced. The buffer lends its room. The store is handed to `reversed`. The only
-/// refusal is `Memory`.
+/// The graph's counts are balanced. The buffer lends its room. The store is handed to `reversed`.
 pub fn vector_shapes<I: IntNumber, D: OverlayEdgeData, A: Allocator + Clone>(
     graph: &Graph<I, CountWithData<D>, A>,
     overlay_rule: OverlayRule,
     options: IntOverlayOptions<I::WideUInt>,
     buffer: &mut BooleanExtractionBuffer<I, A>,
     store: &mut D::Store,
-) -> Result<Vec<DataVectorShape<I, D, A>, A>, OverlayError>
+) -> Result<Vec<DataVectorShape<I, D, A>, A>, AllocError>
     requires { HasBalancedCounts (graph_edges graph.now) }
     ensures shapes { IfOk result (λ v. AreVectorShapes D.reverses D.eq
         (asked I.Wide.width I.WideUInt.natural graph.now.fill_rule overlay_rule options)
         graph.now.edges (plain_vector_shapes I.whole v.items)) }
     ensures store { IsStoreReached D.writes store.old store.new }
-    ensures err { IsOkUnless result OverlayError.Memory }
 {
     vector_shapes_with_trees_from(
         graph,
@@ -58,8 +55,8 @@ pub fn vector_shapes<I: IntNumber, D: OverlayEdgeData, A: Allocator + Clone>(
     )
 }
 
-/// The shapes that [`vector_shapes`] gives, for a limit of the caller's: where there are `tree_from` shapes or
-/// more their live edges are kept in a tree, and else in a list. The only refusal is `Memory`.
+/// The shapes that [`vector_shapes`] gives, for a limit of the caller's: where there are `tree_from` shapes or more
+/// their live edges are kept in a tree, and else in a list.
 #[tactic(auto, using(overlay_arrange::proofs::ReachedStores::never_written))]
 pub fn vector_shapes_with_trees_from<I: IntNumber, D: OverlayEdgeData, A: Allocator + Clone>(
     graph: &Graph<I, CountWithData<D>, A>,
@@ -68,13 +65,12 @@ pub fn vector_shapes_with_trees_from<I: IntNumber, D: OverlayEdgeData, A: Alloca
     buffer: &mut BooleanExtractionBuffer<I, A>,
     store: &mut D::Store,
     tree_from: usize,
-) -> Result<Vec<DataVectorShape<I, D, A>, A>, OverlayError>
+) -> Result<Vec<DataVectorShape<I, D, A>, A>, AllocError>
     requires { HasBalancedCounts (graph_edges graph.now) }
     ensures shapes { IfOk result (λ v. AreVectorShapes D.reverses D.eq
         (asked I.Wide.width I.WideUInt.natural graph.now.fill_rule overlay_rule options)
         graph.now.edges (plain_vector_shapes I.whole v.items)) }
     ensures store { IsStoreReached D.writes store.old store.new }
-    ensures err { IsOkUnless result OverlayError.Memory }
 {
     graph.note_arrangement();
     let without_groups = IntOverlayOptions {

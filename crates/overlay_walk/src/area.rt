@@ -1,6 +1,6 @@
 //! The areas of walks, and the walks that reach a minimum area.
 
-ghost use Rattle.std.specs.Prelude.{◌≡◌, All, filter, IfOk, IsOkUnless};
+ghost use Rattle.std.specs.Prelude.{◌≡◌, All, filter, IfOk};
 ghost use Rattle.std.specs.Int.{int_wrap};
 ghost use Rattle.overlay_geom.specs.Plane.{points_of};
 ghost use Rattle.overlay_geom.specs.Points.{plain_point, cross_of, InRange};
@@ -9,24 +9,22 @@ ghost use Rattle.overlay_walk.specs.Steps.{plain_steps, IsLong};
 ghost use Rattle.overlay_walk.specs.Walks.{plain_walks};
 
 use crate::step::Step;
-use overlay_geom::error::OverlayError;
 use overlay_geom::number::{IntNumber, UIntNumber, WideIntNumber};
 use overlay_geom::point::IntPoint;
 use overlay_geom::vector::IntVector;
-use std::alloc::Allocator;
+use std::alloc::{AllocError, Allocator};
 
 /// Returns the walks, in order, that have three points or more and reach the minimum area, in squared units of the
 /// coordinates. The area is half of the absolute double area, rounded down. The double area is the sum of the cross
-/// products of neighbouring points, wrapped to the wide type. The only refusal is `Memory`.
+/// products of neighbouring points, wrapped to the wide type.
 pub fn large_walks<I: IntNumber, A: Allocator>(
     alloc: A,
     walks: Vec<Vec<Step<I>, A>, A>,
     min_output_area: I::WideUInt,
-) -> Result<Vec<Vec<Step<I>, A>, A>, OverlayError>
+) -> Result<Vec<Vec<Step<I>, A>, A>, AllocError>
     requires { All (All (IsLong I.limit)) (plain_walks I.whole walks.items) }
     ensures ok { IfOk result (λ ws. ws.items ≡ filter
         (λ w. reaches I.Wide.width (I.WideUInt.natural min_output_area) (plain_steps I.whole w.items)) walks.items) }
-    ensures err { IsOkUnless result OverlayError.Memory }
 {
     let mut large = Vec::new(alloc);
     for walk in walks {

@@ -1,11 +1,10 @@
 //! Memory that extractions use again.
 
-ghost use Rattle.std.specs.Prelude.{◌≡◌, [], None, IsOkUnless};
+ghost use Rattle.std.specs.Prelude.{◌≡◌, [], None};
 
 use crate::step::Step;
-use overlay_geom::error::OverlayError;
 use overlay_geom::number::IntNumber;
-use std::alloc::Allocator;
+use std::alloc::{AllocError, Allocator};
 use std::marker::Model;
 use std::mem;
 
@@ -49,11 +48,10 @@ impl<I: IntNumber, A: Allocator> BooleanExtractionBuffer<I, A> {
 }
 
 impl<I: IntNumber, A: Allocator + Clone> BooleanExtractionBuffer<I, A> {
-    /// Takes the buffer out of the slot, or makes an empty buffer if there is none. The slot is empty afterwards. The
-    /// only refusal is `Memory`, of a clone of the allocator.
-    pub fn taken_from(slot: &mut Option<Self>, alloc: &A) -> Result<Self, OverlayError>
+    /// Takes the buffer out of the slot, or makes an empty buffer if there is none. The slot is empty afterwards. Only
+    /// cloning the allocator can refuse.
+    pub fn taken_from(slot: &mut Option<Self>, alloc: &A) -> Result<Self, AllocError>
         ensures none { slot.new ≡ None }
-        ensures err { IsOkUnless result OverlayError.Memory }
     {
         match slot.take() {
             Some(buffer) => Ok(buffer),

@@ -1,6 +1,6 @@
 //! The order of edges by their starts.
 
-ghost use Rattle.std.specs.Prelude.{◌≡◌, OnOk, IsOkUnless};
+ghost use Rattle.std.specs.Prelude.{◌≡◌, OnOk};
 ghost use Rattle.std.specs.List.Sorted.{IsPermutation};
 ghost use Rattle.std.specs.Ordering.{is_lt};
 ghost use Rattle.overlay_walk.specs.Places.{starts_before};
@@ -9,20 +9,17 @@ ghost use Rattle.overlay_walk.specs.WalkEdges.{numbered_entry, numbered_entries}
 
 use crate::numbered_edge::NumberedEdge;
 use overlay_arrange::edge::compare_points;
-use overlay_geom::error::OverlayError;
 use overlay_geom::number::{IntNumber, WideIntNumber};
 use overlay_geom::vector::cross_at;
-use std::alloc::Allocator;
+use std::alloc::{AllocError, Allocator};
 use std::cmp::Ordering;
 
-/// Sorts the edges by their smaller ends, and edges from one point by slope, highest first. The only refusal is
-/// `Memory`.
+/// Sorts the edges by their smaller ends, and edges from one point by slope, highest first.
 pub fn sort_by_start<I: IntNumber, A: Allocator>(
     edges: &mut Vec<NumberedEdge<I>, A>,
-) -> Result<(), OverlayError>
+) -> Result<(), AllocError>
     ensures permutation { IsPermutation edges.old.items edges.new.items }
     ensures order { OnOk result (AreInStartOrder (numbered_entries I.whole edges.new.items)) }
-    ensures err { IsOkUnless result OverlayError.Memory }
 {
     edges.sort_by(|e, f| compare_starts(e, f))?;
     Ok(())

@@ -1,6 +1,6 @@
 //! The cut of steps into contours.
 
-ghost use Rattle.std.specs.Prelude.{◌≡◌, [], All, Contains, IfOk, OnOk, IsOkUnless};
+ghost use Rattle.std.specs.Prelude.{◌≡◌, [], All, Contains, IfOk, OnOk};
 ghost use Rattle.overlay_plane.specs.BesideOrbits.{HasEachOnce};
 ghost use Rattle.overlay_plane.specs.Contours.{outline_or_hole_hand};
 ghost use Rattle.overlay_plane.specs.Contours.{CanBeCut, IsCutInto};
@@ -13,26 +13,23 @@ use crate::hand::{Hand, HandRule};
 use crate::open_steps::OpenSteps;
 use crate::step::Step;
 use overlay_arrange::options::ContourDirection;
-use overlay_geom::error::OverlayError;
 use overlay_geom::number::IntNumber;
-use std::alloc::Allocator;
+use std::alloc::{AllocError, Allocator};
 
 /// Cuts all steps left into walks. While steps are left, the next walk is the orbit of the step along the top edge at
 /// their leftmost lowest point, by the hand that the rule tells of it. The steps alternate round every node, or the
-/// rule tells one hand, by which they lead on. At the end no step is left. The only refusal is `Memory`, after which
-/// the steps left are open.
+/// rule tells one hand, by which they lead on. At the end no step is left. After a refusal, the steps left are open.
 pub fn cut_into_contours<I: IntNumber, A: Allocator + Clone>(
     alloc: A,
     steps: &mut OpenSteps<I, A>,
     rule: HandRule,
-) -> Result<Vec<Vec<Step<I>, A>, A>, OverlayError>
+) -> Result<Vec<Vec<Step<I>, A>, A>, AllocError>
     requires cuttable { CanBeCut (hand_by rule) (plain_steps I.whole steps.old) }
     requires once { HasEachOnce (plain_steps I.whole steps.old) }
     ensures cut { IfOk result (λ ws. IsCutInto (hand_by rule) (plain_steps I.whole steps.old)
         (plain_walks I.whole ws.items)) }
     ensures among { IfOk result (λ ws. All (λ w. All (Contains steps.old) w.items) ws.items) }
     ensures none_left { OnOk result (steps.new ≡ []) }
-    ensures err { IsOkUnless result OverlayError.Memory }
 {
     let mut contours = Vec::new(alloc);
     while let Some(start) = steps.start() {

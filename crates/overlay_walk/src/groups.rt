@@ -1,7 +1,7 @@
 //! The cut with groups. Groups are the orbits by the hand of the filled side. Each group is cut once more by the hand
 //! of the empty side, into contours that visit no point twice.
 
-ghost use Rattle.std.specs.Prelude.{◌≡◌, not, filter, All, IfOk, IsOkUnless};
+ghost use Rattle.std.specs.Prelude.{◌≡◌, not, filter, All, IfOk};
 ghost use Rattle.std.specs.List.{AllZip, flat_map};
 ghost use Rattle.overlay_plane.specs.Alternates.{Alternates};
 ghost use Rattle.overlay_plane.specs.BesideOrbits.{HasEachOnce};
@@ -22,13 +22,11 @@ use crate::hand::{Hand, HandRule};
 use crate::open_steps::OpenSteps;
 use crate::step::Step;
 use overlay_arrange::options::ContourDirection;
-use overlay_geom::error::OverlayError;
 use overlay_geom::number::{IntNumber, UIntNumber, WideIntNumber};
-use std::alloc::Allocator;
+use std::alloc::{AllocError, Allocator};
 
 /// Walks all steps left, in groups: orbits by the hand of the filled side. This is the left hand where the direction is
-/// counterclockwise. The steps alternate round every node. The only refusal is `Memory`, after which the steps left are
-/// open.
+/// counterclockwise. The steps alternate round every node. After a refusal, the steps left are open.
 ///
 /// A group that begins with an edge filled below belongs to an outline. It is walked again by the hand of the empty
 /// side, from the same start; the other walks in it are holes of that shape. The steps of all other groups together are
@@ -41,14 +39,13 @@ pub fn cut_in_groups<I: IntNumber, A: Allocator + Clone>(
     steps: &mut OpenSteps<I, A>,
     direction: ContourDirection,
     min_output_area: I::WideUInt,
-) -> Result<Vec<Contour<I, A>, A>, OverlayError>
+) -> Result<Vec<Contour<I, A>, A>, AllocError>
     requires alternate { Alternates (plain_steps I.whole steps.old) }
     requires once { HasEachOnce (plain_steps I.whole steps.old) }
     requires long { All (IsLong I.limit) (plain_steps I.whole steps.old) }
     ensures cut { IfOk result (λ cs. IsCutInGroups (filled_hand direction)
         (λ w. reaches I.Wide.width (I.WideUInt.natural min_output_area) w) (plain_steps I.whole steps.old)
         (plain_contours I.whole cs.items)) }
-    ensures err { IsOkUnless result OverlayError.Memory }
 {
     let rule = HandRule::Always(filled_hand(direction));
     let groups = cut_into_contours(alloc.clone()?, steps, rule)?;
@@ -66,12 +63,11 @@ fn split_groups<I: IntNumber, A: Allocator + Clone>(
     alloc: A,
     groups: Vec<Vec<Step<I>, A>, A>,
     direction: ContourDirection,
-) -> Result<(Vec<Vec<Step<I>, A>, A>, Vec<Step<I>, A>), OverlayError>
+) -> Result<(Vec<Vec<Step<I>, A>, A>, Vec<Step<I>, A>), AllocError>
     ensures outlines { IfOk result (λ r. r.0.items
         ≡ filter (λ g. not (is_hole (filled_hand direction) (plain_steps I.whole g.items))) groups.items) }
     ensures holes { IfOk result (λ r. r.1.items ≡ flat_map (λ g. g.items)
         (filter (λ g. is_hole (filled_hand direction) (plain_steps I.whole g.items)) groups.items)) }
-    ensures err { IsOkUnless result OverlayError.Memory }
 {
     let mut outline_groups = Vec::new(alloc.clone()?);
     let mut hole_steps = Vec::new(alloc);
@@ -90,14 +86,13 @@ fn cut_each<I: IntNumber, A: Allocator + Clone>(
     alloc: A,
     groups: Vec<Vec<Step<I>, A>, A>,
     hand: Hand,
-) -> Result<Vec<Vec<Vec<Step<I>, A>, A>, A>, OverlayError>
+) -> Result<Vec<Vec<Vec<Step<I>, A>, A>, A>, AllocError>
     requires alternate { All Alternates (plain_walks I.whole groups.items) }
     requires once { All HasEachOnce (plain_walks I.whole groups.items) }
     requires long { All (All (IsLong I.limit)) (plain_walks I.whole groups.items) }
     ensures cut { IfOk result (λ r. AllZip (λ g ws. IsCutInto (λ s. plain_hand hand) (plain_steps I.whole g.items)
         (plain_walks I.whole ws.items)) groups.items r.items) }
     ensures long { IfOk result (λ r. All (λ ws. All (All (IsLong I.limit)) (plain_walks I.whole ws.items)) r.items) }
-    ensures err { IsOkUnless result OverlayError.Memory }
 {
     let mut cut = Vec::new(alloc.clone()?);
     for group in groups {
@@ -111,14 +106,13 @@ fn cut_again<I: IntNumber, A: Allocator + Clone>(
     alloc: A,
     steps: Vec<Step<I>, A>,
     hand: Hand,
-) -> Result<Vec<Vec<Step<I>, A>, A>, OverlayError>
+) -> Result<Vec<Vec<Step<I>, A>, A>, AllocError>
     requires alternate { Alternates (plain_steps I.whole steps.items) }
     requires once { HasEachOnce (plain_steps I.whole steps.items) }
     requires long { All (IsLong I.limit) (plain_steps I.whole steps.items) }
     ensures cut { IfOk result (λ ws. IsCutInto (λ s. plain_hand hand) (plain_steps I.whole steps.items)
         (plain_walks I.whole ws.items)) }
     ensures long { IfOk result (λ ws. All (All (IsLong I.limit)) (plain_walks I.whole ws.items)) }
-    ensures err { IsOkUnless result OverlayError.Memory }
 {
     let mut open = OpenSteps::new(steps)?;
     cut_into_contours(alloc, &mut open, HandRule::Always(hand))

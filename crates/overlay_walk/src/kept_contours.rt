@@ -1,6 +1,6 @@
 //! The kept contours of a cut of a graph's selected steps, with groups or without.
 
-ghost use Rattle.std.specs.Prelude.{◌≡◌, false, map, All, IfOk, IsOkUnless};
+ghost use Rattle.std.specs.Prelude.{◌≡◌, false, map, All, IfOk};
 ghost use Rattle.overlay_geom.specs.Edges.{all_ends};
 ghost use Rattle.overlay_plane.specs.Balance.{HasBalancedCounts};
 ghost use Rattle.overlay_plane.specs.BoundContours.{walks_in};
@@ -22,9 +22,8 @@ use overlay_arrange::count::EdgeCount;
 use overlay_arrange::graph::Graph;
 use overlay_arrange::options::{ContourDirection, IntOverlayOptions};
 use overlay_arrange::overlay_rule::OverlayRule;
-use overlay_geom::error::OverlayError;
 use overlay_geom::number::{IntNumber, UIntNumber, WideIntNumber};
-use std::alloc::Allocator;
+use std::alloc::{AllocError, Allocator};
 
 /// Returns the contours of a cut of the graph's selected steps: steps along edges with the region of the graph's rule
 /// and the overlay rule on exactly one side. This side is on the left where the output direction is counterclockwise,
@@ -36,13 +35,13 @@ use std::alloc::Allocator;
 /// with its outline.
 ///
 /// The counts of the edges are balanced. Without `ogc` each step has the number of its edge in the graph. The buffer
-/// lends its memory. The only refusal is `Memory`, after which the buffer may be left without memory.
+/// lends its memory. After a refusal, the buffer may be left without memory.
 pub fn kept_contours<I: IntNumber, C: EdgeCount, A: Allocator + Clone>(
     graph: &Graph<I, C, A>,
     overlay_rule: OverlayRule,
     options: IntOverlayOptions<I::WideUInt>,
     buffer: &mut BooleanExtractionBuffer<I, A>,
-) -> Result<Vec<Contour<I, A>, A>, OverlayError>
+) -> Result<Vec<Contour<I, A>, A>, AllocError>
     requires { HasBalancedCounts (graph_edges graph.now) }
     ensures kept { IfOk result (λ cs. AreKeptResults
         (asked I.Wide.width I.WideUInt.natural graph.now.fill_rule overlay_rule options)
@@ -50,7 +49,6 @@ pub fn kept_contours<I: IntNumber, C: EdgeCount, A: Allocator + Clone>(
     ensures long { IfOk result (λ cs. All (All (IsLong I.limit)) (walks_in (plain_contours I.whole cs.items))) }
     ensures along { IfOk result (λ cs. options.ogc ≡ false →
         All (λ c. All (RunsAlong I.whole (all_ends (graph_edges graph.now))) c.steps.items) cs.items) }
-    ensures err { IsOkUnless result OverlayError.Memory }
 {
     graph.note_arrangement();
     let direction = options.output_direction;
@@ -68,11 +66,10 @@ fn roled<I: IntNumber, A: Allocator>(
     alloc: A,
     walks: Vec<Vec<Step<I>, A>, A>,
     direction: ContourDirection,
-) -> Result<Vec<Contour<I, A>, A>, OverlayError>
+) -> Result<Vec<Contour<I, A>, A>, AllocError>
     ensures ok { IfOk result (λ cs. plain_contours I.whole cs.items
         ≡ contours_from (filled_hand direction) 0 (plain_walks I.whole walks.items)) }
     ensures steps { IfOk result (λ cs. map (λ c. c.steps) cs.items ≡ walks.items) }
-    ensures err { IsOkUnless result OverlayError.Memory }
 {
     let mut contours = Vec::new(alloc);
     let mut number = 0;

@@ -1,6 +1,6 @@
 //! The places of steps by the starts of their edges, and the first of them that is not taken.
 
-ghost use Rattle.std.specs.Prelude.{◌≡◌, ◌<◌, true, length, map, slice_index_or, All, IfOk, IsOkUnless};
+ghost use Rattle.std.specs.Prelude.{◌≡◌, ◌<◌, true, length, map, slice_index_or, All, IfOk};
 ghost use Rattle.std.specs.List.Sorted.{IsPermutation};
 ghost use Rattle.overlay_walk.specs.Places.{is_open, ArePassed, ArePlacesByStart};
 ghost use Rattle.overlay_walk.specs.Starts.{HaveEdges};
@@ -14,22 +14,20 @@ use crate::open_places::is_open;
 use crate::step::Step;
 use overlay_arrange::sort_numbers::order_by_numbers;
 use overlay_arrange::sort_runs::order_neighbours;
-use overlay_geom::error::OverlayError;
 use overlay_geom::number::IntNumber;
-use std::alloc::Allocator;
+use std::alloc::{AllocError, Allocator};
 
 // Greatest number of edges for each step up to which their numbers are counted.
 const MOST_EDGES_A_STEP: usize = 16;
 
 /// Returns the places of the steps, sorted by the starts of their edges: by the smaller ends, and from one point by
-/// slope, highest first. The only refusal is `Memory`.
+/// slope, highest first.
 pub fn places_by_start<I: IntNumber, A: Allocator + Clone>(
     alloc: A,
     steps: &[Step<I>],
-) -> Result<Vec<usize, A>, OverlayError>
+) -> Result<Vec<usize, A>, AllocError>
     requires { All (IsLong I.limit) (plain_steps I.whole steps.now) }
     ensures ok { IfOk result (λ v. ArePlacesByStart (plain_steps I.whole steps.now) v.items) }
-    ensures err { IsOkUnless result OverlayError.Memory }
 {
     let mut edges = edges_along(alloc.clone()?, steps)?;
     order_by_steps(&mut edges, steps)?;
@@ -39,13 +37,12 @@ pub fn places_by_start<I: IntNumber, A: Allocator + Clone>(
 }
 
 /// Sorts the edges of the steps by the numbers of their edges in the arrangement, unless the arrangement has many more
-/// edges than there are steps. The list stays a permutation of itself. The only refusal is `Memory`.
+/// edges than there are steps. The list stays a permutation of itself.
 fn order_by_steps<I: IntNumber, A: Allocator + Clone>(
     edges: &mut Vec<NumberedEdge<I>, A>,
     steps: &[Step<I>],
-) -> Result<(), OverlayError>
+) -> Result<(), AllocError>
     ensures permutation { IsPermutation edges.old.items edges.new.items }
-    ensures err { IsOkUnless result OverlayError.Memory }
 {
     let count = edge_count(steps);
     if count / MOST_EDGES_A_STEP > steps.len() {
@@ -75,11 +72,10 @@ fn edge_number<I: IntNumber>(steps: &[Step<I>], place: usize) -> usize {
 fn edges_along<I: IntNumber, A: Allocator>(
     alloc: A,
     steps: &[Step<I>],
-) -> Result<Vec<NumberedEdge<I>, A>, OverlayError>
+) -> Result<Vec<NumberedEdge<I>, A>, AllocError>
     requires { All (IsLong I.limit) (plain_steps I.whole steps.now) }
     ensures ok { IfOk result (λ v. HaveEdges (plain_steps I.whole steps.now) (length steps.now)
         (numbered_entries I.whole v.items)) }
-    ensures err { IsOkUnless result OverlayError.Memory }
 {
     let mut edges = Vec::with_capacity(alloc, steps.len())?;
     for place in 0..steps.len() {
@@ -92,9 +88,8 @@ fn edges_along<I: IntNumber, A: Allocator>(
 fn numbers_of<I: IntNumber, A: Allocator>(
     alloc: A,
     edges: &[NumberedEdge<I>],
-) -> Result<Vec<usize, A>, OverlayError>
+) -> Result<Vec<usize, A>, AllocError>
     ensures ok { IfOk result (λ v. v.items ≡ map (λ f. f.value) (numbered_entries I.whole edges.now)) }
-    ensures err { IsOkUnless result OverlayError.Memory }
 {
     let mut numbers = Vec::with_capacity(alloc, edges.len())?;
     for edge in edges {

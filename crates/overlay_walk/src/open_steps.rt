@@ -1,7 +1,7 @@
 //! Steps to be walked, with marks of those that walks have taken.
 
 ghost use Rattle.std.specs.Prelude.{◌≡◌, ◌↔◌, [], ◌∷◌, None, All, Any, Contains, IfOk, IfSome};
-ghost use Rattle.std.specs.Prelude.{OnOk, IsOkUnless};
+ghost use Rattle.std.specs.Prelude.{OnOk};
 ghost use Rattle.std.specs.List.Sorted.{IsPermutation};
 ghost use Rattle.overlay_geom.specs.Plane.{step_eq};
 ghost use Rattle.overlay_plane.specs.BesideOrbits.{HasEachOnce};
@@ -17,9 +17,8 @@ use crate::next::place_of_next;
 use crate::step::Step;
 use overlay_arrange::edge::compare_points;
 use overlay_arrange::sort_leaders::order_by_leaders;
-use overlay_geom::error::OverlayError;
 use overlay_geom::number::IntNumber;
-use std::alloc::Allocator;
+use std::alloc::{AllocError, Allocator};
 use std::marker::Model;
 
 // Greatest number of steps for each forward step up to which they are put in order before they are sorted.
@@ -98,11 +97,10 @@ impl<I: IntNumber, A: Allocator> OpenSteps<I, A> {
 }
 
 impl<I: IntNumber, A: Allocator + Clone> OpenSteps<I, A> {
-    /// Makes a list of all the steps, none of them taken. The only refusal is `Memory`.
-    pub fn new(mut steps: Vec<Step<I>, A>) -> Result<Self, OverlayError>
+    /// Makes a list of all the steps, none of them taken.
+    pub fn new(mut steps: Vec<Step<I>, A>) -> Result<Self, AllocError>
         requires { All (IsLong I.limit) (plain_steps I.whole steps.items) }
         ensures all { IfOk result (λ o. IsPermutation steps.items o) }
-        ensures err { IsOkUnless result OverlayError.Memory }
     {
         sort_steps(&mut steps)?;
         let places = places_by_start(steps.allocator().clone()?, &steps)?;
@@ -118,8 +116,8 @@ impl<I: IntNumber, A: Allocator + Clone> OpenSteps<I, A> {
 
     /// Takes the orbit of a step by a hand, in the steps left. A ray that turns by the hand at the end of a step, from
     /// the way back, meets the next step first. The steps left lead on by the hand: a step leaves the end of each, and
-    /// no two have the same next step. The only refusal is `Memory`, after which the steps left are open.
-    pub fn walk(&mut self, start: Step<I>, hand: Hand) -> Result<Vec<Step<I>, A>, OverlayError>
+    /// no two have the same next step. After a refusal, the steps left are open.
+    pub fn walk(&mut self, start: Step<I>, hand: Hand) -> Result<Vec<Step<I>, A>, AllocError>
         requires leads_on { LeadsOn (plain_steps I.whole self.old) (plain_hand hand) }
         requires once { HasEachOnce (plain_steps I.whole self.old) }
         requires left { Contains self.old start }
@@ -130,7 +128,6 @@ impl<I: IntNumber, A: Allocator + Clone> OpenSteps<I, A> {
         ensures left { IfOk result (λ w.
             plain_steps I.whole self.new ≡ without (plain_steps I.whole self.old) (plain_steps I.whole w.items)) }
         ensures fewer { OnOk result (All (Contains self.old) self.new) }
-        ensures err { IsOkUnless result OverlayError.Memory }
     {
         let mut walk = Vec::new(self.steps.allocator().clone()?);
         let mut step = start;
@@ -148,10 +145,9 @@ impl<I: IntNumber, A: Allocator + Clone> OpenSteps<I, A> {
 /// sorted edges, those that lead forward are in order.
 fn sort_steps<I: IntNumber, A: Allocator + Clone>(
     steps: &mut Vec<Step<I>, A>,
-) -> Result<(), OverlayError>
+) -> Result<(), AllocError>
     ensures permutation { IsPermutation steps.old.items steps.new.items }
     ensures order { OnOk result (IsByFrom (plain_steps I.whole steps.new.items)) }
-    ensures err { IsOkUnless result OverlayError.Memory }
 {
     order_by_leaders(steps, MOST_STEPS, |s, t| compare_points(s.from, t.from))?;
     steps.sort_by(|s, t| compare_points(s.from, t.from))?;

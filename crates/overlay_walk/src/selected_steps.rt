@@ -1,7 +1,7 @@
 //! The selected steps: steps along edges with the region on exactly one side.
 
 ghost use Rattle.std.specs.Prelude.{◌≡◌, ◌++◌, map, flat_map, option_map, option_to_list};
-ghost use Rattle.std.specs.Prelude.{List, slice_get, Some, All, IfSome, OnOk, IsOkUnless};
+ghost use Rattle.std.specs.Prelude.{List, slice_get, Some, All, IfSome, OnOk};
 ghost use Rattle.overlay_geom.specs.Plane.{Edge};
 ghost use Rattle.overlay_plane.specs.SelectedSteps.{step_with_left};
 ghost use Rattle.overlay_arrange.specs.Vectors.{plain_vector};
@@ -14,24 +14,22 @@ use overlay_arrange::overlay_rule::OverlayRule;
 use overlay_arrange::vector::{
     CLIP_LEFT, CLIP_RIGHT, DataVectorEdge, SUBJ_LEFT, SUBJ_RIGHT, SideFill,
 };
-use overlay_geom::error::OverlayError;
 use overlay_geom::number::IntNumber;
-use std::alloc::Allocator;
+use std::alloc::{AllocError, Allocator};
 
-/// Adds the selected steps of the edges, in their order, each with the number of its edge. The only refusal is
-/// `Memory`, after which some of them may stay.
+/// Adds the selected steps of the edges, in their order, each with the number of its edge. After a refusal, some of
+/// them may stay.
 pub fn push_selected<I: IntNumber, D: Copy, A: Allocator>(
     steps: &mut Vec<Step<I>, A>,
     edges: &[DataVectorEdge<I, D>],
     rule: OverlayRule,
     direction: ContourDirection,
-) -> Result<(), OverlayError>
+) -> Result<(), AllocError>
     ensures ok { OnOk result (plain_steps I.whole steps.new.items ≡ plain_steps I.whole steps.old.items
         ++ flat_map (steps_by_bits rule (filled_hand direction)) (map (plain_vector I.whole) edges.now)) }
     ensures along { OnOk result (
         All (RunsAlong I.whole (map (λ v. ends (plain_vector I.whole v)) edges.now)) steps.old.items
         → All (RunsAlong I.whole (map (λ v. ends (plain_vector I.whole v)) edges.now)) steps.new.items) }
-    ensures err { IsOkUnless result OverlayError.Memory }
 {
     for number in 0..edges.len() {
         push_step(steps, edges[number], number, rule, direction)?;
@@ -46,12 +44,11 @@ fn push_step<I: IntNumber, D: Copy, A: Allocator>(
     number: usize,
     rule: OverlayRule,
     direction: ContourDirection,
-) -> Result<(), OverlayError>
+) -> Result<(), AllocError>
     ensures ok { OnOk result (plain_steps I.whole steps.new.items ≡ plain_steps I.whole steps.old.items
         ++ steps_by_bits rule (filled_hand direction) (plain_vector I.whole edge)) }
     ensures along { OnOk result ((es : List Edge) → slice_get es number ≡ Some (ends (plain_vector I.whole edge))
         → All (RunsAlong I.whole es) steps.old.items → All (RunsAlong I.whole es) steps.new.items) }
-    ensures err { IsOkUnless result OverlayError.Memory }
 {
     if let Some(step) = selected_step(edge, number, rule, direction) {
         steps.push(step)?;

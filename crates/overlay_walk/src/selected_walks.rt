@@ -1,6 +1,6 @@
 //! The walks of a cut of a graph's selected steps, and the contours with groups.
 
-ghost use Rattle.std.specs.Prelude.{◌≡◌, [], All, IfOk, IsOkUnless};
+ghost use Rattle.std.specs.Prelude.{◌≡◌, [], All, IfOk};
 ghost use Rattle.std.specs.List.Sorted.{IsPermutation};
 ghost use Rattle.overlay_geom.specs.Edges.{all_ends, subj_of, clip_of};
 ghost use Rattle.overlay_plane.specs.Balance.{HasBalancedCounts};
@@ -27,29 +27,27 @@ use overlay_arrange::count::EdgeCount;
 use overlay_arrange::graph::Graph;
 use overlay_arrange::options::ContourDirection;
 use overlay_arrange::overlay_rule::OverlayRule;
-use overlay_geom::error::OverlayError;
 use overlay_geom::number::{IntNumber, UIntNumber, WideIntNumber};
-use std::alloc::Allocator;
+use std::alloc::{AllocError, Allocator};
 
 /// Returns the walks of a cut of the graph's selected steps: steps along edges with the region of the graph's rule and
 /// the overlay rule on exactly one side. This side is on the left where the direction is counterclockwise, else on the
 /// right. Outlines turn through their filled side, holes through their empty side. Each step has the number of its edge
 /// in the graph. The counts of the edges are balanced.
 ///
-/// The buffer lends its memory. The only refusal is `Memory`, after which the buffer may be left without memory.
+/// The buffer lends its memory. After a refusal, the buffer may be left without memory.
 pub fn selected_walks<I: IntNumber, C: EdgeCount, A: Allocator + Clone>(
     graph: &Graph<I, C, A>,
     overlay_rule: OverlayRule,
     direction: ContourDirection,
     buffer: &mut BooleanExtractionBuffer<I, A>,
-) -> Result<Vec<Vec<Step<I>, A>, A>, OverlayError>
+) -> Result<Vec<Vec<Step<I>, A>, A>, AllocError>
     requires { HasBalancedCounts (graph_edges graph.now) }
     ensures cut { IfOk result (λ ws. AreCutFrom (rules_hold graph.now.fill_rule overlay_rule) subj_of clip_of
         (graph_edges graph.now) (filled_hand direction) (plain_walks I.whole ws.items)) }
     ensures along { IfOk result (λ ws.
         All (λ w. All (RunsAlong I.whole (all_ends (graph_edges graph.now))) w.items) ws.items) }
     ensures long { IfOk result (λ ws. All (All (IsLong I.limit)) (plain_walks I.whole ws.items)) }
-    ensures err { IsOkUnless result OverlayError.Memory }
 {
     graph.note_arrangement();
     let room = buffer.take_room(graph.allocator().clone()?);
@@ -64,21 +62,20 @@ pub fn selected_walks<I: IntNumber, C: EdgeCount, A: Allocator + Clone>(
 /// [`cut_in_groups`] tells. The steps are those of [`selected_walks`]. No contour visits a point twice. The counts of
 /// the edges are balanced.
 ///
-/// The buffer lends its memory. The only refusal is `Memory`, after which the buffer may be left without memory.
+/// The buffer lends its memory. After a refusal, the buffer may be left without memory.
 pub fn selected_contours<I: IntNumber, C: EdgeCount, A: Allocator + Clone>(
     graph: &Graph<I, C, A>,
     overlay_rule: OverlayRule,
     direction: ContourDirection,
     min_output_area: I::WideUInt,
     buffer: &mut BooleanExtractionBuffer<I, A>,
-) -> Result<Vec<Contour<I, A>, A>, OverlayError>
+) -> Result<Vec<Contour<I, A>, A>, AllocError>
     requires { HasBalancedCounts (graph_edges graph.now) }
     ensures cut { IfOk result (λ cs. IsCutInGroups (filled_hand direction)
         (λ w. reaches I.Wide.width (I.WideUInt.natural min_output_area) w)
         (selected_steps (rules_hold graph.now.fill_rule overlay_rule) subj_of clip_of (filled_hand direction)
         (graph_edges graph.now)) (plain_contours I.whole cs.items)) }
     ensures simple { IfOk result (λ cs. All (λ c. IsSimpleContour c.steps) (plain_contours I.whole cs.items)) }
-    ensures err { IsOkUnless result OverlayError.Memory }
 {
     graph.note_arrangement();
     let room = buffer.take_room(graph.allocator().clone()?);
@@ -95,12 +92,11 @@ fn open_selected<I: IntNumber, C: EdgeCount, A: Allocator + Clone>(
     overlay_rule: OverlayRule,
     direction: ContourDirection,
     mut steps: Vec<Step<I>, A>,
-) -> Result<OpenSteps<I, A>, OverlayError>
+) -> Result<OpenSteps<I, A>, AllocError>
     requires { steps.items ≡ [] }
     ensures selected { IfOk result (λ o. IsPermutation (selected_steps (rules_hold graph.now.fill_rule overlay_rule)
         subj_of clip_of (filled_hand direction) (graph_edges graph.now)) (plain_steps I.whole o)) }
     ensures along { IfOk result (All (RunsAlong I.whole (all_ends (graph_edges graph.now)))) }
-    ensures err { IsOkUnless result OverlayError.Memory }
 {
     let edges = graph.edges();
     push_selected(&mut steps, edges, overlay_rule, direction)?;

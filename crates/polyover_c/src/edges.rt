@@ -1,6 +1,6 @@
 //! The edges of the arrangement of contours in arrays.
 
-ghost use Rattle.std.specs.Prelude.{◌≡◌, All, IfOk, IfErr, IsOkUnless, MatchResult, map};
+ghost use Rattle.std.specs.Prelude.{◌≡◌, All, IfOk, IfErr, MatchResult, map};
 ghost use Rattle.overlay_arrange.specs.Vectors.{plain_vector};
 ghost use Rattle.overlay_builder.specs.GivenPaths.{subject_and_clip};
 ghost use Rattle.overlay_geom.specs.Flat.{paths_in};
@@ -22,7 +22,7 @@ use overlay_geom::error::OverlayError;
 use overlay_geom::flat::contours::FlatContoursBuffer;
 use overlay_geom::integer::OverlayInt;
 use overlay_geom::number::IntNumber;
-use std::alloc::Global;
+use std::alloc::{AllocError, Global};
 
 // Edges as arrays: of each the coordinates of both ends, and its fill bits.
 #[derive(Drop)]
@@ -128,14 +128,13 @@ fn arranged_edges<I: OverlayInt>(
     overlay.build_separate_vectors(fill)
 }
 
-// The edges as arrays. The only refusal is `Memory`.
+// The edges as arrays.
 fn listed<I: IntNumber>(
     alloc: Global,
     edges: &[DataVectorEdge<I, ()>],
-) -> Result<ListedEdges<I>, OverlayError>
+) -> Result<ListedEdges<I>, AllocError>
     ensures listed { IfOk result (λ l. AreListed I.whole (map (plain_vector I.whole) edges.now)
         (flat_edges l.coordinates.items l.fills.items)) }
-    ensures only { IsOkUnless result OverlayError.Memory }
 {
     let mut coordinates = Vec::new(alloc);
     let mut fills = Vec::new(alloc);

@@ -1,21 +1,19 @@
 //! Points and ranges as plain numbers.
 
-ghost use Rattle.std.specs.Prelude.{◌≡◌, IfOk, IsOkUnless};
+ghost use Rattle.std.specs.Prelude.{◌≡◌, IfOk};
 ghost use Rattle.polyover_c.specs.Arrays.{coordinates_of, ends_of};
 
-use overlay_geom::error::OverlayError;
 use overlay_geom::number::IntNumber;
 use overlay_geom::point::IntPoint;
-use std::alloc::Allocator;
+use std::alloc::{AllocError, Allocator};
 use std::ops::Range;
 
-/// The coordinates of the points, of each x before y. The only refusal is `Memory`.
+/// The coordinates of the points, of each x before y.
 pub fn coordinates_of<I: IntNumber, A: Allocator>(
     alloc: A,
     points: &[IntPoint<I>],
-) -> Result<Vec<I, A>, OverlayError>
+) -> Result<Vec<I, A>, AllocError>
     ensures coordinates { IfOk result (λ v. v.items ≡ coordinates_of points.now) }
-    ensures only { IsOkUnless result OverlayError.Memory }
 {
     let mut coordinates = Vec::new(alloc);
     for point in points {
@@ -25,13 +23,9 @@ pub fn coordinates_of<I: IntNumber, A: Allocator>(
     Ok(coordinates)
 }
 
-/// The end of each range. The only refusal is `Memory`.
-pub fn ends_of<A: Allocator>(
-    alloc: A,
-    ranges: &[Range<usize>],
-) -> Result<Vec<usize, A>, OverlayError>
+/// The end of each range.
+pub fn ends_of<A: Allocator>(alloc: A, ranges: &[Range<usize>]) -> Result<Vec<usize, A>, AllocError>
     ensures ends { IfOk result (λ v. v.items ≡ ends_of ranges.now) }
-    ensures only { IsOkUnless result OverlayError.Memory }
 {
     let mut ends = Vec::new(alloc);
     for range in ranges {

@@ -20,7 +20,7 @@ use overlay_geom::integer::OverlayInt;
 use overlay_geom::point::IntPoint;
 use overlay_relate::containment::IntPointContainment;
 use overlay_relate::location::PointLocation;
-use std::alloc::Global;
+use std::alloc::{AllocError, Global};
 
 /// Where each point lies in the contours, as one shape, written as a number for each; or, where a contour is not
 /// resolved, the number of the first such one.
@@ -105,10 +105,9 @@ fn numbers_in<I: OverlayInt>(
     Ok(numbers)
 }
 
-// The number of each location. The only refusal is `Memory`.
-fn numbers_of(alloc: Global, locations: &[PointLocation]) -> Result<Vec<u8, Global>, OverlayError>
+// The number of each location.
+fn numbers_of(alloc: Global, locations: &[PointLocation]) -> Result<Vec<u8, Global>, AllocError>
     ensures numbers { IfOk result (λ v. v.items ≡ map number_of locations.now) }
-    ensures only { IsOkUnless result OverlayError.Memory }
 {
     let mut numbers = Vec::with_capacity(alloc, locations.len())?;
     for location in locations {

@@ -18,7 +18,7 @@ use overlay_geom::number::IntNumber;
 use overlay_geom::path::IntShape;
 use overlay_geom::resource::IntShapeResource;
 use overlay_relate::resolved::is_resolved_in;
-use std::alloc::Global;
+use std::alloc::{AllocError, Global};
 
 /// The status with which contours are read as a shape.
 pub(crate) fn status_read<I: IntNumber>(alloc: Global, coordinates: &[I], ends: &[usize]) -> Status
@@ -70,14 +70,13 @@ pub(crate) fn first_unresolved<I: IntNumber>(
     Ok(None)
 }
 
-/// The contours as one shape. The only refusal is `Memory`.
+/// The contours as one shape.
 pub(crate) fn shape_of<I: IntNumber>(
     alloc: Global,
     contours: &FlatContoursBuffer<I, Global>,
-) -> Result<IntShape<I, Global>, OverlayError>
+) -> Result<IntShape<I, Global>, AllocError>
     ensures shape { IfOk result (λ s. paths_of_shape I.whole s.items
         ≡ paths_in I.whole contours.now.points.items contours.now.ranges.items) }
-    ensures only { IsOkUnless result OverlayError.Memory }
 {
     let mut shape = Vec::new(alloc);
     for index in 0..contours.path_count() {

@@ -1,17 +1,16 @@
 //! The contours of an input's subject, borrowed from the input.
 
-ghost use Rattle.std.specs.Prelude.{◌≡◌, IfOk, IsOkUnless};
+ghost use Rattle.std.specs.Prelude.{◌≡◌, IfOk};
 ghost use Rattle.polyover_text.specs.Statements.{contours_at};
 ghost use Rattle.polyover_engine.specs.Subjects.{subject_of};
 ghost use Rattle.polyover_engine.specs.Borrowed.{points_of_each};
 
 use i_overlay::overlay::ShapeType;
-use overlay_geom::error::OverlayError;
 use overlay_geom::path::PathRef;
 use overlay_geom::point::IntPoint;
 use overlay_geom::resource::IntShapeResource;
 use polyover_text::figures::NumberedContour;
-use std::alloc::Allocator;
+use std::alloc::{AllocError, Allocator};
 
 /// The contours of an input's subject, resolved or not: each is a path. Their points stay where they are.
 #[derive(Drop)]
@@ -21,10 +20,9 @@ pub(crate) struct BorrowedSubject<'a, A: Allocator> {
 }
 
 impl<'a, A: Allocator> BorrowedSubject<'a, A> {
-    /// The contours of the subject among these. The only refusal is `Memory`.
-    pub(crate) fn new(alloc: A, contours: &'a [NumberedContour<A>]) -> Result<Self, OverlayError>
+    /// The contours of the subject among these.
+    pub(crate) fn new(alloc: A, contours: &'a [NumberedContour<A>]) -> Result<Self, AllocError>
         ensures ok { IfOk result (λ s. points_of_each s.contours.items ≡ subject_of (contours_at contours.now)) }
-        ensures err { IsOkUnless result OverlayError.Memory }
     {
         let mut paths = Vec::new(alloc);
         for given in contours {

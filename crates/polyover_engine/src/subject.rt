@@ -1,6 +1,6 @@
 //! The subject of an input as one shape, with each contour resolved.
 
-ghost use Rattle.std.specs.Prelude.{◌≡◌, [], ◌∷◌, ◌++◌, MatchResult, All, OnOk, IsOkUnless};
+ghost use Rattle.std.specs.Prelude.{◌≡◌, [], ◌∷◌, ◌++◌, MatchResult, All, OnOk};
 ghost use Rattle.overlay_geom.specs.Points.{AllInRange};
 ghost use Rattle.overlay_geom.specs.Paths.{paths_of_shape};
 ghost use Rattle.overlay_geom.specs.Numbers.{greatest_of_64_bits};
@@ -11,12 +11,11 @@ ghost use Rattle.polyover_engine.specs.Subjects.{IsSubject, HasNoSubject, AddsCo
 
 use crate::exit::Exit;
 use i_overlay::overlay::ShapeType;
-use overlay_geom::error::OverlayError;
 use overlay_geom::path::IntShape;
 use overlay_geom::point::IntPoint;
 use overlay_relate::resolved::is_resolved_in;
 use polyover_text::figures::NumberedContour;
-use std::alloc::Allocator;
+use std::alloc::{AllocError, Allocator};
 
 /// The contours of the subject, in order, as one shape. The points are in the coordinate range. Ends with
 /// `BadInput` at the line of the first one that is not resolved, and with `Refused(Memory)`.
@@ -62,15 +61,14 @@ fn add<A: Allocator + Copy>(
     }
 }
 
-// Adds a contour with these points to the shape. The only refusal is `Memory`.
+// Adds a contour with these points to the shape.
 fn push_copy<A: Allocator + Copy>(
     alloc: A,
     shape: &mut IntShape<i64, A>,
     points: &[IntPoint<i64>],
-) -> Result<(), OverlayError>
+) -> Result<(), AllocError>
     ensures ok { OnOk result (paths_of_shape (λ z. z) shape.new.items
         ≡ paths_of_shape (λ z. z) shape.old.items ++ points_at points.now ∷ []) }
-    ensures err { IsOkUnless result OverlayError.Memory }
 {
     let mut contour = Vec::new(alloc);
     contour.extend_from_slice(points)?;

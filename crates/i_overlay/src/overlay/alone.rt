@@ -1,6 +1,6 @@
 //! Paths that take the place of what a builder held, as the subject's.
 
-ghost use Rattle.std.specs.Prelude.{◌≡◌, ◌∷◌, [], All, Some, IfOk, OnOk, IsOkUnless};
+ghost use Rattle.std.specs.Prelude.{◌≡◌, ◌∷◌, [], All, Some, IfOk, OnOk};
 ghost use Rattle.overlay_arrange.specs.declared.options.ShapeType.TheVariants.{Subject};
 ghost use Rattle.overlay_builder.specs.GivenPaths.{paths_for};
 ghost use Rattle.overlay_extract.specs.Results.{asked, IsResult};
@@ -22,7 +22,7 @@ use overlay_geom::path::IntShapes;
 use overlay_geom::point::IntPoint;
 use overlay_geom::resource::IntShapeResource;
 use overlay_walk::buffer::BooleanExtractionBuffer;
-use std::alloc::Allocator;
+use std::alloc::{AllocError, Allocator};
 
 impl<I: OverlayInt, A: Allocator + Clone> Overlay<I, A> {
     /// Holds the paths of the resource alone, arranged, and gives the shapes round what the rule fills of
@@ -48,7 +48,7 @@ impl<I: OverlayInt, A: Allocator + Clone> Overlay<I, A> {
         self.hold_alone(resource)?;
         let shapes = self.extract(OverlayRule::Subject, fill_rule);
         self.core.set_failed(shapes.is_err());
-        shapes
+        Ok(shapes?)
     }
 
     /// Holds the paths of the resource alone, arranged.
@@ -92,11 +92,10 @@ impl<I: OverlayInt, A: Allocator + Clone> Overlay<I, A> {
         )
     }
 
-    /// Makes a buffer where there is none. The only refusal is `Memory`.
-    pub(crate) fn keep_buffer(&mut self) -> Result<(), OverlayError>
+    /// Makes a buffer where there is none.
+    pub(crate) fn keep_buffer(&mut self) -> Result<(), AllocError>
         ensures kept { self.new ≡ record self.old { boolean_buffer = self.new.boolean_buffer } }
         ensures buffer { OnOk result (self.new.boolean_buffer ≡ Some tt) }
-        ensures err { IsOkUnless result OverlayError.Memory }
     {
         if self.boolean_buffer.is_none() {
             let alloc = self.core.content().allocator().clone()?;

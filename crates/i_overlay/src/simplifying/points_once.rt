@@ -1,24 +1,22 @@
 //! Whether a contour visits a point twice.
 
-ghost use Rattle.std.specs.Prelude.{◌≡◌, ◌↔◌, IsTrue, IfOk, IsOkUnless};
+ghost use Rattle.std.specs.Prelude.{◌≡◌, ◌↔◌, IsTrue, IfOk};
 ghost use Rattle.overlay_geom.specs.Points.{plain_points};
 ghost use Rattle.overlay_plane.specs.Groups.{HasEachPointOnce};
 ghost use Rattle.i_overlay.specs.Points.{all_next_differ};
 
 use overlay_geom::edge::compare_points;
-use overlay_geom::error::OverlayError;
 use overlay_geom::flat::copied;
 use overlay_geom::number::IntNumber;
 use overlay_geom::point::IntPoint;
-use std::alloc::Allocator;
+use std::alloc::{AllocError, Allocator};
 
-/// Returns whether no point stands twice in the list. The only refusal is `Memory`.
+/// Returns whether no point stands twice in the list.
 pub fn has_each_point_once<I: IntNumber, A: Allocator>(
     alloc: A,
     points: &[IntPoint<I>],
-) -> Result<bool, OverlayError>
+) -> Result<bool, AllocError>
     ensures ok { IfOk result (λ b. IsTrue b ↔ HasEachPointOnce (plain_points I.whole points.now)) }
-    ensures err { IsOkUnless result OverlayError.Memory }
 {
     let mut sorted = copied(alloc, points)?;
     sorted.sort_by(|p, q| compare_points(*p, *q))?;

@@ -1,28 +1,25 @@
 //! The shapes that are left of a simple contour.
 
-ghost use Rattle.std.specs.Prelude.{◌≡◌, ◌∷◌, [], IfOk, IsOkUnless};
+ghost use Rattle.std.specs.Prelude.{◌≡◌, ◌∷◌, [], IfOk};
 ghost use Rattle.overlay_geom.specs.Paths.{plain_shapes};
 ghost use Rattle.overlay_geom.specs.Points.{plain_points};
 ghost use Rattle.i_overlay.specs.Outcome.{shapes_left};
 
 use crate::simplifying::outcome::Outcome;
-use overlay_geom::error::OverlayError;
 use overlay_geom::flat::copied;
 use overlay_geom::number::IntNumber;
 use overlay_geom::path::{IntContour, IntShapes};
 use overlay_geom::point::IntPoint;
-use std::alloc::Allocator;
+use std::alloc::{AllocError, Allocator};
 
-/// Returns the shapes of a contour with this outcome: its one shape, as it is given or reversed, or none. The only
-/// refusal is `Memory`.
+/// Returns the shapes of a contour with this outcome: its one shape, as it is given or reversed, or none.
 pub fn shapes_left<I: IntNumber, A: Allocator + Clone>(
     alloc: A,
     contour: &[IntPoint<I>],
     outcome: Outcome,
-) -> Result<IntShapes<I, A>, OverlayError>
+) -> Result<IntShapes<I, A>, AllocError>
     ensures ok { IfOk result (λ v. plain_shapes I.whole v.items
         ≡ shapes_left outcome (plain_points I.whole contour.now)) }
-    ensures err { IsOkUnless result OverlayError.Memory }
 {
     match outcome {
         Outcome::NotSimple => Ok(Vec::new(alloc)),
@@ -43,9 +40,8 @@ pub fn shapes_left<I: IntNumber, A: Allocator + Clone>(
 fn one_shape<I: IntNumber, A: Allocator + Clone>(
     alloc: A,
     contour: IntContour<I, A>,
-) -> Result<IntShapes<I, A>, OverlayError>
+) -> Result<IntShapes<I, A>, AllocError>
     ensures ok { IfOk result (λ v. plain_shapes I.whole v.items ≡ (plain_points I.whole contour.items ∷ []) ∷ []) }
-    ensures err { IsOkUnless result OverlayError.Memory }
 {
     let mut shape = Vec::new(alloc.clone()?);
     shape.push(contour)?;

@@ -1,6 +1,6 @@
 //! Whether a contour is simple as it was added, and its outcome.
 
-ghost use Rattle.std.specs.Prelude.{◌≡◌, ◌≢◌, ◌↔◌, [], ◌∷◌, IsTrue, IfOk, OnOk, IfErr, IsOkUnless};
+ghost use Rattle.std.specs.Prelude.{◌≡◌, ◌≢◌, ◌↔◌, [], ◌∷◌, IsTrue, IfOk, OnOk, IfErr};
 ghost use Rattle.overlay_arrange.specs.Content.{IsContent};
 ghost use Rattle.overlay_arrange.specs.declared.options.ShapeType.TheVariants.{Subject};
 ghost use Rattle.overlay_builder.specs.GivenPaths.{paths_for};
@@ -24,7 +24,7 @@ use overlay_geom::error::OverlayError;
 use overlay_geom::number::IntNumber;
 use overlay_geom::point::IntPoint;
 use overlay_geom::solver::Solver;
-use std::alloc::Allocator;
+use std::alloc::{AllocError, Allocator};
 
 /// Drops what the core holds and mends it, adds the contour as the subject's, brings it into an
 /// arrangement by the solver, and tells what becomes of the contour where it is simplified. Points on one
@@ -96,10 +96,9 @@ fn add_and_test<I: IntNumber, A: Allocator + Clone>(
 fn visits_each_once<I: IntNumber, A: Allocator + Clone>(
     core: &BuilderCore<I, CountWithData<()>, A>,
     contour: &[IntPoint<I>],
-) -> Result<bool, OverlayError>
+) -> Result<bool, AllocError>
     ensures ok { IfOk result (λ b. IsTrue b
         ↔ ((edges_in core.now.edges ≢ []) × HasEachPointOnce (plain_points I.whole contour.now))) }
-    ensures err { IsOkUnless result OverlayError.Memory }
 {
     if core.content().len() == 0 {
         return Ok(false);

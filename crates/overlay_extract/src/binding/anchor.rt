@@ -1,6 +1,6 @@
 //! Anchors of walks: the lowest edges at their leftmost lowest points.
 
-ghost use Rattle.std.specs.Prelude.{◌≡◌, ◌<◌, length, map, All, Contains, IfOk, IsOkUnless};
+ghost use Rattle.std.specs.Prelude.{◌≡◌, ◌<◌, length, map, All, Contains, IfOk};
 ghost use Rattle.std.specs.Ordering.{is_lt};
 ghost use Rattle.overlay_geom.specs.Plane.{edge_of};
 ghost use Rattle.overlay_plane.specs.Anchors.{IsAnchor, is_anchored_before};
@@ -11,28 +11,26 @@ ghost use Rattle.overlay_walk.specs.WalkEdges.{numbered_entry, numbered_entries}
 ghost use Rattle.overlay_extract.specs.WalkEntries.{AreHoleEntries};
 
 use crate::binding::by_anchor::{compare_anchors, sort_by_anchor};
-use overlay_geom::error::OverlayError;
 use overlay_geom::number::IntNumber;
 use overlay_walk::contour::Contour;
 use overlay_walk::filled_side::edge_along;
 use overlay_walk::numbered_edge::NumberedEdge;
 use overlay_walk::step::Step;
-use std::alloc::Allocator;
+use std::alloc::{AllocError, Allocator};
 use std::cmp::Ordering;
 
 /// Returns the anchors of the walks whose shape is not yet known, in the order of anchors, each with the index of its
-/// walk. The only refusal is `Memory`.
+/// walk.
 pub fn hole_anchors<I: IntNumber, A: Allocator>(
     alloc: A,
     contours: &[Contour<I, A>],
     known: &[Option<usize>],
-) -> Result<Vec<NumberedEdge<I>, A>, OverlayError>
+) -> Result<Vec<NumberedEdge<I>, A>, AllocError>
     requires long { All (All (IsLong I.limit)) (map (walk_of I.whole) contours.now) }
     requires contours { All IsContour (map (walk_of I.whole) contours.now) }
     requires known { length known.now ≡ length contours.now }
     ensures ok { IfOk result (λ v. AreHoleEntries (map (walk_of I.whole) contours.now) known.now
         (numbered_entries I.whole v.items)) }
-    ensures err { IsOkUnless result OverlayError.Memory }
 {
     let mut anchors = Vec::new(alloc);
     for i in 0..contours.len() {

@@ -1,6 +1,6 @@
 //! Binding: the shape that each hole belongs to.
 
-ghost use Rattle.std.specs.Prelude.{◌≡◌, false, length, map, All, AllPairs, Some, IfOk, IsOkUnless};
+ghost use Rattle.std.specs.Prelude.{◌≡◌, false, length, map, All, AllPairs, Some, IfOk};
 ghost use Rattle.overlay_geom.specs.Plane.{edge_of, edge_eq};
 ghost use Rattle.overlay_geom.specs.Settled.{IsSettledBy};
 ghost use Rattle.overlay_plane.specs.Anchors.{HasEachEdgeOnce};
@@ -18,16 +18,14 @@ use crate::binding::roles::{shape_count, shapes_known};
 use crate::binding::side::Side;
 use crate::binding::sweep::parents_by_sweep;
 use overlay_arrange::options::ContourDirection;
-use overlay_geom::error::OverlayError;
 use overlay_geom::number::IntNumber;
 use overlay_scan::scan::Scan;
 use overlay_walk::contour::Contour;
-use std::alloc::Allocator;
+use std::alloc::{AllocError, Allocator};
 
 /// Returns a list of `count` times the number of the first shape.
-fn all_in_first<A: Allocator>(alloc: A, count: usize) -> Result<Vec<Option<usize>, A>, OverlayError>
+fn all_in_first<A: Allocator>(alloc: A, count: usize) -> Result<Vec<Option<usize>, A>, AllocError>
     ensures ok { IfOk result (λ v. (length v.items ≡ count) × All (λ s. s ≡ Some 0) v.items) }
-    ensures err { IsOkUnless result OverlayError.Memory }
 {
     let mut numbers = Vec::new(alloc);
     numbers.resize(count, Some(0))?;
@@ -41,20 +39,18 @@ fn all_in_first<A: Allocator>(alloc: A, count: usize) -> Result<Vec<Option<usize
 /// entries of other contours are left open.
 ///
 /// The contours' edges meet in ends alone, and none walks along an edge twice. No two filled-above edges are equal, nor
-/// two filled-below edges. The scan is empty at first; its content afterwards is left open. The only refusal is
-/// `Memory`.
+/// two filled-below edges. The scan is empty at first; its content afterwards is left open.
 pub fn bind_contours<I: IntNumber, A: Allocator + Clone, S: Scan<I, usize>>(
     alloc: A,
     scan: &mut S,
     contours: &[Contour<I, A>],
     direction: ContourDirection,
-) -> Result<Vec<Option<usize>, A>, OverlayError>
+) -> Result<Vec<Option<usize>, A>, AllocError>
     requires long { All (All (IsLong I.limit)) (walks_in (plain_contours I.whole contours.now)) }
     requires bindable { CanBeBound (filled_hand direction) (walks_in (plain_contours I.whole contours.now)) }
     requires empty { S.content scan.old ≡ empty_sweep }
     ensures found { IfOk result
         (λ v. AreShapesFound (filled_hand direction) (plain_contours I.whole contours.now) v.items) }
-    ensures err { IsOkUnless result OverlayError.Memory }
 {
     if shape_count(contours) == 1 {
         return all_in_first(alloc, contours.len());
@@ -70,7 +66,7 @@ pub fn bind_contours<I: IntNumber, A: Allocator + Clone, S: Scan<I, usize>>(
 /// if none is found for that contour.
 ///
 /// With `Side::Above` holes find their parents. With `Side::Below`, and the holes' places as known, an island finds the
-/// hole round it. The contours are as for [`bind_contours`]. The only refusal is `Memory`.
+/// hole round it. The contours are as for [`bind_contours`].
 pub fn find_shapes<I: IntNumber, A: Allocator + Clone, S: Scan<I, usize>>(
     alloc: A,
     scan: &mut S,
@@ -78,7 +74,7 @@ pub fn find_shapes<I: IntNumber, A: Allocator + Clone, S: Scan<I, usize>>(
     known: &[Option<usize>],
     direction: ContourDirection,
     side: Side,
-) -> Result<Vec<Option<usize>, A>, OverlayError>
+) -> Result<Vec<Option<usize>, A>, AllocError>
     requires long { All (All (IsLong I.limit)) (map (walk_of I.whole) contours.now) }
     requires contours { All IsContour (map (walk_of I.whole) contours.now) }
     requires single { All HasEachEdgeOnce (map (walk_of I.whole) contours.now) }
@@ -91,7 +87,6 @@ pub fn find_shapes<I: IntNumber, A: Allocator + Clone, S: Scan<I, usize>>(
     ensures numbers { IfOk result (λ v. (n : _) → HasShapeNumber
         (hand_on_side side (filled_hand direction))
         (map (walk_of I.whole) contours.now) known.now v.items n) }
-    ensures err { IsOkUnless result OverlayError.Memory }
 {
     parents_by_sweep(
         alloc,

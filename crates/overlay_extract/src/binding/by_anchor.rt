@@ -1,6 +1,6 @@
 //! The order of anchors.
 
-ghost use Rattle.std.specs.Prelude.{◌≡◌, OnOk, IsOkUnless};
+ghost use Rattle.std.specs.Prelude.{◌≡◌, OnOk};
 ghost use Rattle.std.specs.List.Sorted.{IsPermutation};
 ghost use Rattle.std.specs.Ordering.{is_lt};
 ghost use Rattle.overlay_plane.specs.Anchors.{is_anchored_before};
@@ -8,21 +8,18 @@ ghost use Rattle.overlay_scan.specs.Sweeps.{IsByStart};
 ghost use Rattle.overlay_walk.specs.WalkEdges.{numbered_entry, numbered_entries};
 
 use overlay_arrange::edge::compare_points;
-use overlay_geom::error::OverlayError;
 use overlay_geom::number::{IntNumber, WideIntNumber};
 use overlay_geom::vector::cross_at;
 use overlay_walk::numbered_edge::NumberedEdge;
-use std::alloc::Allocator;
+use std::alloc::{AllocError, Allocator};
 use std::cmp::Ordering;
 
-/// Sorts the edges by their smaller ends, and edges from one point by slope, lowest first. The only refusal is
-/// `Memory`.
+/// Sorts the edges by their smaller ends, and edges from one point by slope, lowest first.
 pub fn sort_by_anchor<I: IntNumber, A: Allocator>(
     edges: &mut Vec<NumberedEdge<I>, A>,
-) -> Result<(), OverlayError>
+) -> Result<(), AllocError>
     ensures permutation { IsPermutation edges.old.items edges.new.items }
     ensures order { OnOk result (IsByStart (numbered_entries I.whole edges.new.items)) }
-    ensures err { IsOkUnless result OverlayError.Memory }
 {
     edges.sort_by(|e, f| compare_anchors(e, f))?;
     Ok(())

@@ -1,6 +1,6 @@
 //! The filled-above edges of walks.
 
-ghost use Rattle.std.specs.Prelude.{◌≡◌, ◌++◌, false, All, AllPairs, IfOk, OnOk, IsOkUnless};
+ghost use Rattle.std.specs.Prelude.{◌≡◌, ◌++◌, false, All, AllPairs, IfOk, OnOk};
 ghost use Rattle.std.specs.Prelude.{map};
 ghost use Rattle.overlay_geom.specs.Plane.{edge_eq};
 ghost use Rattle.overlay_plane.specs.Binding.{all_filled_above};
@@ -12,27 +12,24 @@ ghost use Rattle.overlay_extract.specs.WalkEntries.{IsFilledEntry, AreFilledEntr
 
 use crate::binding::by_anchor::sort_by_anchor;
 use overlay_arrange::options::ContourDirection;
-use overlay_geom::error::OverlayError;
 use overlay_geom::number::IntNumber;
 use overlay_walk::contour::Contour;
 use overlay_walk::filled_side::{edge_along, is_filled_above};
 use overlay_walk::numbered_edge::NumberedEdge;
 use overlay_walk::step::Step;
-use std::alloc::Allocator;
+use std::alloc::{AllocError, Allocator};
 
 /// Returns the filled-above edges of all walks, in the order of their smaller ends, each with the index of its walk.
-/// The only refusal is `Memory`.
 pub fn filled_above_edges<I: IntNumber, A: Allocator>(
     alloc: A,
     contours: &[Contour<I, A>],
     direction: ContourDirection,
-) -> Result<Vec<NumberedEdge<I>, A>, OverlayError>
+) -> Result<Vec<NumberedEdge<I>, A>, AllocError>
     requires long { All (All (IsLong I.limit)) (map (walk_of I.whole) contours.now) }
     requires distinct { AllPairs (λ e f. edge_eq e f ≡ false)
         (all_filled_above (filled_hand direction) (map (walk_of I.whole) contours.now)) }
     ensures ok { IfOk result (λ v. AreFilledEntries (filled_hand direction) (map (walk_of I.whole) contours.now)
         (numbered_entries I.whole v.items)) }
-    ensures err { IsOkUnless result OverlayError.Memory }
 {
     let mut edges = edges_walk_by_walk(alloc, contours, direction)?;
     sort_by_anchor(&mut edges)?;
@@ -44,13 +41,12 @@ fn edges_walk_by_walk<I: IntNumber, A: Allocator>(
     alloc: A,
     contours: &[Contour<I, A>],
     direction: ContourDirection,
-) -> Result<Vec<NumberedEdge<I>, A>, OverlayError>
+) -> Result<Vec<NumberedEdge<I>, A>, AllocError>
     requires long { All (All (IsLong I.limit)) (map (walk_of I.whole) contours.now) }
     ensures edges { IfOk result (λ v. map (λ f. f.edge) (numbered_entries I.whole v.items)
         ≡ all_filled_above (filled_hand direction) (map (walk_of I.whole) contours.now)) }
     ensures from { IfOk result (λ v. All (IsFilledEntry (filled_hand direction) (map (walk_of I.whole) contours.now))
         (numbered_entries I.whole v.items)) }
-    ensures err { IsOkUnless result OverlayError.Memory }
 {
     let mut edges = Vec::new(alloc);
     for i in 0..contours.len() {
@@ -65,12 +61,11 @@ fn push_filled<I: IntNumber, A: Allocator>(
     walk: &[Step<I>],
     index: usize,
     direction: ContourDirection,
-) -> Result<(), OverlayError>
+) -> Result<(), AllocError>
     requires { All (IsLong I.limit) (plain_steps I.whole walk.now) }
     ensures ok { OnOk result (numbered_entries I.whole edges.new.items
         ≡ numbered_entries I.whole edges.old.items ++ filled_entries (filled_hand direction) index
         (plain_steps I.whole walk.now)) }
-    ensures err { IsOkUnless result OverlayError.Memory }
 {
     for step in walk {
         if is_filled_above(step, direction) {

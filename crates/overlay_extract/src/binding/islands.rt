@@ -1,6 +1,6 @@
 //! Islands: the hole round each outline.
 
-ghost use Rattle.std.specs.Prelude.{◌≡◌, length, All, IfOk, IsOkUnless};
+ghost use Rattle.std.specs.Prelude.{◌≡◌, length, All, IfOk};
 ghost use Rattle.overlay_plane.specs.BoundContours.{walks_in};
 ghost use Rattle.overlay_plane.specs.Islands.{hole_places, AreHolesRound};
 ghost use Rattle.overlay_plane.specs.KeptContours.{CanBeBound};
@@ -12,11 +12,10 @@ ghost use Rattle.overlay_walk.specs.Steps.{filled_hand, IsLong};
 use crate::binding::bind::find_shapes;
 use crate::binding::side::Side;
 use overlay_arrange::options::ContourDirection;
-use overlay_geom::error::OverlayError;
 use overlay_geom::number::IntNumber;
 use overlay_scan::scan::Scan;
 use overlay_walk::contour::Contour;
-use std::alloc::Allocator;
+use std::alloc::{AllocError, Allocator};
 
 /// Returns for each outline, in order, the place of the hole round it among the contours. The next filled-below edge
 /// below the outline's anchor decides. If a hole has that edge, it is this hole; if an outline has it, the hole round
@@ -24,19 +23,18 @@ use std::alloc::Allocator;
 ///
 /// The contours are as for [`bind_contours`](crate::binding::bind::bind_contours), in any order. Where the contours of
 /// each shape stand together, shape after shape, a place counts through the contours of all shapes. The scan is empty
-/// at first; its content afterwards is left open. The only refusal is `Memory`.
+/// at first; its content afterwards is left open.
 pub fn holes_round<I: IntNumber, A: Allocator + Clone, S: Scan<I, usize>>(
     alloc: A,
     scan: &mut S,
     contours: &[Contour<I, A>],
     direction: ContourDirection,
-) -> Result<Vec<Option<usize>, A>, OverlayError>
+) -> Result<Vec<Option<usize>, A>, AllocError>
     requires long { All (All (IsLong I.limit)) (walks_in (plain_contours I.whole contours.now)) }
     requires bindable { CanBeBound (filled_hand direction) (walks_in (plain_contours I.whole contours.now)) }
     requires empty { S.content scan.old ≡ empty_sweep }
     ensures round { IfOk result
         (λ v. AreHolesRound (filled_hand direction) (plain_contours I.whole contours.now) v.items) }
-    ensures err { IsOkUnless result OverlayError.Memory }
 {
     let places = hole_places(alloc.clone()?, contours)?;
     let found = find_shapes(
@@ -50,13 +48,12 @@ pub fn holes_round<I: IntNumber, A: Allocator + Clone, S: Scan<I, usize>>(
     at_outlines(alloc, contours, &found)
 }
 
-/// Returns for each contour its place if it is a hole, or None if it is an outline. The only refusal is `Memory`.
+/// Returns for each contour its place if it is a hole, or None if it is an outline.
 pub fn hole_places<I: IntNumber, A: Allocator>(
     alloc: A,
     contours: &[Contour<I, A>],
-) -> Result<Vec<Option<usize>, A>, OverlayError>
+) -> Result<Vec<Option<usize>, A>, AllocError>
     ensures ok { IfOk result (λ v. v.items ≡ hole_places 0 (plain_contours I.whole contours.now)) }
-    ensures err { IsOkUnless result OverlayError.Memory }
 {
     let mut places = Vec::new(alloc);
     for i in 0..contours.len() {
@@ -74,10 +71,9 @@ fn at_outlines<I: IntNumber, A: Allocator>(
     alloc: A,
     contours: &[Contour<I, A>],
     found: &[Option<usize>],
-) -> Result<Vec<Option<usize>, A>, OverlayError>
+) -> Result<Vec<Option<usize>, A>, AllocError>
     requires { length found.now ≡ length contours.now }
     ensures ok { IfOk result (λ v. v.items ≡ at_outlines (plain_contours I.whole contours.now) found.now) }
-    ensures err { IsOkUnless result OverlayError.Memory }
 {
     let mut at = Vec::new(alloc);
     for i in 0..contours.len() {

@@ -1,6 +1,6 @@
 //! Contours placed in the shapes to which they are bound, and the placed contours of an overlay.
 
-ghost use Rattle.std.specs.Prelude.{All, IfOk, IsOkUnless};
+ghost use Rattle.std.specs.Prelude.{All, IfOk};
 ghost use Rattle.overlay_plane.specs.Balance.{HasBalancedCounts};
 ghost use Rattle.overlay_plane.specs.BoundContours.{walks_in, AreShapesFound};
 ghost use Rattle.overlay_plane.specs.KeptContours.{CanBeBound};
@@ -19,12 +19,11 @@ use overlay_arrange::count::EdgeCount;
 use overlay_arrange::graph::Graph;
 use overlay_arrange::options::{ContourDirection, IntOverlayOptions};
 use overlay_arrange::overlay_rule::OverlayRule;
-use overlay_geom::error::OverlayError;
 use overlay_geom::number::IntNumber;
 use overlay_walk::buffer::BooleanExtractionBuffer;
 use overlay_walk::contour::Contour;
 use overlay_walk::kept_contours::kept_contours;
-use std::alloc::Allocator;
+use std::alloc::{AllocError, Allocator};
 
 /// Contours and their places in shapes.
 #[derive(Drop)]
@@ -36,22 +35,20 @@ pub struct PlacedContours<I, A: Allocator> {
 }
 
 /// Returns the contours round the region where the rules hold, and their places in the shapes found for them. With
-/// `tree_from` or more shapes the live edges are kept in a tree, else in a list; the answer does not depend on it. The
-/// only refusal is `Memory`.
+/// `tree_from` or more shapes the live edges are kept in a tree, else in a list; the answer does not depend on it.
 pub fn placed_contours<I: IntNumber, C: EdgeCount, A: Allocator + Clone>(
     graph: &Graph<I, C, A>,
     overlay_rule: OverlayRule,
     options: IntOverlayOptions<I::WideUInt>,
     buffer: &mut BooleanExtractionBuffer<I, A>,
     tree_from: usize,
-) -> Result<PlacedContours<I, A>, OverlayError>
+) -> Result<PlacedContours<I, A>, AllocError>
     requires { HasBalancedCounts (graph_edges graph.now) }
     ensures placed { IfOk result (λ p. ArePlacedResults
         (asked I.Wide.width I.WideUInt.natural graph.now.fill_rule overlay_rule options)
         (graph_edges graph.now) (plain_contours I.whole p.contours.items) (place_lists p.places.items)) }
     ensures long { IfOk result
         (λ p. All (All (IsLong I.limit)) (walks_in (plain_contours I.whole p.contours.items))) }
-    ensures err { IsOkUnless result OverlayError.Memory }
 {
     let contours = kept_contours(graph, overlay_rule, options, buffer)?;
     let places = bound_places(graph, &contours, options.output_direction, tree_from)?;
@@ -59,13 +56,13 @@ pub fn placed_contours<I: IntNumber, C: EdgeCount, A: Allocator + Clone>(
 }
 
 /// Returns the places of the contours in the shapes found for them. With `tree_from` or more shapes the live edges are
-/// kept in a tree, else in a list; the answer does not depend on it. The only refusal is `Memory`.
+/// kept in a tree, else in a list; the answer does not depend on it.
 pub fn bound_places<I: IntNumber, C: EdgeCount, A: Allocator + Clone>(
     graph: &Graph<I, C, A>,
     contours: &[Contour<I, A>],
     direction: ContourDirection,
     tree_from: usize,
-) -> Result<Vec<Vec<usize, A>, A>, OverlayError>
+) -> Result<Vec<Vec<usize, A>, A>, AllocError>
     requires long { All (All (IsLong I.limit)) (walks_in (plain_contours I.whole contours.now)) }
     requires bindable { CanBeBound (filled_hand direction) (walks_in (plain_contours I.whole contours.now)) }
     requires placeable { (shapes : _)
@@ -73,7 +70,6 @@ pub fn bound_places<I: IntNumber, C: EdgeCount, A: Allocator + Clone>(
         → CanBePlaced (plain_contours I.whole contours.now) shapes }
     ensures placed { IfOk result (λ v.
         ArePlacedSomehow (filled_hand direction) (plain_contours I.whole contours.now) (place_lists v.items)) }
-    ensures err { IsOkUnless result OverlayError.Memory }
 {
     let alloc = graph.allocator().clone()?;
     let mut scan = scan_for_holes(alloc.clone()?, contours, tree_from);

@@ -1,17 +1,16 @@
 //! The places of contours in the shapes to which they are bound.
 
 ghost use Rattle.std.specs.Prelude.{◌≡◌, ◌∷◌, [], ◌++◌, ◌<◌, length, map, filter, All};
-ghost use Rattle.std.specs.Prelude.{IfOk, IfSome, OnOk, IsOkUnless};
+ghost use Rattle.std.specs.Prelude.{IfOk, IfSome, OnOk};
 ghost use Rattle.overlay_plane.specs.BoundContours.{contours_bound};
 ghost use Rattle.overlay_plane.specs.PlacedContours.{walks_at, CanBePlaced, ArePlaced};
 ghost use Rattle.overlay_plane.specs.RoledContours.{is_outline};
 ghost use Rattle.overlay_walk.specs.GroupedContours.{plain_contours, plain_role};
 ghost use Rattle.overlay_extract.specs.Places.{place_lists, number_as, with_place, AreInside, HasHolesAdded};
 
-use overlay_geom::error::OverlayError;
 use overlay_geom::number::IntNumber;
 use overlay_walk::contour::{Contour, Role};
-use std::alloc::Allocator;
+use std::alloc::{AllocError, Allocator};
 
 /// A kind of holes of a shape.
 #[derive(Clone, Copy)]
@@ -24,16 +23,15 @@ pub enum Holes {
 
 /// Returns for each shape, in the order of the outlines, the places of its contours among all contours. The outline
 /// comes first, then the holes of its group, then the holes for which the shape is found, each kind in order. A hole
-/// without a shape is left out. The only refusal is `Memory`.
+/// without a shape is left out.
 pub fn shape_places<I: IntNumber, A: Allocator + Clone>(
     alloc: A,
     contours: &[Contour<I, A>],
     found: &[Option<usize>],
-) -> Result<Vec<Vec<usize, A>, A>, OverlayError>
+) -> Result<Vec<Vec<usize, A>, A>, AllocError>
     requires { CanBePlaced (plain_contours I.whole contours.now) found.now }
     ensures placed { IfOk result
         (λ v. ArePlaced (plain_contours I.whole contours.now) found.now (place_lists v.items)) }
-    ensures err { IsOkUnless result OverlayError.Memory }
 {
     let mut places = outline_places(alloc, contours)?;
     add_holes(&mut places, contours, found, Holes::OfGroups)?;
@@ -45,12 +43,11 @@ pub fn shape_places<I: IntNumber, A: Allocator + Clone>(
 fn outline_places<I: IntNumber, A: Allocator + Clone>(
     alloc: A,
     contours: &[Contour<I, A>],
-) -> Result<Vec<Vec<usize, A>, A>, OverlayError>
+) -> Result<Vec<Vec<usize, A>, A>, AllocError>
     ensures inside { IfOk result
         (λ v. AreInside (length (plain_contours I.whole contours.now)) (place_lists v.items)) }
     ensures begun { IfOk result (λ v. walks_at (plain_contours I.whole contours.now) (place_lists v.items) ≡
         map (λ c. c.steps ∷ []) (filter (λ c. is_outline c.role) (plain_contours I.whole contours.now))) }
-    ensures err { IsOkUnless result OverlayError.Memory }
 {
     let mut places = Vec::new(alloc.clone()?);
     for i in 0..contours.len() {
@@ -66,10 +63,9 @@ fn push_alone<A: Allocator>(
     alloc: A,
     places: &mut Vec<Vec<usize, A>, A>,
     place: usize,
-) -> Result<(), OverlayError>
+) -> Result<(), AllocError>
     ensures ok { OnOk result
         (place_lists places.new.items ≡ place_lists places.old.items ++ (place ∷ []) ∷ []) }
-    ensures err { IsOkUnless result OverlayError.Memory }
 {
     let mut alone = Vec::new(alloc);
     alone.push(place)?;
@@ -83,7 +79,7 @@ fn add_holes<I: IntNumber, A: Allocator>(
     contours: &[Contour<I, A>],
     found: &[Option<usize>],
     holes: Holes,
-) -> Result<(), OverlayError>
+) -> Result<(), AllocError>
     requires counted { length found.now ≡ length contours.now }
     requires inside { AreInside (length (plain_contours I.whole contours.now)) (place_lists places.old.items) }
     requires numbered { All (λ b. IfSome (number_as holes b.contour.role b.shape)
@@ -91,7 +87,6 @@ fn add_holes<I: IntNumber, A: Allocator>(
     ensures added { OnOk result (HasHolesAdded holes (plain_contours I.whole contours.now)
         (contours_bound (plain_contours I.whole contours.now) found.now)
         (place_lists places.old.items) (place_lists places.new.items)) }
-    ensures err { IsOkUnless result OverlayError.Memory }
 {
     for i in 0..contours.len() {
         let number = number_as(contours[i].role, found[i], holes);
@@ -116,11 +111,10 @@ fn push_place<A: Allocator>(
     places: &mut Vec<Vec<usize, A>, A>,
     number: Option<usize>,
     place: usize,
-) -> Result<(), OverlayError>
+) -> Result<(), AllocError>
     requires { IfSome number (λ n. n < length places.old.items) }
     ensures ok { OnOk result
         (place_lists places.new.items ≡ with_place number place (place_lists places.old.items)) }
-    ensures err { IsOkUnless result OverlayError.Memory }
 {
     match number {
         Some(number) => {

@@ -1,23 +1,21 @@
 //! The shapes of contours as far as they are known from the start, and the number of shapes.
 
-ghost use Rattle.std.specs.Prelude.{◌≡◌, length, filter, IfOk, IsOkUnless};
+ghost use Rattle.std.specs.Prelude.{◌≡◌, length, filter, IfOk};
 ghost use Rattle.overlay_plane.specs.BoundContours.{known_in};
 ghost use Rattle.overlay_plane.specs.RoledContours.{is_outline};
 ghost use Rattle.overlay_walk.specs.GroupedContours.{plain_contours};
 
-use overlay_geom::error::OverlayError;
 use overlay_geom::number::IntNumber;
 use overlay_walk::contour::Contour;
-use std::alloc::Allocator;
+use std::alloc::{AllocError, Allocator};
 
 /// Returns for each contour the number of its shape if it is known from the start, or None for a hole whose shape is
-/// still to be found. The only refusal is `Memory`.
+/// still to be found.
 pub fn shapes_known<I: IntNumber, A: Allocator>(
     alloc: A,
     contours: &[Contour<I, A>],
-) -> Result<Vec<Option<usize>, A>, OverlayError>
+) -> Result<Vec<Option<usize>, A>, AllocError>
     ensures ok { IfOk result (λ v. v.items ≡ known_in (plain_contours I.whole contours.now)) }
-    ensures err { IsOkUnless result OverlayError.Memory }
 {
     let mut known = Vec::new(alloc);
     for i in 0..contours.len() {

@@ -1,7 +1,7 @@
 //! The sweep over walks that finds the shapes of walks whose shape is not yet known.
 
 ghost use Rattle.std.specs.Prelude.{◌≡◌, ◌≤◌, length, map, take, drop, slice_index_or, None};
-ghost use Rattle.std.specs.Prelude.{◌<ℤ◌, false, cond, nat_lt, All, AllPairs, IfOk, IsOkUnless};
+ghost use Rattle.std.specs.Prelude.{◌<ℤ◌, false, cond, nat_lt, All, AllPairs, IfOk};
 ghost use Rattle.std.specs.Option.{is_some};
 ghost use Rattle.overlay_geom.specs.Plane.{edge_of, edge_eq};
 ghost use Rattle.overlay_geom.specs.Settled.{IsSettledBy};
@@ -19,23 +19,21 @@ ghost use Rattle.overlay_walk.specs.WalkEdges.{numbered_entry, numbered_entries}
 use crate::binding::anchor::hole_anchors;
 use crate::binding::filled_above_edges::filled_above_edges;
 use overlay_arrange::options::ContourDirection;
-use overlay_geom::error::OverlayError;
 use overlay_geom::number::IntNumber;
 use overlay_scan::scan::Scan;
 use overlay_walk::contour::Contour;
 use overlay_walk::numbered_edge::NumberedEdge;
-use std::alloc::Allocator;
+use std::alloc::{AllocError, Allocator};
 
 /// Returns for each walk whose shape is not known (`known` has None there) the number of the shape found for it by its
-/// next filled-above edge, if there is one. The scan is empty at first; its content afterwards is left open. The only
-/// refusal is `Memory`.
+/// next filled-above edge, if there is one. The scan is empty at first; its content afterwards is left open.
 pub fn parents_by_sweep<I: IntNumber, A: Allocator + Clone, S: Scan<I, usize>>(
     alloc: A,
     scan: &mut S,
     contours: &[Contour<I, A>],
     known: &[Option<usize>],
     direction: ContourDirection,
-) -> Result<Vec<Option<usize>, A>, OverlayError>
+) -> Result<Vec<Option<usize>, A>, AllocError>
     requires long { All (All (IsLong I.limit)) (map (walk_of I.whole) contours.now) }
     requires contours { All IsContour (map (walk_of I.whole) contours.now) }
     requires single { All HasEachEdgeOnce (map (walk_of I.whole) contours.now) }
@@ -47,7 +45,6 @@ pub fn parents_by_sweep<I: IntNumber, A: Allocator + Clone, S: Scan<I, usize>>(
     ensures counted { IfOk result (λ v. length v.items ≡ length contours.now) }
     ensures numbers { IfOk result (λ v. (n : _) → HasShapeNumber (filled_hand direction)
         (map (walk_of I.whole) contours.now) known.now v.items n) }
-    ensures err { IsOkUnless result OverlayError.Memory }
 {
     let anchors = hole_anchors(alloc.clone()?, contours, known)?;
     let mut parents = Vec::new(alloc.clone()?);
@@ -66,13 +63,13 @@ pub fn parents_by_sweep<I: IntNumber, A: Allocator + Clone, S: Scan<I, usize>>(
 }
 
 /// Inserts the edges over x from an index on, each with its walk's index, and returns the index of the first edge that
-/// starts to the right of x. The only refusal is `Memory`.
+/// starts to the right of x.
 fn insert_up_to<I: IntNumber, S: Scan<I, usize>>(
     scan: &mut S,
     edges: &[NumberedEdge<I>],
     from: usize,
     x: I,
-) -> Result<usize, OverlayError>
+) -> Result<usize, AllocError>
     requires from { from ≤ length edges.now }
     requires order { IsByStart (numbered_entries I.whole edges.now) }
     requires distinct { AllPairs (λ f g. edge_eq f.edge g.edge ≡ false) (numbered_entries I.whole edges.now) }
@@ -82,7 +79,6 @@ fn insert_up_to<I: IntNumber, S: Scan<I, usize>>(
     ensures swept { IfOk result (λ n. IsSwept I.limit (I.whole x) (take n (numbered_entries I.whole edges.now))
         (S.content scan.new)) }
     ensures rest { IfOk result (λ n. All (λ f. I.whole x <ℤ f.edge.a.x) (drop n (numbered_entries I.whole edges.now))) }
-    ensures err { IsOkUnless result OverlayError.Memory }
 {
     for i in from..edges.len() {
         let e = &edges[i];
@@ -90,7 +86,9 @@ fn insert_up_to<I: IntNumber, S: Scan<I, usize>>(
             return Ok(i);
         }
         if x.compare(e.b.x).is_lt() {
-            scan.insert([e.a, e.b], e.number, x)?;
+            let Ok(()) = scan.insert([e.a, e.b], e.number, x) else {
+                return Err(AllocError);
+            };
         }
     }
     Ok(edges.len())

@@ -1,6 +1,6 @@
 //! Closed walks cut into loops, at the points that they visit more than once.
 
-ghost use Rattle.std.specs.Prelude.{◌≡◌, ◌<◌, ◌++◌, [], ◌∷◌, length, take, All, IfOk, OnOk, IsOkUnless};
+ghost use Rattle.std.specs.Prelude.{◌≡◌, ◌<◌, ◌++◌, [], ◌∷◌, length, take, All, IfOk, OnOk};
 ghost use Rattle.overlay_geom.specs.Points.{plain_point};
 ghost use Rattle.overlay_extract.specs.ClosedWalks.{HasLength, IsClosedWalk, IsCutIntoLoops};
 ghost use Rattle.overlay_extract.specs.ClosedWalks.{IsCutSoFar, IsPlaceLeft, NoneLeaves};
@@ -10,27 +10,24 @@ ghost use Rattle.overlay_walk.specs.Steps.{plain_step, plain_steps};
 ghost use Rattle.overlay_walk.specs.Walks.{plain_walks};
 
 use overlay_geom::edge::compare_points;
-use overlay_geom::error::OverlayError;
 use overlay_geom::number::IntNumber;
 use overlay_geom::point::IntPoint;
 use overlay_walk::step::Step;
-use std::alloc::Allocator;
+use std::alloc::{AllocError, Allocator};
 
-/// Cuts a closed walk into loops that visit no point twice. Where the walk comes back to a point, the steps since
-/// it left that point are a loop, with the step from the point last; what is left at the end is the last loop, and
-/// begins where the walk does. Two steps there and back make no loop, and are dropped. The only refusal is
-/// `Memory`.
+/// Cuts a closed walk into loops that visit no point twice. Where the walk comes back to a point, the steps since it
+/// left that point are a loop, with the step from the point last; what is left at the end is the last loop, and begins
+/// where the walk does. Two steps there and back make no loop, and are dropped.
 pub fn cut_loops<I: IntNumber, A: Allocator + Clone>(
     alloc: A,
     walk: &[Step<I>],
-) -> Result<Vec<Vec<Step<I>, A>, A>, OverlayError>
+) -> Result<Vec<Vec<Step<I>, A>, A>, AllocError>
     requires closed { IsClosedWalk (plain_steps I.whole walk.now) }
     requires long { All HasLength (plain_steps I.whole walk.now) }
     ensures cut { IfOk result
         (λ ls. IsCutIntoLoops (plain_steps I.whole walk.now) (plain_walks I.whole ls.items)) }
     ensures order { IfOk result
         (λ ls. IsCutAtRepeats (plain_steps I.whole walk.now) (plain_walks I.whole ls.items)) }
-    ensures err { IsOkUnless result OverlayError.Memory }
 {
     let mut cutter = LoopCutter::new(alloc)?;
     for place in 0..walk.len() {
@@ -50,10 +47,9 @@ struct LoopCutter<I: IntNumber, A: Allocator> {
 
 impl<I: IntNumber, A: Allocator + Clone> LoopCutter<I, A> {
     // Before the first step.
-    fn new(alloc: A) -> Result<Self, OverlayError>
+    fn new(alloc: A) -> Result<Self, AllocError>
         ensures path { IfOk result (λ c. c.path.items ≡ []) }
         ensures loops { IfOk result (λ c. c.loops.items ≡ []) }
-        ensures err { IsOkUnless result OverlayError.Memory }
     {
         Ok(LoopCutter {
             path: Vec::new(alloc.clone()?),
@@ -62,7 +58,7 @@ impl<I: IntNumber, A: Allocator + Clone> LoopCutter<I, A> {
     }
 
     // Goes on by a step from the point reached.
-    fn visit(&mut self, step: Step<I>) -> Result<(), OverlayError>
+    fn visit(&mut self, step: Step<I>) -> Result<(), AllocError>
         requires { HasLength (plain_step I.whole step) }
         ensures on { OnOk result ((start : _) (walked : _) →
             IsCutSoFar start (plain_step I.whole step).from walked (plain_steps I.whole self.old.path.items)
@@ -74,7 +70,6 @@ impl<I: IntNumber, A: Allocator + Clone> LoopCutter<I, A> {
             (plain_walks I.whole self.old.loops.items) →
             IsCutOnTheWay walk (plain_steps I.whole self.new.path.items) rest
             (plain_walks I.whole self.new.loops.items)) }
-        ensures err { IsOkUnless result OverlayError.Memory }
     {
         self.cut_at(step.from)?;
         self.path.push(step)?;
@@ -82,7 +77,7 @@ impl<I: IntNumber, A: Allocator + Clone> LoopCutter<I, A> {
     }
 
     // Cuts off what is walked since the point reached was visited before, if it was.
-    fn cut_at(&mut self, point: IntPoint<I>) -> Result<(), OverlayError>
+    fn cut_at(&mut self, point: IntPoint<I>) -> Result<(), AllocError>
         ensures cut { OnOk result ((start : _) (walked : _) →
             IsCutSoFar start (plain_point I.whole point) walked (plain_steps I.whole self.old.path.items)
             (plain_walks I.whole self.old.loops.items) →
@@ -95,7 +90,6 @@ impl<I: IntNumber, A: Allocator + Clone> LoopCutter<I, A> {
             IsCutOnTheWay walk (plain_steps I.whole self.new.path.items) (t ∷ rest)
             (plain_walks I.whole self.new.loops.items)
             × NoneLeaves (plain_point I.whole point) (plain_steps I.whole self.new.path.items)) }
-        ensures err { IsOkUnless result OverlayError.Memory }
     {
         let Some(place) = place_left(&self.path, point) else {
             return Ok(());
@@ -105,7 +99,7 @@ impl<I: IntNumber, A: Allocator + Clone> LoopCutter<I, A> {
     }
 
     // Cuts off the path from a place on, which leads back to the point that the step there leaves.
-    fn cut_from(&mut self, place: usize) -> Result<(), OverlayError>
+    fn cut_from(&mut self, place: usize) -> Result<(), AllocError>
         requires { place < length self.old.path.items }
         ensures path { OnOk result (self.new.path.items ≡ take place self.old.path.items) }
         ensures cut { OnOk result ((start : _) (walked : _) →
@@ -119,7 +113,6 @@ impl<I: IntNumber, A: Allocator + Clone> LoopCutter<I, A> {
             (plain_walks I.whole self.old.loops.items) →
             IsCutOnTheWay walk (plain_steps I.whole self.new.path.items) (t ∷ rest)
             (plain_walks I.whole self.new.loops.items)) }
-        ensures err { IsOkUnless result OverlayError.Memory }
     {
         let mut tail = self.path.split_off(place)?;
         if tail.len() < 3 {
@@ -131,14 +124,13 @@ impl<I: IntNumber, A: Allocator + Clone> LoopCutter<I, A> {
     }
 
     // The loops at the end of the walk: those cut off, and last what is left.
-    fn into_loops(self) -> Result<Vec<Vec<Step<I>, A>, A>, OverlayError>
+    fn into_loops(self) -> Result<Vec<Vec<Step<I>, A>, A>, AllocError>
         ensures cut { IfOk result (λ ls. (start : _) (walked : _) →
             IsCutSoFar start start walked (plain_steps I.whole self.path.items) (plain_walks I.whole self.loops.items) →
             IsCutIntoLoops walked (plain_walks I.whole ls.items)) }
         ensures order { IfOk result (λ ls. (walk : _) →
             IsCutOnTheWay walk (plain_steps I.whole self.path.items) [] (plain_walks I.whole self.loops.items) →
             IsCutAtRepeats walk (plain_walks I.whole ls.items)) }
-        ensures err { IsOkUnless result OverlayError.Memory }
     {
         let LoopCutter { path, mut loops } = self;
         if path.len() < 3 {

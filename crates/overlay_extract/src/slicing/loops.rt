@@ -1,6 +1,6 @@
 //! The loops into which the filled sides of a graph are cut.
 
-ghost use Rattle.std.specs.Prelude.{◌≡◌, map, All, IfOk, IsOkUnless};
+ghost use Rattle.std.specs.Prelude.{◌≡◌, map, All, IfOk};
 ghost use Rattle.overlay_geom.specs.Edges.{subj_of};
 ghost use Rattle.overlay_geom.specs.Plane.{backward};
 ghost use Rattle.overlay_plane.specs.Balance.{HasBalancedCounts};
@@ -23,10 +23,9 @@ use crate::slicing::tour_order::is_walked_along;
 use crate::slicing::tours::tours;
 use overlay_arrange::count::EdgeCount;
 use overlay_arrange::graph::Graph;
-use overlay_geom::error::OverlayError;
 use overlay_geom::number::IntNumber;
 use overlay_walk::step::Step;
-use std::alloc::Allocator;
+use std::alloc::{AllocError, Allocator};
 
 /// The loops into which the filled sides of the graph's edges are cut, each with the filled side on its left. None of
 /// them visits a point twice. A side is left out exactly where its reverse is a filled side too and both lie in one
@@ -34,16 +33,15 @@ use std::alloc::Allocator;
 ///
 /// They are found tour by tour. A tour is walked from its start along the first edge in order of the two that it has
 /// there, also where it comes back along this edge, and so is walked back; a loop of a tour that is walked back is
-/// turned round at the end. The counts of the edges are balanced. The only refusal is `Memory`.
+/// turned round at the end. The counts of the edges are balanced.
 pub fn filled_loops<I: IntNumber, C: EdgeCount, A: Allocator + Clone>(
     graph: &Graph<I, C, A>,
-) -> Result<Vec<Vec<Step<I>, A>, A>, OverlayError>
+) -> Result<Vec<Vec<Step<I>, A>, A>, AllocError>
     requires { HasBalancedCounts (graph_edges graph.now) }
     ensures loops { IfOk result (λ ls. AreLoops
         (filled_sides (is_filled graph.now.fill_rule) subj_of (graph_edges graph.now)) (plain_walks I.whole ls.items)) }
     ensures order { IfOk result (λ ls. AreFoundInOrder
         (filled_sides (is_filled graph.now.fill_rule) subj_of (graph_edges graph.now)) (plain_walks I.whole ls.items)) }
-    ensures err { IsOkUnless result OverlayError.Memory }
 {
     graph.note_arrangement();
     let orbits = side_orbits(graph)?;
@@ -55,14 +53,13 @@ pub fn filled_loops<I: IntNumber, C: EdgeCount, A: Allocator + Clone>(
 fn loops_of<I: IntNumber, A: Allocator + Clone>(
     alloc: A,
     tours: &[Vec<Step<I>, A>],
-) -> Result<Vec<Vec<Step<I>, A>, A>, OverlayError>
+) -> Result<Vec<Vec<Step<I>, A>, A>, AllocError>
     requires closed { All IsClosedWalk (plain_walks I.whole tours.now) }
     requires long { All (All HasLength) (plain_walks I.whole tours.now) }
     ensures loops { IfOk result
         (λ ls. AreCutIntoLoops (plain_walks I.whole tours.now) (plain_walks I.whole ls.items)) }
     ensures order { IfOk result
         (λ ls. AreLoopsOfTours (plain_walks I.whole tours.now) (plain_walks I.whole ls.items)) }
-    ensures err { IsOkUnless result OverlayError.Memory }
 {
     let mut loops = Vec::new(alloc.clone()?);
     for i in 0..tours.len() {
@@ -76,14 +73,13 @@ fn loops_of<I: IntNumber, A: Allocator + Clone>(
 fn loops_of_tour<I: IntNumber, A: Allocator + Clone>(
     alloc: A,
     tour: &[Step<I>],
-) -> Result<Vec<Vec<Step<I>, A>, A>, OverlayError>
+) -> Result<Vec<Vec<Step<I>, A>, A>, AllocError>
     requires closed { IsClosedWalk (plain_steps I.whole tour.now) }
     requires long { All HasLength (plain_steps I.whole tour.now) }
     ensures loops { IfOk result
         (λ ls. IsCutIntoLoops (plain_steps I.whole tour.now) (plain_walks I.whole ls.items)) }
     ensures order { IfOk result
         (λ ls. AreLoopsOfTour (plain_steps I.whole tour.now) (plain_walks I.whole ls.items)) }
-    ensures err { IsOkUnless result OverlayError.Memory }
 {
     if is_walked_along(tour) {
         return cut_loops(alloc, tour);
@@ -97,11 +93,10 @@ fn loops_of_tour<I: IntNumber, A: Allocator + Clone>(
 fn turned_loops<I: IntNumber, A: Allocator + Clone>(
     alloc: A,
     loops: &[Vec<Step<I>, A>],
-) -> Result<Vec<Vec<Step<I>, A>, A>, OverlayError>
+) -> Result<Vec<Vec<Step<I>, A>, A>, AllocError>
     requires { All IsSimpleContour (plain_walks I.whole loops.now) }
     ensures turned { IfOk result
         (λ ls. plain_walks I.whole ls.items ≡ map turned_loop (plain_walks I.whole loops.now)) }
-    ensures err { IsOkUnless result OverlayError.Memory }
 {
     let mut turned = Vec::new(alloc.clone()?);
     for i in 0..loops.len() {
@@ -116,9 +111,8 @@ fn turned_loops<I: IntNumber, A: Allocator + Clone>(
 fn walked_back<I: IntNumber, A: Allocator>(
     alloc: A,
     walk: &[Step<I>],
-) -> Result<Vec<Step<I>, A>, OverlayError>
+) -> Result<Vec<Step<I>, A>, AllocError>
     ensures back { IfOk result (λ w. plain_steps I.whole w.items ≡ backward (plain_steps I.whole walk.now)) }
-    ensures err { IsOkUnless result OverlayError.Memory }
 {
     let mut back = Vec::with_capacity(alloc, walk.len())?;
     for place in 0..walk.len() {

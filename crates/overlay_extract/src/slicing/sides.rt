@@ -1,6 +1,6 @@
 //! The filled sides of edges, as steps.
 
-ghost use Rattle.std.specs.Prelude.{◌≡◌, ◌++◌, map, OnOk, IsOkUnless};
+ghost use Rattle.std.specs.Prelude.{◌≡◌, ◌++◌, map, OnOk};
 ghost use Rattle.std.specs.List.{flat_map};
 ghost use Rattle.overlay_geom.specs.Plane.{reversed_step};
 ghost use Rattle.overlay_arrange.specs.Vectors.{plain_vector};
@@ -8,20 +8,18 @@ ghost use Rattle.overlay_extract.specs.SidesByBits.{step_if, sides_by_bits};
 ghost use Rattle.overlay_walk.specs.Steps.{plain_step, plain_steps};
 
 use overlay_arrange::vector::{DataVectorEdge, SUBJ_LEFT, SUBJ_RIGHT};
-use overlay_geom::error::OverlayError;
 use overlay_geom::number::IntNumber;
 use overlay_walk::step::Step;
-use std::alloc::Allocator;
+use std::alloc::{AllocError, Allocator};
 
 /// Adds, for each edge and each side of it that the subject fills, the step along the edge that has this side on its
-/// left, with the number of the edge. The only refusal is `Memory`, and then some of them may stand.
+/// left, with the number of the edge. After a refusal, some of them may stand.
 pub fn push_sides<I: IntNumber, D: Copy, A: Allocator>(
     steps: &mut Vec<Step<I>, A>,
     edges: &[DataVectorEdge<I, D>],
-) -> Result<(), OverlayError>
+) -> Result<(), AllocError>
     ensures ok { OnOk result (plain_steps I.whole steps.new.items ≡ plain_steps I.whole steps.old.items
         ++ flat_map sides_by_bits (map (plain_vector I.whole) edges.now)) }
-    ensures err { IsOkUnless result OverlayError.Memory }
 {
     for number in 0..edges.len() {
         push_sides_of(steps, edges[number], number)?;
@@ -34,10 +32,9 @@ fn push_sides_of<I: IntNumber, D: Copy, A: Allocator>(
     steps: &mut Vec<Step<I>, A>,
     edge: DataVectorEdge<I, D>,
     number: usize,
-) -> Result<(), OverlayError>
+) -> Result<(), AllocError>
     ensures ok { OnOk result (plain_steps I.whole steps.new.items ≡ plain_steps I.whole steps.old.items
         ++ sides_by_bits (plain_vector I.whole edge)) }
-    ensures err { IsOkUnless result OverlayError.Memory }
 {
     let forth = Step {
         from: edge.a,
@@ -54,10 +51,9 @@ fn push_if<I: IntNumber, A: Allocator>(
     steps: &mut Vec<Step<I>, A>,
     is_filled: bool,
     step: Step<I>,
-) -> Result<(), OverlayError>
+) -> Result<(), AllocError>
     ensures ok { OnOk result (plain_steps I.whole steps.new.items
         ≡ plain_steps I.whole steps.old.items ++ step_if is_filled (plain_step I.whole step)) }
-    ensures err { IsOkUnless result OverlayError.Memory }
 {
     if !is_filled {
         return Ok(());

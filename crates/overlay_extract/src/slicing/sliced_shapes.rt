@@ -1,6 +1,6 @@
 //! The shapes into which the filled region of a graph is sliced.
 
-ghost use Rattle.std.specs.Prelude.{IfOk, IsOkUnless};
+ghost use Rattle.std.specs.Prelude.{IfOk};
 ghost use Rattle.overlay_geom.specs.Paths.{plain_shapes};
 ghost use Rattle.overlay_plane.specs.Balance.{HasBalancedCounts};
 ghost use Rattle.overlay_arrange.specs.Graphs.{graph_edges};
@@ -14,40 +14,37 @@ use crate::slicing::slices::slice_contours_with_trees_from;
 use overlay_arrange::count::EdgeCount;
 use overlay_arrange::graph::Graph;
 use overlay_arrange::options::ContourDirection;
-use overlay_geom::error::OverlayError;
 use overlay_geom::number::{IntNumber, UIntNumber, WideIntNumber};
 use overlay_geom::path::IntShapes;
-use std::alloc::Allocator;
+use std::alloc::{AllocError, Allocator};
 
 /// The shapes into which the region that the subject fills is sliced along the graph's edges: of each shape its
-/// outline, and then its holes, both in the order in which they are found. No contour visits a point twice, and
-/// points on one line with their neighbours stay. Outlines run in the direction, and holes against it. Contours
-/// below the minimum area are left out. The counts of the edges are balanced. The only refusal is `Memory`.
+/// outline, and then its holes, both in the order in which they are found. No contour visits a point twice, and points
+/// on one line with their neighbours stay. Outlines run in the direction, and holes against it. Contours below the
+/// minimum area are left out. The counts of the edges are balanced.
 pub fn sliced_shapes<I: IntNumber, C: EdgeCount, A: Allocator + Clone>(
     graph: &Graph<I, C, A>,
     direction: ContourDirection,
     min_output_area: I::WideUInt,
-) -> Result<IntShapes<I, A>, OverlayError>
+) -> Result<IntShapes<I, A>, AllocError>
     requires { HasBalancedCounts (graph_edges graph.now) }
     ensures sliced { IfOk result (λ v. IsSliced I.Wide.width (I.WideUInt.natural min_output_area) graph.now.fill_rule
         direction (graph_edges graph.now) (plain_shapes I.whole v.items)) }
-    ensures err { IsOkUnless result OverlayError.Memory }
 {
     sliced_shapes_with_trees_from(graph, direction, min_output_area, TREE_FROM_PARENTS)
 }
 
 /// The shapes that [`sliced_shapes`] gives, for a limit of the caller's: where there are `tree_from` shapes or more
-/// their live edges are kept in a tree, and else in a list. The only refusal is `Memory`.
+/// their live edges are kept in a tree, and else in a list.
 pub fn sliced_shapes_with_trees_from<I: IntNumber, C: EdgeCount, A: Allocator + Clone>(
     graph: &Graph<I, C, A>,
     direction: ContourDirection,
     min_output_area: I::WideUInt,
     tree_from: usize,
-) -> Result<IntShapes<I, A>, OverlayError>
+) -> Result<IntShapes<I, A>, AllocError>
     requires { HasBalancedCounts (graph_edges graph.now) }
     ensures sliced { IfOk result (λ v. IsSliced I.Wide.width (I.WideUInt.natural min_output_area) graph.now.fill_rule
         direction (graph_edges graph.now) (plain_shapes I.whole v.items)) }
-    ensures err { IsOkUnless result OverlayError.Memory }
 {
     graph.note_arrangement();
     let slices = slice_contours_with_trees_from(graph, min_output_area, tree_from)?;

@@ -1,6 +1,6 @@
 //! Slices: the loops of a graph's filled sides as contours of shapes.
 
-ghost use Rattle.std.specs.Prelude.{All, IfOk, IsOkUnless};
+ghost use Rattle.std.specs.Prelude.{All, IfOk};
 ghost use Rattle.overlay_plane.specs.Balance.{HasBalancedCounts};
 ghost use Rattle.overlay_plane.specs.BoundContours.{walks_in};
 ghost use Rattle.overlay_arrange.specs.Graphs.{graph_edges};
@@ -15,11 +15,10 @@ use crate::slicing::roles::contours_of_loops;
 use overlay_arrange::count::EdgeCount;
 use overlay_arrange::graph::Graph;
 use overlay_arrange::options::ContourDirection;
-use overlay_geom::error::OverlayError;
 use overlay_geom::number::{IntNumber, UIntNumber, WideIntNumber};
 use overlay_walk::area::large_walks;
 use overlay_walk::contour::Contour;
-use std::alloc::Allocator;
+use std::alloc::{AllocError, Allocator};
 
 /// Contours, and for each the number of the shape that is found for it, if it is a hole.
 #[derive(Drop)]
@@ -32,34 +31,32 @@ pub struct SliceContours<I, A: Allocator> {
 
 /// The contours of the slices of the graph's filled region: the loops into which its filled sides are cut, as far as
 /// they reach the minimum area, and the shapes to which the holes among them are bound. The counts of the edges are
-/// balanced. The only refusal is `Memory`.
+/// balanced.
 pub fn slice_contours<I: IntNumber, C: EdgeCount, A: Allocator + Clone>(
     graph: &Graph<I, C, A>,
     min_output_area: I::WideUInt,
-) -> Result<SliceContours<I, A>, OverlayError>
+) -> Result<SliceContours<I, A>, AllocError>
     requires { HasBalancedCounts (graph_edges graph.now) }
     ensures slices { IfOk result (λ s. AreSlices I.Wide.width (I.WideUInt.natural min_output_area)
         graph.now.fill_rule (graph_edges graph.now) (plain_contours I.whole s.contours.items) s.shapes.items) }
     ensures long { IfOk result
         (λ s. All (All (IsLong I.limit)) (walks_in (plain_contours I.whole s.contours.items))) }
-    ensures err { IsOkUnless result OverlayError.Memory }
 {
     slice_contours_with_trees_from(graph, min_output_area, TREE_FROM_PARENTS)
 }
 
 /// The contours that [`slice_contours`] gives, for a limit of the caller's: where there are `tree_from` shapes or more
-/// their live edges are kept in a tree, and else in a list. The only refusal is `Memory`.
+/// their live edges are kept in a tree, and else in a list.
 pub fn slice_contours_with_trees_from<I: IntNumber, C: EdgeCount, A: Allocator + Clone>(
     graph: &Graph<I, C, A>,
     min_output_area: I::WideUInt,
     tree_from: usize,
-) -> Result<SliceContours<I, A>, OverlayError>
+) -> Result<SliceContours<I, A>, AllocError>
     requires { HasBalancedCounts (graph_edges graph.now) }
     ensures slices { IfOk result (λ s. AreSlices I.Wide.width (I.WideUInt.natural min_output_area)
         graph.now.fill_rule (graph_edges graph.now) (plain_contours I.whole s.contours.items) s.shapes.items) }
     ensures long { IfOk result
         (λ s. All (All (IsLong I.limit)) (walks_in (plain_contours I.whole s.contours.items))) }
-    ensures err { IsOkUnless result OverlayError.Memory }
 {
     graph.note_arrangement();
     let contours = kept_loops(graph, min_output_area)?;
@@ -78,12 +75,11 @@ pub fn slice_contours_with_trees_from<I: IntNumber, C: EdgeCount, A: Allocator +
 fn kept_loops<I: IntNumber, C: EdgeCount, A: Allocator + Clone>(
     graph: &Graph<I, C, A>,
     min_output_area: I::WideUInt,
-) -> Result<Vec<Contour<I, A>, A>, OverlayError>
+) -> Result<Vec<Contour<I, A>, A>, AllocError>
     requires { HasBalancedCounts (graph_edges graph.now) }
     ensures contours { IfOk result (λ cs. AreSliceContours I.Wide.width (I.WideUInt.natural min_output_area)
         graph.now.fill_rule (graph_edges graph.now) (plain_contours I.whole cs.items)) }
     ensures long { IfOk result (λ cs. All (All (IsLong I.limit)) (walks_in (plain_contours I.whole cs.items))) }
-    ensures err { IsOkUnless result OverlayError.Memory }
 {
     graph.note_arrangement();
     let loops = filled_loops(graph)?;

@@ -1,6 +1,6 @@
 //! The tours of orbits: closed walks from the smallest point of an orbit back to it.
 
-ghost use Rattle.std.specs.Prelude.{◌≡◌, ◌<◌, ◌≤◌, ◌++◌, [], ◌∷◌, false, length, All, IfOk, OnOk, IsOkUnless};
+ghost use Rattle.std.specs.Prelude.{◌≡◌, ◌<◌, ◌≤◌, ◌++◌, [], ◌∷◌, false, length, All, IfOk, OnOk};
 ghost use Rattle.overlay_geom.specs.Plane.{point_lt};
 ghost use Rattle.overlay_geom.specs.Points.{plain_point};
 ghost use Rattle.overlay_extract.specs.ClosedWalks.{IsClosedWalk};
@@ -12,27 +12,24 @@ ghost use Rattle.overlay_walk.specs.Walks.{plain_walks};
 
 use crate::slicing::tour_order::compare_tours;
 use overlay_geom::edge::compare_points;
-use overlay_geom::error::OverlayError;
 use overlay_geom::number::IntNumber;
 use overlay_geom::point::IntPoint;
 use overlay_walk::step::Step;
-use std::alloc::Allocator;
+use std::alloc::{AllocError, Allocator};
 use std::mem;
 
 /// The tours of the orbits. Each leads from the smallest point of an orbit back to this point, which it does not visit
 /// in between. They stand in the order in which the edges come along which they leave that point or come back to it,
-/// each at the first of the two; of two tours at one edge the one comes first that leaves along it. The only refusal is
-/// `Memory`.
+/// each at the first of the two; of two tours at one edge the one comes first that leaves along it.
 pub fn tours<I: IntNumber, A: Allocator + Clone>(
     alloc: A,
     orbits: &[Vec<Step<I>, A>],
-) -> Result<Vec<Vec<Step<I>, A>, A>, OverlayError>
+) -> Result<Vec<Vec<Step<I>, A>, A>, AllocError>
     requires { All IsClosedWalk (plain_walks I.whole orbits.now) }
     ensures tours { IfOk result
         (λ ts. AreSplitIntoTours (plain_walks I.whole orbits.now) (plain_walks I.whole ts.items)) }
     ensures order { IfOk result
         (λ ts. AreToursInOrder (plain_walks I.whole orbits.now) (plain_walks I.whole ts.items)) }
-    ensures err { IsOkUnless result OverlayError.Memory }
 {
     let mut tours = Vec::new(alloc.clone()?);
     for i in 0..orbits.len() {
@@ -47,12 +44,11 @@ pub fn tours<I: IntNumber, A: Allocator + Clone>(
 fn tours_of<I: IntNumber, A: Allocator + Clone>(
     alloc: A,
     orbit: &[Step<I>],
-) -> Result<Vec<Vec<Step<I>, A>, A>, OverlayError>
+) -> Result<Vec<Vec<Step<I>, A>, A>, AllocError>
     requires { IsClosedWalk (plain_steps I.whole orbit.now) }
     ensures tours { IfOk result (λ ts. IsSplitInto (plain_steps I.whole orbit.now) (plain_walks I.whole ts.items)) }
     ensures least { IfOk result
         (λ ts. IsSplitAtLeast (plain_steps I.whole orbit.now) (plain_walks I.whole ts.items)) }
-    ensures err { IsOkUnless result OverlayError.Memory }
 {
     let mut from_least = Vec::from_slice(alloc.clone()?, orbit)?;
     from_least.rotate_left(least_place(orbit));
@@ -79,12 +75,11 @@ fn least_place<I: IntNumber>(orbit: &[Step<I>]) -> usize
 fn split<I: IntNumber, A: Allocator + Clone>(
     alloc: A,
     walk: &[Step<I>],
-) -> Result<Vec<Vec<Step<I>, A>, A>, OverlayError>
+) -> Result<Vec<Vec<Step<I>, A>, A>, AllocError>
     requires { IsClosedWalk (plain_steps I.whole walk.now) }
     ensures tours { IfOk result (λ ts. IsSplitInto (plain_steps I.whole walk.now) (plain_walks I.whole ts.items)) }
     ensures start { IfOk result
         (λ ts. IsSplitAtStart (plain_steps I.whole walk.now) (plain_walks I.whole ts.items)) }
-    ensures err { IsOkUnless result OverlayError.Memory }
 {
     let mut tours = Vec::new(alloc.clone()?);
     if walk.is_empty() {
@@ -104,7 +99,7 @@ fn go_on<I: IntNumber, A: Allocator + Clone>(
     tour: &mut Vec<Step<I>, A>,
     step: Step<I>,
     start: IntPoint<I>,
-) -> Result<(), OverlayError>
+) -> Result<(), AllocError>
     ensures on { OnOk result ((walked : _) → IsSplitSoFar (plain_point I.whole start) (plain_step I.whole step).from
         walked (plain_steps I.whole tour.old.items) (plain_walks I.whole tours.old.items) →
         IsSplitSoFar (plain_point I.whole start) (plain_step I.whole step).to (walked ++ plain_step I.whole step ∷ [])
@@ -115,7 +110,6 @@ fn go_on<I: IntNumber, A: Allocator + Clone>(
         (plain_walks I.whole tours.old.items) →
         AreFromStart (plain_point I.whole start) (plain_steps I.whole tour.new.items)
         (plain_walks I.whole tours.new.items)) }
-    ensures err { IsOkUnless result OverlayError.Memory }
 {
     tour.push(step)?;
     if !compare_points(step.to, start).is_eq() {

@@ -11,7 +11,7 @@ use crate::flat::{copied, copied_ranges, part_in};
 use crate::number::IntNumber;
 use crate::path::{IntContour, IntShape, IntShapes};
 use crate::point::IntPoint;
-use std::alloc::Allocator;
+use std::alloc::{AllocError, Allocator};
 use std::ops::Range;
 
 /// Shapes whose points are held in a single list: each contour is a range of the points, and each shape a range of the
@@ -114,23 +114,22 @@ impl<I: IntNumber, A: Allocator + Clone> FlatShapesBuffer<I, A> {
             ≡ shapes_in I.whole self.now.points.items self.now.contour_ranges.items self.now.shape_ranges.items) }
         ensures only { IsOkUnless result OverlayError.Memory }
     {
-        shapes_of(
+        Ok(shapes_of(
             self.points.allocator(),
             &self.points,
             &self.contour_ranges,
             &self.shape_ranges,
-        )
+        )?)
     }
 }
 
 impl<I: IntNumber, A: Allocator> FlatShapesBuffer<I, A> {
     // Adds `shape` as the last shape. On a refusal some of its contours may stay behind those already held.
-    fn push_shape<B: Allocator>(&mut self, shape: &[IntContour<I, B>]) -> Result<(), OverlayError>
+    fn push_shape<B: Allocator>(&mut self, shape: &[IntContour<I, B>]) -> Result<(), AllocError>
         ensures contours { OnOk result (ArePathsAdded I.whole self.old.points.items self.old.contour_ranges.items
             (paths_of_shape I.whole shape.now) self.new.points.items self.new.contour_ranges.items) }
         ensures shape { OnOk result (self.new.shape_ranges.items ≡ self.old.shape_ranges.items ++ record
             { start = length self.old.contour_ranges.items; end = length self.new.contour_ranges.items } ∷ []) }
-        ensures only { IsOkUnless result OverlayError.Memory }
     {
         let start = self.contour_ranges.len();
         push_contours(&mut self.points, &mut self.contour_ranges, shape)?;
@@ -145,10 +144,9 @@ fn push_contours<I: IntNumber, A: Allocator, B: Allocator>(
     points: &mut Vec<IntPoint<I>, A>,
     ranges: &mut Vec<Range<usize>, A>,
     contours: &[IntContour<I, B>],
-) -> Result<(), OverlayError>
+) -> Result<(), AllocError>
     ensures added { OnOk result (ArePathsAdded I.whole points.old.items ranges.old.items
         (paths_of_shape I.whole contours.now) points.new.items ranges.new.items) }
-    ensures only { IsOkUnless result OverlayError.Memory }
 {
     for contour in contours {
         push_contour(points, ranges, contour)?;
@@ -161,11 +159,10 @@ fn push_contour<I: IntNumber, A: Allocator>(
     points: &mut Vec<IntPoint<I>, A>,
     ranges: &mut Vec<Range<usize>, A>,
     contour: &[IntPoint<I>],
-) -> Result<(), OverlayError>
+) -> Result<(), AllocError>
     ensures points { OnOk result (points.new.items ≡ points.old.items ++ contour.now) }
     ensures ranges { OnOk result (ranges.new.items
         ≡ ranges.old.items ++ range_behind points.old.items contour.now ∷ []) }
-    ensures only { IsOkUnless result OverlayError.Memory }
 {
     let start = points.len();
     points.extend_from_slice(contour)?;
@@ -178,9 +175,8 @@ fn contours_of<I: IntNumber, A: Allocator + Clone>(
     alloc: &A,
     points: &[IntPoint<I>],
     ranges: &[Range<usize>],
-) -> Result<IntShape<I, A>, OverlayError>
+) -> Result<IntShape<I, A>, AllocError>
     ensures ok { IfOk result (λ s. paths_of_shape I.whole s.items ≡ paths_in I.whole points.now ranges.now) }
-    ensures only { IsOkUnless result OverlayError.Memory }
 {
     let mut contours = Vec::new(alloc.clone()?);
     for range in ranges {
@@ -196,10 +192,9 @@ fn shapes_of<I: IntNumber, A: Allocator + Clone>(
     points: &[IntPoint<I>],
     contours: &[Range<usize>],
     ranges: &[Range<usize>],
-) -> Result<IntShapes<I, A>, OverlayError>
+) -> Result<IntShapes<I, A>, AllocError>
     ensures ok { IfOk result (λ ss. plain_shapes I.whole ss.items
         ≡ shapes_in I.whole points.now contours.now ranges.now) }
-    ensures only { IsOkUnless result OverlayError.Memory }
 {
     let mut shapes = Vec::new(alloc.clone()?);
     for range in ranges {

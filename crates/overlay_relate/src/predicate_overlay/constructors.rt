@@ -14,7 +14,7 @@ use overlay_builder::solver::Solver;
 use overlay_geom::error::OverlayError;
 use overlay_geom::integer::OverlayInt;
 use overlay_geom::resource::IntShapeResource;
-use std::alloc::Allocator;
+use std::alloc::{AllocError, Allocator};
 
 impl<I: OverlayInt, A: Allocator + Clone> PredicateOverlay<I, A> {
     /// Returns an empty builder with room for `capacity` edges, the rule EvenOdd and the default solver
@@ -23,7 +23,7 @@ impl<I: OverlayInt, A: Allocator + Clone> PredicateOverlay<I, A> {
         ensures ok { IfOk result (λ o. o ≡ empty_builder FillRule.EvenOdd Rounds) }
         ensures err { IsOkUnless result OverlayError.Memory }
     {
-        PredicateOverlay::with_settings(alloc, capacity, FillRule::EvenOdd, Solver::ABSOLUTE)
+        Ok(PredicateOverlay::with_settings(alloc, capacity, FillRule::EvenOdd, Solver::ABSOLUTE)?)
     }
 
     /// A builder with the paths of `subj` as the subject and those of `clip` as the clip, each a
@@ -77,9 +77,8 @@ impl<I: OverlayInt, A: Allocator + Clone> PredicateOverlay<I, A> {
         capacity: usize,
         fill_rule: FillRule,
         solver: Solver,
-    ) -> Result<Self, OverlayError>
+    ) -> Result<Self, AllocError>
         ensures ok { IfOk result (λ o. o ≡ empty_builder fill_rule solver) }
-        ensures err { IsOkUnless result OverlayError.Memory }
     {
         Ok(PredicateOverlay {
             solver,

@@ -1,6 +1,6 @@
 //! The predicates of a builder: how its subject and its clip lie to each other.
 
-ghost use Rattle.std.specs.Prelude.{◌≡◌, false, IfOk, IfSome, IsErrOf, IsOkUnless, is_err};
+ghost use Rattle.std.specs.Prelude.{◌≡◌, false, IfOk, IfSome, IsErrOf, is_err};
 ghost use Rattle.overlay_plane.specs.Predicates.{Intersects, InteriorsIntersect, Touches, PointIntersects};
 ghost use Rattle.overlay_plane.specs.Predicates.{IsWithin, Covers};
 ghost use Rattle.overlay_arrange.specs.Arranged.{WasArranged};
@@ -20,7 +20,7 @@ use overlay_arrange::count::ShapeCountBoolean;
 use overlay_arrange::graph::Graph;
 use overlay_geom::error::OverlayError;
 use overlay_geom::integer::OverlayInt;
-use std::alloc::Allocator;
+use std::alloc::{AllocError, Allocator};
 
 impl<I: OverlayInt, A: Allocator + Clone> PredicateOverlay<I, A> {
     /// Splits the edges where they meet, and tells whether some point lies in the closed regions of both shapes
@@ -124,11 +124,10 @@ impl<I: OverlayInt, A: Allocator + Clone> PredicateOverlay<I, A> {
     }
 
     // What is found of the arranged edges, before or now, when it is kept.
-    fn find(&mut self) -> Result<Found, OverlayError>
+    fn find(&mut self) -> Result<Found, AllocError>
         requires usable { self.old.failed ≡ false }
         requires arranged { WasArranged self.old.edges }
         ensures ok { IfOk result (IsFoundUnder self.old.fill_rule self.old.edges) }
-        ensures err { IsOkUnless result OverlayError.Memory }
         ensures kept { self.new ≡ record self.old { failed = is_err result } }
     {
         if let Some(found) = self.found_before() {
@@ -158,25 +157,23 @@ impl<I: OverlayInt, A: Allocator + Clone> PredicateOverlay<I, A> {
     }
 
     // What is found of the arranged edges, by the sides that the shapes fill.
-    fn find_anew(&self) -> Result<Found, OverlayError>
+    fn find_anew(&self) -> Result<Found, AllocError>
         requires usable { self.now.failed ≡ false }
         requires arranged { WasArranged self.now.edges }
         ensures ok { IfOk result (IsFoundUnder self.now.fill_rule self.now.edges) }
         ensures rule { IfOk result (λ f. f.fill_rule ≡ self.now.fill_rule) }
-        ensures err { IsOkUnless result OverlayError.Memory }
     {
         let graph = self.graph()?;
         found_in(&graph, self.fill_rule)
     }
 
-    /// The graph of the arranged edges under the fill rule. The only refusal is `Memory`.
-    pub(crate) fn graph(&self) -> Result<Graph<I, ShapeCountBoolean, A>, OverlayError>
+    /// The graph of the arranged edges under the fill rule.
+    pub(crate) fn graph(&self) -> Result<Graph<I, ShapeCountBoolean, A>, AllocError>
         requires usable { self.now.failed ≡ false }
         requires arranged { WasArranged self.now.edges }
         ensures edges { IfOk result (λ g. graph_edges g ≡ self.now.edges) }
         ensures rule { IfOk result (λ g. g.fill_rule ≡ self.now.fill_rule) }
         ensures balanced { HasBalancedCounts self.now.edges }
-        ensures err { IsOkUnless result OverlayError.Memory }
     {
         self.core.content().graph_of_balanced(self.fill_rule)
     }

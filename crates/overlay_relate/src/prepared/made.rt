@@ -1,6 +1,6 @@
 //! Prepared shapes, made from contours.
 
-ghost use Rattle.std.specs.Prelude.{◌≡◌, All, IfOk, IfErr, IsOkUnless};
+ghost use Rattle.std.specs.Prelude.{◌≡◌, All, IfOk, IfErr};
 ghost use Rattle.overlay_arrange.specs.declared.options.ShapeType.TheVariants.{Subject};
 ghost use Rattle.overlay_builder.specs.GivenPaths.{paths_for};
 ghost use Rattle.overlay_geom.specs.Points.{AllInRange};
@@ -19,7 +19,7 @@ use overlay_geom::edge::IntEdge;
 use overlay_geom::error::OverlayError;
 use overlay_geom::integer::OverlayInt;
 use overlay_geom::resource::IntShapeResource;
-use std::alloc::Allocator;
+use std::alloc::{AllocError, Allocator};
 
 impl<I: OverlayInt, A: Allocator + Clone> PreparedShape<I, A> {
     /// The shape that the paths of the resource make under the fill rule. Each is a closed contour; it may cross
@@ -49,10 +49,9 @@ impl<I: OverlayInt, A: Allocator + Clone> PreparedShape<I, A> {
     }
 
     // The shape that these edges bound.
-    fn bounded_by(alloc: A, edges: Vec<IntEdge<I>, A>) -> Result<Self, OverlayError>
+    fn bounded_by(alloc: A, edges: Vec<IntEdge<I>, A>) -> Result<Self, AllocError>
         requires { All (IsLongEdge I.limit) (plain_edges I.whole edges.items) }
         ensures ok { IfOk result (λ s. s ≡ plain_edges I.whole edges.items) }
-        ensures err { IsOkUnless result OverlayError.Memory }
     {
         let blocks = blocks_over(alloc.clone()?, &edges, BLOCK)?;
         let groups = blocks_over(alloc, &edges, GROUP)?;

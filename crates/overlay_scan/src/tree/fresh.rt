@@ -1,15 +1,14 @@
 //! Nodes for new entries.
 
-ghost use Rattle.std.specs.Prelude.{◌≡◌, ℕ, List, length, OnErr, IfOk, IsOkUnless};
+ghost use Rattle.std.specs.Prelude.{◌≡◌, ℕ, List, length, OnErr, IfOk};
 ghost use Rattle.overlay_scan.specs.Forests.{IsForest, IsFresh};
 ghost use Rattle.overlay_scan.specs.Trees.{Tree};
 
 use crate::list::LiveEdge;
 use crate::tree::links::NodeIndex;
 use crate::tree::nodes::ScanNodes;
-use overlay_geom::error::OverlayError;
 use overlay_geom::number::IntNumber;
-use std::alloc::Allocator;
+use std::alloc::{AllocError, Allocator};
 
 /// A node that is in no tree, and the first reusable node after it.
 #[derive(Clone, Copy)]
@@ -21,13 +20,13 @@ pub struct Fresh {
 }
 
 impl<I: IntNumber, V: Copy, A: Allocator> ScanNodes<I, V, A> {
-    /// Returns a node for an entry: the first reusable node, or a new node. The only refusal is `Memory`, after which
-    /// the nodes are as they were.
+    /// Returns a node for an entry: the first reusable node, or a new node. After a refusal, the nodes are as they
+    /// were.
     pub fn fresh(
         &mut self,
         free: Option<NodeIndex>,
         entry: LiveEdge<I, V>,
-    ) -> Result<Fresh, OverlayError>
+    ) -> Result<Fresh, AllocError>
         requires { (root : _) × (t : Tree) × (unused : List ℕ) × IsForest self.old.links root free t unused }
         ensures ok { IfOk result (λ f. (root : _) → (t : Tree) → (unused : List ℕ)
             → IsForest self.old.links root free t unused
@@ -35,7 +34,6 @@ impl<I: IntNumber, V: Copy, A: Allocator> ScanNodes<I, V, A> {
         ensures enough { length self.new.entries ≡ length self.new.links }
         ensures visits { self.new.visits ≡ self.old.visits }
         ensures err { OnErr result (self.new ≡ self.old) }
-        ensures only { IsOkUnless result OverlayError.Memory }
     {
         let Some(node) = free else {
             let node = self.push(entry)?;

@@ -1,6 +1,6 @@
 //! The nodes of a tree in a list, each with an entry and with links to the nodes below it.
 
-ghost use Rattle.std.specs.Prelude.{◌≡◌, ◌+◌, ◌<◌, [], ◌++◌, ◌∷◌, Some, IfSome, IfOk, OnOk, OnErr, IsOkUnless, length};
+ghost use Rattle.std.specs.Prelude.{◌≡◌, ◌+◌, ◌<◌, [], ◌++◌, ◌∷◌, Some, IfSome, IfOk, OnOk, OnErr, length};
 ghost use Rattle.std.specs.Prelude.{◌↔◌, true, slice_get, slice_set};
 ghost use Rattle.overlay_scan.specs.Sides.{unused_before};
 ghost use Rattle.overlay_scan.specs.Store.{IsEntryAt};
@@ -10,10 +10,9 @@ ghost use Rattle.overlay_scan.specs.declared.tree.links.TheConstants.{ALONE};
 use crate::list::LiveEdge;
 use crate::tree::links::{ALONE, Links, NodeIndex, Side, is_same};
 use crate::tree::visits::Visits;
-use overlay_geom::error::OverlayError;
 use overlay_geom::number::IntNumber;
 use overlay_geom::path::IntLine;
-use std::alloc::Allocator;
+use std::alloc::{AllocError, Allocator};
 use std::marker::Model;
 
 // A node.
@@ -145,15 +144,14 @@ impl<I: IntNumber, V: Copy, A: Allocator> ScanNodes<I, V, A> {
         };
     }
 
-    /// Adds a node with an entry and no subtrees. The only refusal is `Memory`, after which the nodes are as they were.
-    pub fn push(&mut self, entry: LiveEdge<I, V>) -> Result<NodeIndex, OverlayError>
+    /// Adds a node with an entry and no subtrees. After a refusal, the nodes are as they were.
+    pub fn push(&mut self, entry: LiveEdge<I, V>) -> Result<NodeIndex, AllocError>
         ensures enough { length self.old.entries ≡ length self.old.links }
         ensures place { IfOk result (λ i. i.place ≡ length self.old.links) }
         ensures ok { OnOk result (self.new.links ≡ self.old.links ++ ALONE ∷ []) }
         ensures entries { OnOk result (self.new.entries ≡ self.old.entries ++ entry ∷ []) }
         ensures visits { self.new.visits ≡ self.old.visits }
         ensures err { OnErr result (self.new ≡ self.old) }
-        ensures only { IsOkUnless result OverlayError.Memory }
     {
         let place = self.nodes.len();
         self.nodes.push(Node {

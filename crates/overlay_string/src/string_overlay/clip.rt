@@ -1,6 +1,6 @@
 //! Strings, clipped by the shape.
 
-ghost use Rattle.std.specs.Prelude.{◌≡◌, ◌⊎◌, ◌↔◌, true, IfOk, IfErr, IsErrOf, IsOkUnless};
+ghost use Rattle.std.specs.Prelude.{◌≡◌, ◌⊎◌, ◌↔◌, true, IfOk, IfErr, IsErrOf};
 ghost use Rattle.overlay_geom.specs.Paths.{paths_of_shape};
 ghost use Rattle.overlay_geom.specs.declared.solver.Solver.TheVariants.{Rounds};
 ghost use Rattle.overlay_arrange.specs.Arranged.{MayRefuseSplitting};
@@ -21,7 +21,7 @@ use overlay_geom::integer::OverlayInt;
 use overlay_geom::number::IntNumber;
 use overlay_geom::path::IntPath;
 use overlay_geom::solver::Solver;
-use std::alloc::Allocator;
+use std::alloc::{AllocError, Allocator};
 
 impl<I: OverlayInt, A: Allocator + Clone> StringOverlay<I, A> {
     /// Splits the edges where they meet, and gives the parts of the strings that the clip rule keeps, as paths.
@@ -62,7 +62,7 @@ impl<I: OverlayInt, A: Allocator + Clone> StringOverlay<I, A> {
     {
         self.core.arrange(solver, &mut ())?;
         let graph = self.core.content().graph_of_balanced(fill_rule)?;
-        clipped(&graph, clip_rule)
+        Ok(clipped(&graph, clip_rule)?)
     }
 }
 
@@ -70,10 +70,9 @@ impl<I: OverlayInt, A: Allocator + Clone> StringOverlay<I, A> {
 fn clipped<I: IntNumber, A: Allocator + Clone>(
     graph: &Graph<I, ShapeCountString, A>,
     rule: ClipRule,
-) -> Result<Vec<IntPath<I, A>, A>, OverlayError>
+) -> Result<Vec<IntPath<I, A>, A>, AllocError>
     ensures paths { IfOk result (λ v. ArePathsOf
         (clip_pieces graph.now.fill_rule rule (graph_edges graph.now)) (paths_of_shape I.whole v.items)) }
-    ensures err { IsOkUnless result OverlayError.Memory }
 {
     let kept = kept_pieces(graph, rule)?;
     let mut pieces = OpenPieces::new(kept)?;

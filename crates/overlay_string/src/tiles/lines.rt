@@ -1,6 +1,6 @@
 //! The lines of a grid across the box of the points of a resource.
 
-ghost use Rattle.std.specs.Prelude.{◌≡◌, All, IfOk, IsOkUnless};
+ghost use Rattle.std.specs.Prelude.{◌≡◌, All, IfOk};
 ghost use Rattle.overlay_geom.specs.Points.{AllInRange, plain_points};
 ghost use Rattle.overlay_string.specs.StringPaths.{paths_of_lines};
 ghost use Rattle.overlay_string.specs.Grids.{AreGridLines, AreLinesAcross, IsGridStep, level, upright};
@@ -9,28 +9,26 @@ ghost use Rattle.overlay_string.specs.Spans.{AreBoundsInRange, plain_bounds, poi
 use crate::tiles::grid::Grid;
 use crate::tiles::places::grid_places;
 use crate::tiles::span::{IntBounds, bounds_of};
-use overlay_geom::error::OverlayError;
 use overlay_geom::number::IntNumber;
 use overlay_geom::path::IntLine;
 use overlay_geom::point::IntPoint;
 use overlay_geom::resource::IntShapeResource;
-use std::alloc::Allocator;
+use std::alloc::{AllocError, Allocator};
 
 /// The lines of the grid across the box of all points: the upright ones from left to right, each from the bottom of the
 /// box to its top, and then the level ones from the lowest up, each from the left of the box to its right. Without
-/// points there is none. The points are in the coordinate range, and so are the lines. The only refusal is `Memory`.
+/// points there is none. The points are in the coordinate range, and so are the lines.
 pub fn grid_lines<I: IntNumber, R0: IntShapeResource<I>, A: Allocator + Clone>(
     alloc: A,
     resource: &R0,
     grid: Grid<I>,
-) -> Result<Vec<IntLine<I>, A>, OverlayError>
+) -> Result<Vec<IntLine<I>, A>, AllocError>
     requires in_range { All (AllInRange I.limit) (R0.paths resource.now) }
     requires width { IsGridStep I.limit (I.whole grid.width) }
     requires height { IsGridStep I.limit (I.whole grid.height) }
     ensures lines { IfOk result (λ v. AreGridLines (I.whole grid.width) (I.whole grid.height)
         (points_of_paths (R0.paths resource.now)) (paths_of_lines I.whole v.items)) }
     ensures in_range { IfOk result (λ v. All (AllInRange I.limit) (paths_of_lines I.whole v.items)) }
-    ensures err { IsOkUnless result OverlayError.Memory }
 {
     match bounds_of(resource) {
         Some(bounds) => lines_across(alloc, bounds, grid),
@@ -43,14 +41,13 @@ fn lines_across<I: IntNumber, A: Allocator + Clone>(
     alloc: A,
     bounds: IntBounds<I>,
     grid: Grid<I>,
-) -> Result<Vec<IntLine<I>, A>, OverlayError>
+) -> Result<Vec<IntLine<I>, A>, AllocError>
     requires bounds { AreBoundsInRange I.limit (plain_bounds I.whole bounds) }
     requires width { IsGridStep I.limit (I.whole grid.width) }
     requires height { IsGridStep I.limit (I.whole grid.height) }
     ensures lines { IfOk result (λ v. AreLinesAcross (I.whole grid.width) (I.whole grid.height)
         (plain_bounds I.whole bounds) (paths_of_lines I.whole v.items)) }
     ensures in_range { IfOk result (λ v. All (AllInRange I.limit) (paths_of_lines I.whole v.items)) }
-    ensures err { IsOkUnless result OverlayError.Memory }
 {
     let xs = grid_places(alloc.clone()?, grid.width, bounds.x)?;
     let ys = grid_places(alloc.clone()?, grid.height, bounds.y)?;

@@ -1,15 +1,14 @@
 //! The places of grid lines along an axis: the multiples of a step within a span.
 
-ghost use Rattle.std.specs.Prelude.{◌≡◌, ◌↔◌, IfOk, IsTrue, IsOkUnless, int_lt, map, pos, ◌+ℤ◌, ◌≤ℤ◌};
+ghost use Rattle.std.specs.Prelude.{◌≡◌, ◌↔◌, IfOk, IsTrue, int_lt, map, pos, ◌+ℤ◌, ◌≤ℤ◌};
 ghost use Rattle.overlay_geom.specs.Numbers.{Within};
 ghost use Rattle.overlay_string.specs.Grids.{AreFewPlaces, AreGridPlaces, IsGridStep};
 ghost use Rattle.overlay_string.specs.Multiples.{IsFirstPlace, IsRemainder, IsWayToNext, IsPlaceAfter};
 ghost use Rattle.overlay_string.specs.Spans.{plain_span};
 
 use crate::tiles::span::IntSpan;
-use overlay_geom::error::OverlayError;
 use overlay_geom::number::IntNumber;
-use std::alloc::Allocator;
+use std::alloc::{AllocError, Allocator};
 
 /// The most grid lines that there may be in a direction.
 pub const MOST_LINES: usize = 1000;
@@ -33,17 +32,16 @@ pub fn are_few<I: IntNumber>(step: I, span: IntSpan<I>) -> bool
     true
 }
 
-/// The multiples of the step strictly between the ends of the span, in ascending order. The only refusal is `Memory`.
+/// The multiples of the step strictly between the ends of the span, in ascending order.
 pub fn grid_places<I: IntNumber, A: Allocator>(
     alloc: A,
     step: I,
     span: IntSpan<I>,
-) -> Result<Vec<I, A>, OverlayError>
+) -> Result<Vec<I, A>, AllocError>
     requires step { IsGridStep I.limit (I.whole step) }
     requires least { Within I.limit (I.whole span.least) }
     requires greatest { Within I.limit (I.whole span.greatest) }
     ensures ok { IfOk result (λ v. AreGridPlaces (I.whole step) (plain_span I.whole span) (map I.whole v.items)) }
-    ensures err { IsOkUnless result OverlayError.Memory }
 {
     let mut places = Vec::new(alloc);
     let mut next = first_place(step, span);

@@ -108,6 +108,6 @@ impl<I: OverlayInt, D: OverlayEdgeData, A: Allocator + Clone> EdgeOverlay<I, D, 
             &mut self.store,
         );
         self.boolean_buffer = Some(buffer);
-        shapes
+        Ok(shapes?)
     }
 }

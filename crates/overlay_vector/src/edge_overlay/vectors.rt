@@ -1,6 +1,6 @@
 //! The edges of an answer, as vectors with data.
 
-ghost use Rattle.std.specs.Prelude.{◌≡◌, IfOk, OnOk, IsErrOf, IsOkUnless};
+ghost use Rattle.std.specs.Prelude.{◌≡◌, IfOk, OnOk, IsErrOf};
 ghost use Rattle.overlay_geom.specs.Settled.{IsSettled};
 ghost use Rattle.overlay_plane.specs.Carried.{edges_in};
 ghost use Rattle.overlay_arrange.specs.Content.{IsAscending};
@@ -17,7 +17,7 @@ use overlay_arrange::overlay_rule::OverlayRule;
 use overlay_arrange::vector::DataVectorEdge;
 use overlay_geom::error::OverlayError;
 use overlay_geom::integer::OverlayInt;
-use std::alloc::Allocator;
+use std::alloc::{AllocError, Allocator};
 
 impl<I: OverlayInt, D: OverlayEdgeData, A: Allocator + Clone> EdgeOverlay<I, D, A> {
     /// Splits the edges where they meet, and gives those with the region of the rules on exactly one side, in
@@ -59,7 +59,7 @@ impl<I: OverlayInt, D: OverlayEdgeData, A: Allocator + Clone> EdgeOverlay<I, D, 
         self.core.arrange(self.solver, &mut self.store)?;
         let listed = self.list(overlay_rule, fill_rule);
         self.core.set_failed(listed.is_err());
-        listed
+        Ok(listed?)
     }
 
     // The selected edges of the arranged ones.
@@ -67,12 +67,11 @@ impl<I: OverlayInt, D: OverlayEdgeData, A: Allocator + Clone> EdgeOverlay<I, D, 
         &self,
         overlay_rule: OverlayRule,
         fill_rule: FillRule,
-    ) -> Result<Vec<DataVectorEdge<I, D>, A>, OverlayError>
+    ) -> Result<Vec<DataVectorEdge<I, D>, A>, AllocError>
         requires ascending { IsAscending (edges_in self.now.edges) }
         requires settled { IsSettled (edges_in self.now.edges) }
         ensures listed { IfOk result (λ v. plain_data_vectors I.whole v.items
             ≡ selected_vectors fill_rule overlay_rule self.now.edges) }
-        ensures err { IsOkUnless result OverlayError.Memory }
     {
         let graph = self.core.content().graph(fill_rule)?;
         selected_vectors(&graph, overlay_rule)
