@@ -68,10 +68,6 @@ block_passed n ss blocks s at some cover begun = λ k t past less at_t.
     apart_under s (get_or blocks (at / n) t) t
     (subst (λ m. Encloses (get_or blocks m t) t) same (cover k t t at_t).1) (begun.apart t)
 
--- none are passed over
-pub none_passed : (ss : List Extent) (s : Extent) (at : ℕ) → AreApartFrom ss s at (at + 0)
-none_passed ss s at = λ k t past less at_t. absurd (omega (arith, past, less))
-
 -- ---- blocks of blocks
 
 -- blocks of m blocks of n are blocks of n times m
@@ -93,10 +89,6 @@ pub record AreBlocksUpTo (ss blocks : List Extent) (i : ℕ) : Type 0 where
   pub few : length blocks * 8 < i + 8
   pub cover : (k : ℕ) (s d : Extent) → k < i → IsAt ss k s →
       (k / 8 < length blocks) × Encloses (get_or blocks (k / 8) d) s
-
--- at first there are none
-pub no_blocks : (ss : List Extent) → AreBlocksUpTo ss [] 0
-no_blocks ss = record { enough = omega arith; few = omega arith; cover = λ k s d less. absurd (omega (arith, less)) }
 
 -- where all places have been taken they are the blocks
 pub all_blocks : (ss blocks : List Extent) (i : ℕ) → length ss ≤ i → AreBlocksUpTo ss blocks i →

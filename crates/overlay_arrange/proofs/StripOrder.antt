@@ -1,19 +1,19 @@
 -- Boxes strip by strip: with a further box, with those of the last strip in another order, and the boxes that a search
 -- by strips skips.
 use Rattle.std.proofs.Common.{◌≡◌, ⊎_elim, inl, inr, ◌⊎◌, ℕ, ◌+◌, ◌*◌, ◌-◌, ◌/◌, ◌%◌, ◌<◌, ◌≤◌, List, [], ◌∷◌, ◌++◌}
-use Rattle.std.proofs.Common.{length, get_or, AllPairs, Contains, ◌<ℤ◌, ◌≤ℤ◌, refl, sym, ap, ◌∙◌, subst, arith}
+use Rattle.std.proofs.Common.{length, get_or, AllPairs, Contains, ◌<ℤ◌, ◌≤ℤ◌, sym, ap, ◌∙◌, subst, arith}
 use Rattle.std.specs.List.Sorted.{IsPermutation}
 use Rattle.std.proofs.lemmas.Bool.{cases_lt}
 use Rattle.std.proofs.lemmas.Nat.{div-add-mod'}
 use Rattle.std.proofs.lemmas.List.{append_assoc, get_or_default, get_or_push, get_or-append-add, length-append}
 use Rattle.std.proofs.lemmas.List.{append-nil}
-use Rattle.std.proofs.lemmas.List.Sorted.{Contains-permutation, IsPermutation-refl, IsPermutation-sym}
+use Rattle.std.proofs.lemmas.List.Sorted.{Contains-permutation, IsPermutation-sym}
 use Rattle.std.proofs.lemmas.List.Sorted.{IsPermutation-trans}
 use Rattle.std.proofs.lemmas.List.Sorted.{IsPermutation-append_left, IsPermutation-append_right, length_permutation}
 use Rattle.std.proofs.Math.ListN.{get_or-append}
 use Rattle.std.proofs.Math.Nat.{add-mod_right, add-mul, div-eq_of_lt-le, div-lt_iff_lt-mul, div-mul-le_self}
 use Rattle.std.proofs.Math.Nat.{eq-or-lt_of_le, le-div_iff_mul-le}
-use Rattle.std.proofs.Math.Nat.{mod-eq_of_lt, mod-lt, mul-le-mul_right}
+use Rattle.std.proofs.Math.Nat.{mod-lt, mul-le-mul_right}
 use Rattle.overlay_geom.proofs.Signs.{linear}
 use Rattle.overlay_arrange.specs.Extents.{Extent, AreByHeights, AreInStrips}
 use Rattle.overlay_arrange.specs.Meetings.{IsAt}
@@ -132,17 +132,6 @@ pub record StripsSoFar (width : ℕ) (given xs ys : List Extent) : Type 0 where
   pub count : length xs + length ys ≡ length given
   pub begun : length xs % width ≡ 0
   pub few : length ys ≤ width
-
--- at first there are none
-pub none_so_far : (width : ℕ) → 0 < width → StripsSoFar width [] [] []
-none_so_far width some = record {
-  permutation = IsPermutation-refl [];
-  strips = λ k s at_s. absurd (omega (arith, at_s.0));
-  heights = λ j k s t le same at_s. absurd (omega (arith, at_s.0));
-  count = refl;
-  begun = mod-eq_of_lt some;
-  few = omega arith;
-}
 
 module _ (width : ℕ) (given xs ys : List Extent) (so_far : StripsSoFar width given xs ys) where
   -- one more, at its place

@@ -6,7 +6,7 @@ use Rattle.std.proofs.lemmas.Int.{ints, int_wrap_fits, int_wrap-add_right}
 use Rattle.std.proofs.lemmas.List.{at_drop_more}
 use Rattle.overlay_geom.specs.Plane.{Point}
 use Rattle.overlay_geom.specs.Points.{cross_of}
-use Rattle.overlay_plane.specs.MinimumArea.{cross_sum, double_area}
+use Rattle.overlay_plane.specs.MinimumArea.{cross_sum}
 
 -- the point at which the rest of a closed list goes on: its own first one, or after the last point the first of the
 -- list
@@ -44,8 +44,3 @@ next_in_more first ps i p inside is = at_drop_more (next_in first) ps i p inside
 -- of no points there is nothing
 pub wrapped_nothing : (w : Width) → int_wrap w (pos 0) ≡ pos 0
 wrapped_nothing w = int_wrap_fits w (pos 0) (search rules)
-
--- the rest of the whole list is its double area
-pub whole_sum : (first : Point) (ps : List Point) → get_or ps 0 first ≡ first → rest_sum first ps ≡ double_area ps
-whole_sum first [] is = refl
-whole_sum first (p ∷ ps) is = ap (λ q. cross_sum q p ps) (sym is)

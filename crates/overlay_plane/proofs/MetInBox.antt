@@ -121,11 +121,6 @@ meet_nowhere e f e_forward f_forward none = by_placement e f along (λ line besi
         let way : IsPartWay e f = part_way_across e f (both_across e f c).1 in
         absurd (none (crossing_point e f way.2) (crossing_is_common e f way.2 c))
 
--- this holds if the edges are apart in x
-pub apart_meet_nowhere : (e f : Edge) → IsBefore e.a e.b → IsBefore f.a f.b → AreApartInX e f → met_at e f ≡ []
-apart_meet_nowhere e f e_forward f_forward apart =
-    meet_nowhere e f e_forward f_forward (λ p. apart_have_no_common e f p e_forward f_forward apart)
-
 -- ---- one below the other
 
 -- both ends of e lie below both ends of f

@@ -16,7 +16,7 @@ use Rattle.overlay_geom.proofs.Signs.{linear, mul-pos, mul-neg, mul-nonneg, mul-
 use Rattle.overlay_plane.proofs.Entries.{any_of_entry}
 use Rattle.overlay_plane.proofs.Tests.{lt_from_test, test_from_lt, test_from_le, same_tests}
 use Rattle.overlay_relate.specs.Locations.{IsLocatedBy}
-use Rattle.overlay_relate.specs.declared.location.PointLocation.TheVariants.{Inside, Boundary, Outside}
+use Rattle.overlay_relate.specs.declared.location.PointLocation.TheVariants.{Boundary, Outside}
 use Rattle.overlay_relate.proofs.OnEdges.{level_from_test, test_from_level}
 use Rattle.overlay_relate.proofs.Parities.{differ-false}
 
@@ -50,14 +50,6 @@ pub outside_of_one : (e : Edge) (p : PlanePoint) → ¬ (IsOn e p) → is_strict
 outside_of_one e p off not_below = (
   All-cons (λ f. ¬ (IsOn f p)) e [] off (All-nil (λ f. ¬ (IsOn f p))),
   differ-false (is_strictly_below e p) ∙ not_below,
-)
-
--- and inside where the edge is
-pub inside_of_one : (e : Edge) (p : PlanePoint) → ¬ (IsOn e p) → is_strictly_below e p ≡ true →
-    IsLocatedBy (e ∷ []) p Inside
-inside_of_one e p off below = (
-  All-cons (λ f. ¬ (IsOn f p)) e [] off (All-nil (λ f. ¬ (IsOn f p))),
-  differ-false (is_strictly_below e p) ∙ below,
 )
 
 pub on_one : (e : Edge) (p : PlanePoint) → IsOn e p → IsLocatedBy (e ∷ []) p Boundary

@@ -4,7 +4,7 @@ use Rattle.std.proofs.Common.{◌++◌, length, take, get_or, refl, sym, ap, ◌
 use Rattle.std.specs.List.{Contains}
 use Rattle.std.proofs.lemmas.Bool.{cases_lt}
 use Rattle.std.proofs.lemmas.List.{take_more, take_all, get_or_default}
-use Rattle.std.proofs.lemmas.List.Elements.{All-nil, All-append}
+use Rattle.std.proofs.lemmas.List.Elements.{All-append}
 use Rattle.overlay_geom.specs.Plane.{Point, PlanePoint, Edge, in_plane, is_strictly_below, IsOn, IsOff}
 use Rattle.overlay_geom.proofs.Entries.{some_entry}
 use Rattle.overlay_plane.proofs.Entries.{any_of_entry, Contains-from_any}
@@ -26,9 +26,6 @@ odd_joined (e ∷ es) fs p = ap (differ (is_strictly_below e p)) (odd_joined es 
 differ-true : (t : Bool) → differ t true ≡ not t
 differ-true true = refl
 differ-true false = refl
-
-pub none_counted : (es : List Edge) (p : PlanePoint) → IsCounted es p 0 false
-none_counted es p = record { off = All-nil (λ e. ¬ (IsOn e p)); counted = refl }
 
 module _ (es : List Edge) (p : PlanePoint) (n : ℕ) (t : Bool) (so_far : IsCounted es p n t) where
   module _ (e : Edge) (lt : n < length es) (is : get_or es n e ≡ e) where

@@ -37,23 +37,6 @@ spans_more ps p low high low' high' span under under_p over over_p = record {
 
 -- ---- runs
 
--- over no contours none of the places is asked for
-pub run_over_none : (qs : List Point) → IsRunOver [] qs 0 0
-run_over_none qs = record {
-  ordered = omega arith;
-  within = omega arith;
-  beside = λ n d lt past. All-nil (λ ps. IsBeside ps (get_or qs n d));
-}
-
--- nor over one without points
-pub run_over_empty : (qs : List Point) → IsRunOver ([] ∷ []) qs 0 0
-run_over_empty qs = record {
-  ordered = omega arith;
-  within = omega arith;
-  beside = λ n d lt past. let q = get_or qs n d in
-      All-cons (λ ps. IsBeside ps q) [] [] (inl (All-nil (λ p. q.x <ℤ p.x))) (All-nil (λ ps. IsBeside ps q));
-}
-
 -- over the contours of two runs
 pub run_over_both : (cs ds : List (List Point)) (qs : List Point) (i j k l m n : ℕ) → IsRunOver cs qs i j →
     IsRunOver ds qs k l → IsHull i j k l m n → IsRunOver (cs ++ ds) qs m n

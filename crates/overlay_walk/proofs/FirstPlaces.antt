@@ -1,6 +1,6 @@
 -- The first open place by an order, as a loop finds it that goes up place by place.
 use Rattle.std.proofs.Common.{◌≡◌, ⊎_elim, ℕ, ◌+◌, ◌<◌, ◌≤◌, Bool, true, false, cond, ◌&&◌, refl, sym, subst, arith}
-use Rattle.std.specs.Prelude.{Option, Some, None, IfSome}
+use Rattle.std.specs.Prelude.{Option, Some, None}
 use Rattle.std.proofs.lemmas.Bool.{both_ways, false_from_ne_true, cases_lt}
 
 -- the place between two places that is open, and before which no other open one comes
@@ -23,13 +23,6 @@ comes_first comes_before (Some k) i = comes_before i k
 -- the place if it is open and comes first, else the place found so far
 abbrev pub first_so_far : (ℕ → Bool) → (ℕ → ℕ → Bool) → Option ℕ → ℕ → Option ℕ
 first_so_far is_open comes_before found i = cond (is_open i && comes_first comes_before found i) (Some i) found
-
--- the place found lies below the end
-pub found_below : (is_open : ℕ → Bool) (before : ℕ → ℕ → Bool) (low high bound : ℕ) (found : Option ℕ) → high ≤ bound →
-    IsFirstOf is_open before low high found →
-    IfSome found (λ k. k < bound)
-found_below is_open before low high bound None h first = tt
-found_below is_open before low high bound (Some m) h first = let b = first.below in omega arith
 
 module _ (is_open : ℕ → Bool) (before : ℕ → ℕ → Bool) (bound : ℕ) (irreflexive : (k : ℕ) → before k k ≡ false)
     (transitive : (i j k : ℕ) → i < bound → j < bound → k < bound → before i j ≡ true → before j k ≡ true →

@@ -1,5 +1,5 @@
 -- The options of a clip in a list of words, set one by one.
-use Rattle.std.proofs.Common.{◌≡◌, ◌≢◌, ◌↔◌, true, false, [], ◌∷◌, codes, refl, sym, subst, Option, Some, None}
+use Rattle.std.proofs.Common.{◌≡◌, ◌↔◌, true, false, [], ◌∷◌, codes, sym, subst, Option, Some, None}
 use Rattle.std.proofs.Common.{MatchOption}
 use Rattle.polyover_text.specs.declared.clip_options.ClipOptions.{ClipOptions}
 use Rattle.polyover_text.specs.Grammar.{Word, Line, default_clip, SetClipOptions, none, invert, boundary}
@@ -61,9 +61,3 @@ boundary_kept old w (Some new) named h =
     λ ws. subst (λ v. SetsClipOption old (v ∷ ws) new ws) (sym named)
     (subst (λ v. SetsClipOption old (codes "boundary" ∷ ws) v ws) (sym h.1)
     (λ o. (λ all. (after_boundary old o ws all).1, λ others. boundary h.0 others)))
-
--- a word that is neither
-pub begins_no_option : (old o : ClipOptions) (w : Word) (ws : Line) → w ≢ codes "invert" → w ≢ codes "boundary"
-    → ¬ (SetClipOptions old (w ∷ ws) o)
-begins_no_option old o w ws no_invert no_boundary (invert e h) = no_invert refl
-begins_no_option old o w ws no_invert no_boundary (boundary e h) = no_boundary refl

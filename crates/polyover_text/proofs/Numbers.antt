@@ -114,14 +114,6 @@ area_read word text z (Err e) same no_plus digits fits value below_zero = λ n h
     let same_number : z ≡ pos n = value ∙ sym (text_of_number word text (pos n) same h.number).value in
     below_zero (subst (λ v. pos 0 ≤ℤ v) (sym same_number) (omega (arith, ints)))
 
--- and where it reads no number, it is none
-pub no_area_read : (word text : List ℕ) → text ≡ word
-    → ¬ (IsNumeral 10 (without_leading_sign text) × FitsSigned w128 (signed_digits_value 10 text))
-    → (n : ℕ) → ¬ (IsArea word n)
-no_area_read word text same none n h =
-    let numeral = text_of_number word text (pos n) same h.number in
-    none (numeral.numeral, subst (FitsSigned w128) numeral.value (record { sfits = h.in_range }))
-
 -- ---- numbers of whatever size
 
 -- whether bytes are digits is told by those that are left

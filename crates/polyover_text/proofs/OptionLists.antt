@@ -100,21 +100,6 @@ same_area w n m h k =
     (number_is_numeral w (pos n) h.number).value ∙ sym (number_is_numeral w (pos m) k.number).value in
     cc
 
-pub set_before : (old : OutputOptions) (ws : Line) → true ≡ is_some old.min_output_area
-    → SetsNothing old (codes "min" ∷ ws)
-set_before old ws set o h = false≢true (sym (subst (λ m. true ≡ is_some m) (after_min old o ws h).unset set))
-
-pub no_word_left : (old : OutputOptions) (ws : Line) → ws ≡ [] → SetsNothing old (codes "min" ∷ ws)
-no_word_left old ws ended o h = let parts = (after_min old o ws h).parts in cc
-
-pub no_area : (old : OutputOptions) (ws : Line) (w : Word) (rest : Line) → ws ≡ w ∷ rest → ((n : ℕ) → ¬ (IsArea w n))
-    → SetsNothing old (codes "min" ∷ ws)
-no_area old ws w rest words no_number o h =
-    let after = after_min old o ws h in
-    let parts = after.parts in
-    let same : after.w ≡ w = cc in
-    no_number after.n (subst (λ v. IsArea v after.n) same after.area)
-
 area_set_after : (old o : OutputOptions) (ws : Line) (w : Word) (n : ℕ) (rest : Line) → ws ≡ w ∷ rest → IsArea w n
     → AfterMin old o ws → SetOptions (record old { min_output_area = Some n }) rest o
 area_set_after old o ws w n rest words area after =
@@ -137,13 +122,3 @@ area_set old ws w n rest words unset area = λ o. (
   λ others. subst (λ l. SetOptions old (codes "min" ∷ l) o) (sym words)
       (min (none_where_unset old.min_output_area unset) area others),
 )
-
--- ---- other words
-
--- a word that is none of the four
-pub begins_no_option : (old o : OutputOptions) (w : Word) (ws : Line) → w ≢ codes "clockwise" → w ≢ codes "keep"
-    → w ≢ codes "ogc" → w ≢ codes "min" → ¬ (SetOptions old (w ∷ ws) o)
-begins_no_option old o w ws no_clockwise no_keep no_ogc no_min (clockwise e h) = no_clockwise refl
-begins_no_option old o w ws no_clockwise no_keep no_ogc no_min (keep e h) = no_keep refl
-begins_no_option old o w ws no_clockwise no_keep no_ogc no_min (ogc e h) = no_ogc refl
-begins_no_option old o w ws no_clockwise no_keep no_ogc no_min (min e a h) = no_min refl

@@ -12,9 +12,6 @@ pub record HasPoints (ws : Line) (so_far : List Point) (rest : Line) : Type 0 wh
   pub sound : (ps : List Point) → ArePoints rest ps → ArePoints ws (so_far ++ ps)
   pub complete : (ps : List Point) → ArePoints ws ps → (qs : List Point) × ArePoints rest qs
 
-pub no_points : (ws : Line) → HasPoints ws [] ws
-no_points ws = record { sound = λ ps h. h; complete = λ ps h. (ps, h) }
-
 -- what words after two coordinates are
 tail_points : (v w : Word) (ws : Line) (ps : List Point) → ArePoints (v ∷ w ∷ ws) ps →
     (qs : List Point) × ArePoints ws qs
