@@ -91,7 +91,7 @@ fn graph_of<I: OverlayInt + From<i16>>(
     )?;
     content.arrange(Solver::ABSOLUTE, &mut ())?;
     assert!(rt; is_balanced(alloc, content.edges())?);
-    content.graph(fill_rule)
+    Ok(content.graph(fill_rule)?)
 }
 
 // Checks the contour's shape, if it has one, with trees alone and with lists alone.

@@ -109,7 +109,7 @@ pub(crate) fn graph_of<I: IntNumber + From<i16>>(
     }
     content.arrange(Solver::ABSOLUTE, &mut ())?;
     assert!(rt; is_balanced(alloc, content.edges())?);
-    content.graph(FillRule::NonZero)
+    Ok(content.graph(FillRule::NonZero)?)
 }
 
 // The shape with these contours.

@@ -61,7 +61,7 @@ pub(crate) fn graph_of<I: IntNumber + From<i16>>(
     }
     content.arrange(Solver::ABSOLUTE, &mut ())?;
     assert!(rt; is_balanced(alloc, content.edges())?);
-    content.graph(FillRule::EvenOdd)
+    Ok(content.graph(FillRule::EvenOdd)?)
 }
 
 /// Returns whether the steps begin at these points, one after another.

@@ -48,7 +48,7 @@ fn open_triangle<I: IntNumber>(
     four: I,
 ) -> Result<OpenSteps<I, Global>, OverlayError> {
     let steps = steps_round(alloc, zero, four)?;
-    OpenSteps::new(steps)
+    Ok(OpenSteps::new(steps)?)
 }
 
 // Returns whether these are the numbers of the steps, in order.
