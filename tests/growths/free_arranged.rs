@@ -77,31 +77,31 @@ fn check_edges<I: Width>(trial: &Trial<'_, impl Abort>) -> Result<(), Fail> {
     let told = [
         trial.refuse_call(
             "overlay_arrange::is_balanced",
-            || is_balanced(memory, edges),
+            || Ok(is_balanced(memory, edges)?),
         )?,
-        trial.refuse_call("overlay_arrange::is_settled", || is_settled(memory, edges))?,
+        trial.refuse_call("overlay_arrange::is_settled", || Ok(is_settled(memory, edges)?))?,
     ];
     assert!(trial.rt; told == [true, true]);
     for tree_from in [0, usize::MAX] {
         let fills = trial.refuse_call("overlay_arrange::fills_with_trees_from", || {
-            fills_with_trees_from(memory, edges, RULE, tree_from)
+            Ok(fills_with_trees_from(memory, edges, RULE, tree_from)?)
         })?;
         assert!(trial.rt; &fills[..4] == &[2, 1, 2, 1][..] && fills.len() == 4 * PATHS);
         let again = trial.refuse_call("overlay_arrange::fills_of_balanced", || {
-            fills_of_balanced(memory, edges, RULE, tree_from)
+            Ok(fills_of_balanced(memory, edges, RULE, tree_from)?)
         })?;
         assert!(trial.rt; again == fills);
     }
     trial.refuse_each(
         "overlay_arrange::order_by_numbers",
         || places_down(memory),
-        |it| order_by_numbers(it, PATHS, |place| *place),
+        |it| Ok(order_by_numbers(it, PATHS, |place| *place)?),
         |it| Ok(it[..] == places_down(memory)?[..]),
     )?;
     trial.refuse_each(
         "overlay_arrange::order_by_leaders",
         || places_in_turn(memory),
-        |it| order_by_leaders(it, 2, |p, q| p.cmp(q)),
+        |it| Ok(order_by_leaders(it, 2, |p, q| p.cmp(q))?),
         |it| Ok(it[..] == places_in_turn(memory)?[..]),
     )
 }
@@ -124,10 +124,10 @@ fn check_paths<I: Width>(trial: &Trial<'_, impl Abort>) -> Result<(), Fail> {
         )?;
     }
     let points = trial.refuse_call("overlay_builder::gathered", || {
-        gathered(memory, more.iter().copied())
+        Ok(gathered(memory, more.iter().copied())?)
     })?;
     assert!(trial.rt; &points[..] == &more[..]);
-    let points = trial.refuse_call("overlay_geom::copied", || copied(memory, &more))?;
+    let points = trial.refuse_call("overlay_geom::copied", || Ok(copied(memory, &more)?))?;
     assert!(trial.rt; &points[..] == &more[..]);
     let longer: [IntPoint<I>; 5] = [
         point(0, 0),
@@ -136,7 +136,7 @@ fn check_paths<I: Width>(trial: &Trial<'_, impl Abort>) -> Result<(), Fail> {
         point(2, 2),
         point(0, 2),
     ];
-    let points = trial.refuse_call("overlay_geom::thinned", || thinned(memory, &longer))?;
+    let points = trial.refuse_call("overlay_geom::thinned", || Ok(thinned(memory, &longer)?))?;
     assert!(trial.rt; &points[..] == &more[..]);
     Ok(())
 }
@@ -163,13 +163,13 @@ fn check_points<I: Width>(trial: &Trial<'_, impl Abort>) -> Result<(), Fail> {
     for tree_from in [0, usize::MAX] {
         let located = [
             trial.refuse_call("overlay_relate::locate_in_contour", || {
-                locate_in_contour(memory, &contour, &points, tree_from)
+                Ok(locate_in_contour(memory, &contour, &points, tree_from)?)
             })?,
             trial.refuse_call("overlay_relate::locate_in_shape", || {
-                locate_in_shape(memory, &shape, &points, tree_from)
+                Ok(locate_in_shape(memory, &shape, &points, tree_from)?)
             })?,
             trial.refuse_call("overlay_relate::locate_in_shapes", || {
-                locate_in_shapes(memory, &shapes, &points, tree_from)
+                Ok(locate_in_shapes(memory, &shapes, &points, tree_from)?)
             })?,
         ];
         for each in &located {
@@ -188,14 +188,14 @@ fn check_simplifying<I: Width>(trial: &Trial<'_, impl Abort>) -> Result<(), Fail
     let (memory, contour) = (trial.memory, square::<I>(0, 2));
     for outcome in [Outcome::AsGiven, Outcome::Reversed] {
         let shapes = trial.refuse_call("i_overlay::shapes_left", || {
-            shapes_left(memory, &contour, outcome)
+            Ok(shapes_left(memory, &contour, outcome)?)
         })?;
         assert!(trial.rt; shapes.len() == 1);
     }
     for solver in [Solver::ABSOLUTE, Solver::SNAPPED] {
         let outcome = trial.refuse_each(
             "i_overlay::outcome_of_contour",
-            || BuilderCore::<I, CountWithData<()>, Memory<'_>>::with_capacity(memory, 0),
+            || Ok(BuilderCore::<I, CountWithData<()>, Memory<'_>>::with_capacity(memory, 0)?),
             |it| {
                 let direction = ContourDirection::CounterClockwise;
                 outcome_of_contour(it, solver, &contour, false, RULE, direction)

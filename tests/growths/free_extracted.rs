@@ -80,7 +80,7 @@ fn graph_of<'m, I: Width, C: EdgeCount>(
         add_path(&mut content, &square(low, high), PathKind::Closed, passing)?;
     }
     content.arrange(Solver::ABSOLUTE, store)?;
-    content.graph(FillRule::EvenOdd)
+    Ok(content.graph(FillRule::EvenOdd)?)
 }
 
 fn plain_graph<I: Width>(memory: Memory<'_>) -> Answer<Plain<'_, I>> {
@@ -112,7 +112,7 @@ fn cuts<'m, I: Width, T: Drop, C: Fn(&mut OpenSteps<I, Memory<'m>>) -> Answer<T>
     name: &str,
     call: C,
 ) -> Result<T, Fail> {
-    let new = || OpenSteps::new(steps(graph)?);
+    let new = || Ok(OpenSteps::new(steps(graph)?)?);
     trial.refuse_each(name, new, call, |_| Ok(true))
 }
 
@@ -128,22 +128,22 @@ fn check_walks<I: Width>(trial: &Trial<'_, impl Abort>) -> Result<(), Fail> {
     for ogc in [false, true] {
         let options = IntOverlayOptions { ogc, ..options };
         let kept = lends(trial, "overlay_walk::kept_contours", |it| {
-            kept_contours(&graph, SUBJECT, options, it)
+            Ok(kept_contours(&graph, SUBJECT, options, it)?)
         })?;
         assert!(trial.rt; kept.len() == 4);
     }
     let walks = lends(trial, "overlay_walk::selected_walks", |it| {
-        selected_walks(&graph, SUBJECT, DIRECTION, it)
+        Ok(selected_walks(&graph, SUBJECT, DIRECTION, it)?)
     })?;
     let contours = lends(trial, "overlay_walk::selected_contours", |it| {
-        selected_contours(&graph, SUBJECT, DIRECTION, options.min_output_area, it)
+        Ok(selected_contours(&graph, SUBJECT, DIRECTION, options.min_output_area, it)?)
     })?;
     assert!(trial.rt; walks.len() == 4 && contours.len() == 4);
     let walks = cuts(trial, &graph, "overlay_walk::cut_into_contours", |it| {
-        cut_into_contours(memory, it, HandRule::OutlineOrHole(DIRECTION))
+        Ok(cut_into_contours(memory, it, HandRule::OutlineOrHole(DIRECTION))?)
     })?;
     let contours = cuts(trial, &graph, "overlay_walk::cut_in_groups", |it| {
-        cut_in_groups(memory, it, DIRECTION, options.min_output_area)
+        Ok(cut_in_groups(memory, it, DIRECTION, options.min_output_area)?)
     })?;
     assert!(trial.rt; walks.len() == 4 && contours.len() == 4);
     let new = || {
@@ -153,7 +153,7 @@ fn check_walks<I: Width>(trial: &Trial<'_, impl Abort>) -> Result<(), Fail> {
     let large = trial.refuse_each(
         "overlay_walk::large_walks",
         new,
-        |it| large_walks(memory, taken::<I>(it)?, options.min_output_area),
+        |it| Ok(large_walks(memory, taken::<I>(it)?, options.min_output_area)?),
         |_| Ok(true),
     )?;
     assert!(trial.rt; large.len() == 4);
@@ -176,7 +176,7 @@ fn functions_of_walks(rt: HostRuntime) -> Result<(), Fail> {
 // The contours that are kept of the squares.
 fn kept<'m, I: Width>(graph: &Plain<'m, I>) -> Answer<Contours<'m, I>> {
     let mut buffer = BooleanExtractionBuffer::default(*graph.allocator());
-    kept_contours(graph, SUBJECT, IntOverlayOptions::default(), &mut buffer)
+    Ok(kept_contours(graph, SUBJECT, IntOverlayOptions::default(), &mut buffer)?)
 }
 
 // The shapes in which contours stand from the start.
@@ -197,10 +197,10 @@ fn check_binding<I: Width>(trial: &Trial<'_, impl Abort>) -> Result<(), Fail> {
     let contours = kept(&graph)?;
     let known = known(memory, &contours)?;
     let anchors = trial.refuse_call("overlay_extract::hole_anchors", || {
-        hole_anchors(memory, &contours, &known)
+        Ok(hole_anchors(memory, &contours, &known)?)
     })?;
     let places = trial.refuse_call("overlay_extract::hole_places", || {
-        hole_places(memory, &contours)
+        Ok(hole_places(memory, &contours)?)
     })?;
     assert!(trial.rt; anchors.len() == 1 && places.len() == 4);
     for tree_from in LIMITS {
@@ -208,7 +208,7 @@ fn check_binding<I: Width>(trial: &Trial<'_, impl Abort>) -> Result<(), Fail> {
         let found = trial.refuse_each(
             "overlay_extract::bind_contours",
             new,
-            |it| bind_contours(memory, it, &contours, DIRECTION),
+            |it| Ok(bind_contours(memory, it, &contours, DIRECTION)?),
             |_| Ok(true),
         )?;
         assert!(trial.rt; found.len() == 4);
@@ -219,12 +219,12 @@ fn check_binding<I: Width>(trial: &Trial<'_, impl Abort>) -> Result<(), Fail> {
         let round = trial.refuse_each(
             "overlay_extract::holes_round",
             || Ok(scan_for_islands(memory, &contours, tree_from)),
-            |it| holes_round(memory, it, &contours, DIRECTION),
+            |it| Ok(holes_round(memory, it, &contours, DIRECTION)?),
             |_| Ok(true),
         )?;
         assert!(trial.rt; round.len() == 3);
         let places = trial.refuse_call("overlay_extract::shape_places", || {
-            shape_places(memory, &contours, &found)
+            Ok(shape_places(memory, &contours, &found)?)
         })?;
         assert!(trial.rt; places.len() == 3 && places[0].len() == 2);
     }
@@ -242,16 +242,16 @@ fn check_shapes<I: Width>(trial: &Trial<'_, impl Abort>) -> Result<(), Fail> {
     let contours = kept(&graph)?;
     for tree_from in LIMITS {
         let placed = lends(trial, "overlay_extract::placed_contours", |it| {
-            placed_contours(&graph, SUBJECT, options, it, tree_from)
+            Ok(placed_contours(&graph, SUBJECT, options, it, tree_from)?)
         })?;
         let places = trial.refuse_call("overlay_extract::bound_places", || {
-            bound_places(&graph, &contours, DIRECTION, tree_from)
+            Ok(bound_places(&graph, &contours, DIRECTION, tree_from)?)
         })?;
         assert!(trial.rt; placed.places.len() == 3 && places.len() == 3);
         let shapes = lends(
             trial,
             "overlay_extract::extract_shapes_with_trees_from",
-            |it| extract_shapes_with_trees_from(&graph, SUBJECT, options, it, tree_from),
+            |it| Ok(extract_shapes_with_trees_from(&graph, SUBJECT, options, it, tree_from)?),
         )?;
         let linked = lends(
             trial,
@@ -263,7 +263,7 @@ fn check_shapes<I: Width>(trial: &Trial<'_, impl Abort>) -> Result<(), Fail> {
         assert!(trial.rt; shapes.len() == 3 && linked.links.len() == 1);
     }
     let shapes = lends(trial, "overlay_extract::extract_shapes", |it| {
-        extract_shapes(&graph, SUBJECT, options, it)
+        Ok(extract_shapes(&graph, SUBJECT, options, it)?)
     })?;
     let linked = lends(trial, "overlay_extract::extract_shape_hierarchy", |it| {
         extract_shape_hierarchy(&graph, SUBJECT, options, it)
@@ -272,10 +272,10 @@ fn check_shapes<I: Width>(trial: &Trial<'_, impl Abort>) -> Result<(), Fail> {
     let places = bound_places(&graph, &contours, DIRECTION, 0)?;
     for keeps_points in [false, true] {
         let again = trial.refuse_call("overlay_extract::assembled", || {
-            assembled(memory, &contours, &places, keeps_points)
+            Ok(assembled(memory, &contours, &places, keeps_points)?)
         })?;
         let first = trial.refuse_call("overlay_extract::contour", || {
-            contour(memory, &contours[0].steps, keeps_points)
+            Ok(contour(memory, &contours[0].steps, keeps_points)?)
         })?;
         assert!(trial.rt; again == shapes && first == shapes[0][0]);
     }
@@ -315,38 +315,38 @@ fn check_slices<I: Width>(trial: &Trial<'_, impl Abort>) -> Result<(), Fail> {
     let memory = trial.memory;
     let (graph, options) = (plain_graph::<I>(memory)?, IntOverlayOptions::default());
     let least: I::WideUInt = options.min_output_area;
-    let orbits = trial.refuse_call("overlay_extract::side_orbits", || side_orbits(&graph))?;
+    let orbits = trial.refuse_call("overlay_extract::side_orbits", || Ok(side_orbits(&graph)?))?;
     let counts = [
-        count_of(trial, "overlay_extract::tours", || tours(memory, &orbits))?,
+        count_of(trial, "overlay_extract::tours", || Ok(tours(memory, &orbits)?))?,
         count_of(
             trial,
             "overlay_extract::filled_loops",
-            || filled_loops(&graph),
+            || Ok(filled_loops(&graph)?),
         )?,
         count_of(trial, "overlay_extract::cut_loops", || {
-            cut_loops(memory, &orbits[0])
+            Ok(cut_loops(memory, &orbits[0])?)
         })?,
     ];
     assert!(trial.rt; orbits.len() == 4 && counts == [4, 4, 1]);
     let contours = trial.refuse_each(
         "overlay_extract::contours_of_loops",
         || Ok(Some(filled_loops(&graph)?)),
-        |it| contours_of_loops(memory, taken::<I>(it)?),
+        |it| Ok(contours_of_loops(memory, taken::<I>(it)?)?),
         |_| Ok(true),
     )?;
     let found = trial.refuse_call("overlay_extract::slice_contours", || {
-        slice_contours(&graph, least)
+        Ok(slice_contours(&graph, least)?)
     })?;
     let shapes = trial.refuse_call("overlay_extract::sliced_shapes", || {
-        sliced_shapes(&graph, DIRECTION, least)
+        Ok(sliced_shapes(&graph, DIRECTION, least)?)
     })?;
     assert!(trial.rt; contours.len() == 4 && found.contours.len() == 4 && shapes.len() == 3);
     for tree_from in LIMITS {
         let found = trial.refuse_call("overlay_extract::slice_contours_with_trees_from", || {
-            slice_contours_with_trees_from(&graph, least, tree_from)
+            Ok(slice_contours_with_trees_from(&graph, least, tree_from)?)
         })?;
         let again = trial.refuse_call("overlay_extract::sliced_shapes_with_trees_from", || {
-            sliced_shapes_with_trees_from(&graph, DIRECTION, least, tree_from)
+            Ok(sliced_shapes_with_trees_from(&graph, DIRECTION, least, tree_from)?)
         })?;
         assert!(trial.rt; found.contours.len() == 4 && again == shapes);
     }
@@ -367,22 +367,22 @@ fn check_vectors<I: Width>(trial: &Trial<'_, impl Abort>) -> Result<(), Fail> {
         count_of(
             trial,
             "overlay_vector::graph_vectors",
-            || graph_vectors(&graph),
+            || Ok(graph_vectors(&graph)?),
         )?,
         count_of(trial, "overlay_vector::selected_vectors", || {
-            selected_vectors(&graph, SUBJECT)
+            Ok(selected_vectors(&graph, SUBJECT)?)
         })?,
     ];
     assert!(trial.rt; counts == [16, 16]);
     let shapes = lends(trial, "overlay_vector::vector_shapes", |it| {
-        vector_shapes(&graph, SUBJECT, options, it, &mut ())
+        Ok(vector_shapes(&graph, SUBJECT, options, it, &mut ())?)
     })?;
     assert!(trial.rt; shapes.len() == 3);
     for tree_from in LIMITS {
         let shapes = lends(
             trial,
             "overlay_vector::vector_shapes_with_trees_from",
-            |it| vector_shapes_with_trees_from(&graph, SUBJECT, options, it, &mut (), tree_from),
+            |it| Ok(vector_shapes_with_trees_from(&graph, SUBJECT, options, it, &mut (), tree_from)?),
         )?;
         assert!(trial.rt; shapes.len() == 3);
     }

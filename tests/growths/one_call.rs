@@ -255,12 +255,12 @@ fn check_grid<I: Width>(trial: &Trial<'_, impl Abort>) -> Result<(), Fail> {
     };
     let counts = [
         count_of(trial, "overlay_string::grid_places", || {
-            grid_places(memory, I::from(3), span)
+            Ok(grid_places(memory, I::from(3), span)?)
         })?,
         trial
             .refuse_call(
                 "overlay_string::grid_lines",
-                || grid_lines(memory, &shape, grid),
+                || Ok(grid_lines(memory, &shape, grid)?),
             )?
             .len(),
         count_of(trial, "overlay_string::slice_by_grid", || {
