@@ -38,8 +38,7 @@ SMALL = [str(word) for kind in KINDS for limit in LIMITS.values() for word in (k
 
 NAME = "timed_scans"
 USES = [
-    "overlay_geom", "overlay_scan", "overlay_arrange", "overlay_walk", "overlay_extract",
-    "overlay_relate", "anyhow",
+    "overlay_geom", "overlay_scan", "overlay_arrange", "overlay_walk", "overlay_extract", "overlay_relate", "anyhow",
 ]
 DRIVER = """\
 //! Times sweeps: KIND EDGES TREE_FROM ROUNDS, as often as is wanted.
