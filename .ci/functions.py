@@ -12,8 +12,8 @@ QUOTED = re.compile(r"//[^\n]*|\"(?:\\.|[^\"\\])*\"|'(?:\\[^']*|[^'\\])'")
 
 @dataclass(frozen=True)
 class Function:
-    """A function: its path below the crate, its file, the part that is its item, whether it calls itself, and whether it is
-    a law, which has no body."""
+    """A function: its path below the crate, its file, the part that is its item, whether it calls itself, and whether
+    it is a law, which has no body."""
 
     path: str
     file: Path
