@@ -1,18 +1,9 @@
 //! Lists in order but for items that come too early.
 
+use crate::pairs::list_of;
 use overlay_arrange::sort_leaders::order_by_leaders;
-use std::alloc::Allocator;
 use std::process::Abort;
 use std::test::Fail;
-
-// A list of pairs.
-fn list_of<A: Allocator>(alloc: A, pairs: &[(usize, u8)]) -> Result<Vec<(usize, u8), A>, Fail> {
-    let mut list = Vec::new(alloc);
-    for pair in pairs {
-        list.push(*pair)?;
-    }
-    Ok(list)
-}
 
 #[test]
 fn early_items_move_back_and_equal_items_keep_their_order(rt: HostRuntime) -> Result<(), Fail> {

@@ -8,6 +8,7 @@ mod fills;
 mod graph;
 mod leaders;
 mod numbers;
+mod pairs;
 mod rounds;
 mod snapping;
 mod string_count;

@@ -1,18 +1,9 @@
 //! Lists that are put in the order of small numbers.
 
+use crate::pairs::list_of;
 use overlay_arrange::sort_numbers::order_by_numbers;
-use std::alloc::Allocator;
 use std::process::Abort;
 use std::test::Fail;
-
-// A list of pairs.
-fn list_of<A: Allocator>(alloc: A, pairs: &[(usize, u8)]) -> Result<Vec<(usize, u8), A>, Fail> {
-    let mut list = Vec::new(alloc);
-    for pair in pairs {
-        list.push(*pair)?;
-    }
-    Ok(list)
-}
 
 #[test]
 fn items_with_equal_numbers_keep_their_order(rt: HostRuntime) -> Result<(), Fail> {

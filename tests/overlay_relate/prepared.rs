@@ -246,19 +246,24 @@ fn ends_of_the_range(rt: HostRuntime) -> Result<(), Fail> {
     at_the_ends::<i64>(&rt, alloc, -high, high, past, i64::MIN, i64::MAX)
 }
 
-// Squares in a row, 1500 of them: their edges are in many blocks and in two groups.
-#[test]
-fn many_squares_in_a_row(rt: HostRuntime) -> Result<(), Fail> {
-    let alloc = rt.alloc();
-    let mut shape: IntShape<i32, Global> = Vec::new(alloc);
+// Squares in a row, 1500 of them, in range: their edges are in many blocks and in two groups.
+fn squares_in_a_row(rt: &impl Abort, alloc: Global) -> Result<IntShape<i32, Global>, Fail> {
+    let mut shape = Vec::new(alloc);
     for n in 0..1500 {
         let x = 4 * n;
         let square = [[x, 0], [x + 2, 0], [x + 2, 2], [x, 2]];
         shape.push(Vec::from_array(alloc, square.map(|at| IntPoint::new(at[0], at[1])))?)?;
     }
     for contour in &shape {
-        assert!(&rt; in_range(contour));
+        assert!(rt; in_range(contour));
     }
+    Ok(shape)
+}
+
+#[test]
+fn many_squares_in_a_row(rt: HostRuntime) -> Result<(), Fail> {
+    let alloc = rt.alloc();
+    let shape = squares_in_a_row(&rt, alloc)?;
     let prepared = PreparedShape::new(alloc, &shape, FillRule::EvenOdd, Solver::ABSOLUTE)?;
     for n in 0..1500 {
         let x = 4 * n;
@@ -275,19 +280,12 @@ fn many_squares_in_a_row(rt: HostRuntime) -> Result<(), Fail> {
 #[test]
 fn parts(rt: HostRuntime) -> Result<(), Fail> {
     let alloc = rt.alloc();
-    let mut shape: IntShape<i32, Global> = Vec::new(alloc);
-    let bare = PreparedShape::new(alloc, &shape, FillRule::EvenOdd, Solver::SNAPPED)?.into_parts();
+    let none: IntShape<i32, Global> = Vec::new(alloc);
+    let bare = PreparedShape::new(alloc, &none, FillRule::EvenOdd, Solver::SNAPPED)?.into_parts();
     assert!(&rt; bare.edges.is_empty() && bare.blocks.is_empty() && bare.groups.is_empty());
     let origin = IntPoint::new(0, 0);
     assert!(&rt; locate_in(&bare.edges, &bare.blocks, &bare.groups, origin) == Outside);
-    for n in 0..1500 {
-        let x = 4 * n;
-        let square = [[x, 0], [x + 2, 0], [x + 2, 2], [x, 2]];
-        shape.push(Vec::from_array(alloc, square.map(|at| IntPoint::new(at[0], at[1])))?)?;
-    }
-    for contour in &shape {
-        assert!(&rt; in_range(contour));
-    }
+    let shape = squares_in_a_row(&rt, alloc)?;
     let held = PreparedShape::new(alloc, &shape, FillRule::EvenOdd, Solver::SNAPPED)?.into_parts();
     assert!(&rt; held.edges.len() == 6000 && held.blocks.len() == 94 && held.groups.len() == 2);
     for n in 0..1500 {

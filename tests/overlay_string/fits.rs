@@ -1,8 +1,9 @@
 //! Grids that fit, at each coordinate type.
 
-use crate::tile_points::{Points, assert_in_range, contour_of, corners_of, grid_of};
+use crate::tile_points::{corners_of, grid_of};
 use overlay_geom::integer::OverlayInt;
 use overlay_string::tiles::grid::{Grid, grid_fits};
+use small_points::contours::{Points, assert_in_range, contour_of};
 use std::alloc::Global;
 use std::process::Abort;
 use std::test::Fail;

@@ -1,6 +1,6 @@
 //! Two needles in one tile of a grid, which rounds do not settle, and snap rounding does, at each coordinate type.
 
-use crate::tile_points::{Points, are_tiles, assert_in_range, contour_of, grid_of};
+use crate::tile_points::{are_tiles, grid_of};
 use overlay_arrange::fill_rule::FillRule;
 use overlay_geom::error::OverlayError;
 use overlay_geom::integer::OverlayInt;
@@ -8,6 +8,7 @@ use overlay_geom::path::IntShape;
 use overlay_geom::solver::Solver;
 use overlay_string::tiles::grid::grid_fits;
 use overlay_string::tiles::slice::{slice_by_grid, slice_by_grid_with_solver};
+use small_points::contours::{Points, assert_in_range, contour_of};
 use std::alloc::Global;
 use std::process::Abort;
 use std::test::Fail;

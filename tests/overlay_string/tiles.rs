@@ -1,10 +1,11 @@
 //! Shapes sliced by grids, on worked rows, at each coordinate type.
 
-use crate::tile_points::{Points, are_tiles, assert_in_range, contour_of, corners_of, grid_of};
+use crate::tile_points::{are_tiles, corners_of, grid_of};
 use overlay_arrange::fill_rule::FillRule;
 use overlay_geom::integer::OverlayInt;
 use overlay_string::tiles::grid::{Grid, grid_fits};
 use overlay_string::tiles::slice::slice_by_grid;
+use small_points::contours::{Points, assert_in_range, contour_of};
 use std::alloc::Global;
 use std::process::Abort;
 use std::test::Fail;

@@ -1,0 +1,3 @@
+//! Contours from small coordinates, for the tests in other folders.
+
+pub mod contours;
