@@ -2,7 +2,12 @@
 
 import re
 import shutil
+import subprocess
+import sys
 from pathlib import Path
+
+sys.path.insert(0, "scripts")
+from toolchain import make_trying_kit  # noqa: E402
 
 CRATES = Path("crates.txt")
 PARTS = ("src", "specs")
@@ -22,7 +27,11 @@ def lines_in(file: Path) -> dict[str, list[str]]:
 
 
 def lay_crates(root: Path, more: dict[str, list[str]]) -> None:
-    """Copies the source and the definitions of each crate; crates.txt has a line for each, and for those to come."""
+    """Copies the source and the definitions of each crate; crates.txt has a line for each, and for those to come.
+
+    Beside them it lays links to the toolchain, for `rt try` alone.
+    """
+    make_trying_kit(root / "kit")
     crates = lines_in(CRATES)
     for name in crates:
         for part in PARTS:
@@ -32,3 +41,10 @@ def lay_crates(root: Path, more: dict[str, list[str]]) -> None:
         (root / "crates" / name / "src").mkdir(parents=True)
     lines = [f"{name}: {' '.join(uses)}\n" for name, uses in (crates | more).items()]
     (root / CRATES).write_text("".join(lines))
+
+
+def try_tests(root: Path, name: str, **how) -> subprocess.CompletedProcess:
+    """Compiles the tests of a crate laid there, with all checks, and runs them; gives what was said."""
+    rt = root / "kit" / "bin" / "rt"
+    words = {"capture_output": True, "text": True, "check": False, **how}
+    return subprocess.run([rt, "try", "--test"], cwd=root / "crates" / name, **words)

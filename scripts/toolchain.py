@@ -1,4 +1,5 @@
-"""The toolchain: where it is, its compiler of modules, and links to it whose compiler leaves the module it is given."""
+"""The toolchain: where it is, its compiler of modules, and links to it: for `rt try` alone, and with a compiler that
+leaves the module it is given."""
 
 import shutil
 import subprocess
@@ -60,11 +61,22 @@ def make_leaving_compiler(folder: Path, module: Path) -> None:
     script.chmod(0o755)
 
 
-def make_leaving_kit(folder: Path, module: Path) -> Path:
-    """The toolchain as a folder of links, with such a compiler; gives its `rt`."""
-    link_all(kit(), folder, "bin", "toolchain")
-    link_all(kit() / "bin", folder / "bin", "rt", "rtlib.py")
+def make_trying_kit(folder: Path, *others: str) -> Path:
+    """The toolchain as a folder of links, but for those named, whose `rt` is for `rt try` alone; gives that.
+
+    Beside a try, `rt` has the prover look for names that it would refuse, which takes as long as compiling. Here it
+    does not: nothing stands where the prover is.
+    """
+    link_all(kit(), folder, "bin", *others)
+    link_all(kit() / "bin", folder / "bin", "rt", "rtlib.py", "rattle")
     for name in ("rt", "rtlib.py"):
         shutil.copy(kit() / "bin" / name, folder / "bin" / name)
-    make_leaving_compiler(folder / "toolchain", module)
+    (folder / "bin" / "rattle").symlink_to(shutil.which("true"))
     return folder / "bin" / "rt"
+
+
+def make_leaving_kit(folder: Path, module: Path) -> Path:
+    """Such a folder with such a compiler; gives its `rt`."""
+    rt = make_trying_kit(folder, "toolchain")
+    make_leaving_compiler(folder / "toolchain", module)
+    return rt

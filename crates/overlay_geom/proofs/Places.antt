@@ -1,5 +1,5 @@
 -- The position of an edge relative to another edge's line, read off the sides of its two ends.
-use Rattle.std.proofs.Common.{◌≡◌, ◌≢◌, inl, inr, Bool, true, false, not, ◌==◌, ℤ, pos, ◌<ℤ◌, int_cmp, refl}
+use Rattle.std.proofs.Common.{◌≡◌, ◌≢◌, ◌⊎◌, inl, inr, Bool, true, false, not, ◌==◌, ℤ, pos, ◌<ℤ◌, ◌≤ℤ◌, int_cmp, refl}
 use Rattle.std.specs.Ordering.{MatchOrdering, is_eq, ordering_index}
 use Rattle.std.specs.declared.cmp.Ordering.{Ordering}
 use Rattle.std.specs.declared.cmp.Ordering.TheVariants.{Less, Equal, Greater}
@@ -21,22 +21,28 @@ TellsSide o z = MatchOrdering o (z <ℤ pos 0) (z ≡ pos 0) (pos 0 <ℤ z)
 abbrev are_same : Ordering → Ordering → Bool
 are_same a b = ordering_index a == ordering_index b
 
+-- the sides, as numbers, of two ends of an edge that goes across
+abbrev AreAcross : ℤ → ℤ → Type 0
+AreAcross x y = ((x ≤ℤ pos 0) × (pos 0 ≤ℤ y) × (x <ℤ y)) ⊎ ((y ≤ℤ pos 0) × (pos 0 ≤ℤ x) × (y <ℤ x))
+
+-- ends on different sides are such
+across_where_different : (x y : ℤ) (a b : Ordering) → TellsSide a x → TellsSide b y → not (are_same a b) ≡ true →
+    AreAcross x y
+across_where_different x y Less Less s t differ = absurd (cc)
+across_where_different x y Less Equal s t differ = inl (omega linear, omega linear, omega linear)
+across_where_different x y Less Greater s t differ = inl (omega linear, omega linear, omega linear)
+across_where_different x y Equal Less s t differ = inr (omega linear, omega linear, omega linear)
+across_where_different x y Equal Equal s t differ = absurd (cc)
+across_where_different x y Equal Greater s t differ = inl (omega linear, omega linear, omega linear)
+across_where_different x y Greater Less s t differ = inr (omega linear, omega linear, omega linear)
+across_where_different x y Greater Equal s t differ = inr (omega linear, omega linear, omega linear)
+across_where_different x y Greater Greater s t differ = absurd (cc)
+
 -- an edge whose ends lie on different sides goes across
 pub across_from_sides : (e f : Edge) (a b : Ordering) → a ≡ int_cmp (cross_at e.a e.b f.a) (pos 0) →
     b ≡ int_cmp (cross_at e.a e.b f.b) (pos 0) → not (are_same a b) ≡ true → IsAcross e f
-across_from_sides e f a b at_a at_b differ = by a b (int_ranked _ _ a at_a) (int_ranked _ _ b at_b) differ
-  where
-    by : (a b : Ordering) → TellsSide a (cross_at e.a e.b f.a) → TellsSide b (cross_at e.a e.b f.b) →
-        not (are_same a b) ≡ true → IsAcross e f
-    by Less Less s t differ = absurd (cc)
-    by Less Equal s t differ = inl (omega linear, omega linear, omega linear)
-    by Less Greater s t differ = inl (omega linear, omega linear, omega linear)
-    by Equal Less s t differ = inr (omega linear, omega linear, omega linear)
-    by Equal Equal s t differ = absurd (cc)
-    by Equal Greater s t differ = inl (omega linear, omega linear, omega linear)
-    by Greater Less s t differ = inr (omega linear, omega linear, omega linear)
-    by Greater Equal s t differ = inr (omega linear, omega linear, omega linear)
-    by Greater Greater s t differ = absurd (cc)
+across_from_sides e f a b at_a at_b differ =
+    across_where_different _ _ a b (int_ranked _ _ a at_a) (int_ranked _ _ b at_b) differ
 
 -- an edge both of whose ends lie on the line is along it
 pub along_from_sides : (e f : Edge) (a b : Ordering) → a ≡ int_cmp (cross_at e.a e.b f.a) (pos 0) →
