@@ -10,22 +10,21 @@ use overlay_arrange::count::EdgeCount;
 use overlay_arrange::graph::Graph;
 use overlay_arrange::options::ContourDirection;
 use overlay_extract::slicing::sliced_shapes::sliced_shapes;
-use overlay_geom::error::OverlayError;
 use overlay_geom::number::{IntNumber, UIntNumber};
 use overlay_geom::path::IntShapes;
-use std::alloc::Allocator;
+use std::alloc::{AllocError, Allocator};
 
 /// The shapes of the slices, however small: of each its outline, counterclockwise, and then its holes, clockwise.
 pub fn all_slices<I: IntNumber, C: EdgeCount, A: Allocator + Clone>(
     graph: &Graph<I, C, A>,
-) -> Result<IntShapes<I, A>, OverlayError>
+) -> Result<IntShapes<I, A>, AllocError>
     requires { HasBalancedCounts (graph_edges graph.now) }
     ensures { IfOk result (λ v. IsSliced I.Wide.width 0 graph.now.fill_rule ContourDirection.CounterClockwise
         (graph_edges graph.now) (plain_shapes I.whole v.items)) }
 {
-    Ok(sliced_shapes(
+    sliced_shapes(
         graph,
         ContourDirection::CounterClockwise,
         I::WideUInt::zero(),
-    )?)
+    )
 }

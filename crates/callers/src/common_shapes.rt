@@ -11,22 +11,21 @@ use overlay_arrange::graph::Graph;
 use overlay_arrange::options::IntOverlayOptions;
 use overlay_arrange::overlay_rule::OverlayRule;
 use overlay_extract::extract::extract_shapes;
-use overlay_geom::error::OverlayError;
 use overlay_geom::number::IntNumber;
 use overlay_geom::path::IntShapes;
 use overlay_walk::buffer::BooleanExtractionBuffer;
-use std::alloc::Allocator;
+use std::alloc::{AllocError, Allocator};
 
 /// The shapes that both the subject and the clip fill.
 pub fn common_shapes<I: IntNumber, C: EdgeCount, A: Allocator + Clone>(
     graph: &Graph<I, C, A>,
     options: IntOverlayOptions<I::WideUInt>,
     buffer: &mut BooleanExtractionBuffer<I, A>,
-) -> Result<IntShapes<I, A>, OverlayError>
+) -> Result<IntShapes<I, A>, AllocError>
     requires { HasBalancedCounts (graph_edges graph.now) }
     ensures { IfOk result (λ v. IsResult
         (asked I.Wide.width I.WideUInt.natural graph.now.fill_rule OverlayRule.Intersect options)
         (graph_edges graph.now) (plain_shapes I.whole v.items)) }
 {
-    Ok(extract_shapes(graph, OverlayRule::Intersect, options, buffer)?)
+    extract_shapes(graph, OverlayRule::Intersect, options, buffer)
 }

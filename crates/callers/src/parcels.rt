@@ -16,11 +16,10 @@ use overlay_arrange::options::IntOverlayOptions;
 use overlay_arrange::overlay_rule::OverlayRule;
 use overlay_extract::extract::extract_shapes;
 use overlay_extract::laws::no_two_shapes_wind_round_one_point;
-use overlay_geom::error::OverlayError;
 use overlay_geom::number::{IntNumber, UIntNumber};
 use overlay_geom::path::IntShapes;
 use overlay_walk::buffer::BooleanExtractionBuffer;
-use std::alloc::Allocator;
+use std::alloc::{AllocError, Allocator};
 
 /// The shapes that the subject fills, of any area: each by itself winds once, in the output direction, or zero times
 /// round each point, and no two of them wind round one point off the edges.
@@ -28,7 +27,7 @@ pub fn parcels<I: IntNumber, C: EdgeCount, A: Allocator + Clone>(
     graph: &Graph<I, C, A>,
     options: IntOverlayOptions<I::WideUInt>,
     buffer: &mut BooleanExtractionBuffer<I, A>,
-) -> Result<IntShapes<I, A>, OverlayError>
+) -> Result<IntShapes<I, A>, AllocError>
     requires balanced { HasBalancedCounts (graph_edges graph.now) }
     requires all { I.WideUInt.natural options.min_output_area ≡ 0 }
     ensures alone { IfOk result
@@ -37,5 +36,5 @@ pub fn parcels<I: IntNumber, C: EdgeCount, A: Allocator + Clone>(
         NoTwoWindRound (plain_shapes I.whole v.items) p) }
 {
     no_two_shapes_wind_round_one_point();
-    Ok(extract_shapes(graph, OverlayRule::Subject, options, buffer)?)
+    extract_shapes(graph, OverlayRule::Subject, options, buffer)
 }
