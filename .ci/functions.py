@@ -12,15 +12,13 @@ QUOTED = re.compile(r"//[^\n]*|\"(?:\\.|[^\"\\])*\"|'(?:\\[^']*|[^'\\])'")
 
 @dataclass(frozen=True)
 class Function:
-    """A function: its path below the crate, its file, the part that is its item, whether it calls itself, and whether
-    it is a law, which has no body."""
+    """A function: its path below the crate, its file, the part that is its item, and whether it calls itself."""
 
     path: str
     file: Path
     start: int
     end: int
     is_cyclic: bool
-    is_law: bool
 
 
 def blanked(text):
@@ -125,6 +123,5 @@ def functions_of(crate):
             end = item_end(plain, head.start(), head[1])
             is_cyclic = crate.joinpath("proofs", *names[:-1], f"+{names[-1]}").is_dir()
             is_cyclic |= "#[cycle" in plain[max(0, head.start() - 80) : head.start()]
-            is_law = plain[head.start() : end].rstrip().endswith("{}")
-            found.append(Function("::".join(names), file, head.start(), end, is_cyclic, is_law))
+            found.append(Function("::".join(names), file, head.start(), end, is_cyclic))
     return found
