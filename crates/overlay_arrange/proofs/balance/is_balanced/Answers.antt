@@ -25,8 +25,8 @@ cancel_out-requires g c =
     let answer : r ≡ point_cmp (plain_point whole a.0.now.point) (plain_point whole a.1.0.now.point) = search rules in
     ap is_lt answer ∙ point_cmp-is_less (plain_point whole a.0.now.point) (plain_point whole a.1.0.now.point))))))
 
-pub returns-clause-balanced : goal.returns-clause-balanced
-returns-clause-balanced g c =
+pub returns : goal.returns
+returns g c =
     let whole = g.I.IntNumber.whole in
     let es = plain_edges whole g.C.EdgeCount.counts c.args.edges.now in
     let sorted = c.sort_by.new.self.items in

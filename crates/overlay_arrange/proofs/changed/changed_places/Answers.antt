@@ -26,8 +26,8 @@ loop-i-preserved g c =
           (w.if-not-was_closed.ensures refl) c.loop-i.invariant)
     ]
 
-pub returns-clause-ok : goal.returns-clause-ok
-returns-clause-ok g c =
+pub returns : goal.returns
+returns g c =
     let all : c.loop-i.i ≡ length c.args.edges.now = (let up = c.loop-i.auto.i-end in
     omega (arith, up, c.loop-i-test.false)) in
     subst (λ n. AreChangedBefore (plain_edges g.I.IntNumber.whole g.C.EdgeCount.counts c.args.edges.now)

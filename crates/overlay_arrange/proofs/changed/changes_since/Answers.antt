@@ -48,8 +48,8 @@ strips_of-requires-clause-ascending g c =
     subst (λ fs. IsAscending (plain_edges whole counts fs)) (sym c.deref-3.ensures.value)
     (changes_ascend es places cs changes c.requires.ascending)
 
-pub returns-clause-ok : goal.returns-clause-ok
-returns-clause-ok g c =
+pub returns : goal.returns
+returns g c =
     let whole = g.I.IntNumber.whole in
     let counts = g.C.EdgeCount.counts in
     let es = plain_edges whole counts c.args.edges.now in

@@ -23,8 +23,8 @@ loop-k-preserved g c =
     (placed_in_mapped plain c.args.edges.now i e (c.requires k 0 c.loop-k-test.true) c.index-edges-places.is)
     c.loop-k.invariant)
 
-pub returns-clause-ok : goal.returns-clause-ok
-returns-clause-ok g c =
+pub returns : goal.returns
+returns g c =
     all_stand (plain_edges g.I.IntNumber.whole g.C.EdgeCount.counts c.args.edges.now) c.args.places.now c.loop-k.k
     (plain_edges g.I.IntNumber.whole g.C.EdgeCount.counts c.loop-k.found.items)
     (let up = c.loop-k.auto.k-end in omega (arith, up, c.loop-k-test.false)) c.loop-k.invariant

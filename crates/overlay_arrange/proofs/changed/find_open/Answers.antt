@@ -66,8 +66,8 @@ put_places-requires g c =
     (numbers_within es changed.places.items cs known.changes (plain_edge whole counts c.index-edges-i.result)
     c.first_from-k.result c.find_near_behind-else-index-i.new.near.items near)
 
-pub returns-then-k-len-clause-ok : goal.returns-then-k-len-clause-ok
-returns-then-k-len-clause-ok g c =
+pub returns-then-k-len : goal.returns-then-k-len
+returns-then-k-len g c =
     let whole = g.I.IntNumber.whole in
     let counts = g.C.EdgeCount.counts in
     let es = plain_edges whole counts c.args.edges.now in
@@ -86,8 +86,8 @@ returns-then-k-len-clause-ok g c =
     (none_left es changed.places.items cs known.changes c.args.i c.first_from-k.result first
     (plain_edge whole counts e) at_e (λ at. omega (arith, all, at.0)) all))
 
-pub returns-then-index-i-clause-ok : goal.returns-then-index-i-clause-ok
-returns-then-index-i-clause-ok g c =
+pub returns-then-index-i : goal.returns-then-index-i
+returns-then-index-i g c =
     let plain = plain_edge g.I.IntNumber.whole g.C.EdgeCount.counts in
     let es = plain_edges g.I.IntNumber.whole g.C.EdgeCount.counts c.args.edges.now in
     let e = c.index-edges-i.result in
@@ -96,8 +96,8 @@ returns-then-index-i-clause-ok g c =
     (placed_in_mapped plain c.args.edges.now c.args.i e c.requires.within c.index-edges-i.is))
     c.find_near_behind-then-index-i.ensures.ok
 
-pub returns-in_ok-find_near_behind-clause-ok : goal.returns-in_ok-find_near_behind-clause-ok
-returns-in_ok-find_near_behind-clause-ok g c =
+pub returns-in_ok-find_near_behind : goal.returns-in_ok-find_near_behind
+returns-in_ok-find_near_behind g c =
     let whole = g.I.IntNumber.whole in
     let counts = g.C.EdgeCount.counts in
     let es = plain_edges whole counts c.args.edges.now in

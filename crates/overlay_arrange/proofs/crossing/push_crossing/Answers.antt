@@ -7,8 +7,8 @@ use Rattle.overlay_arrange.proofs.PairMeetings.{crossing_added, none_where_one_a
 use Rattle.overlay_arrange.proofs.crossing.push_crossing.Goals as goal
 use Rattle.overlay_arrange.proofs.crossing.push_crossing.Goals.{in-Across, in_default}
 
-pub returns-in_ok-push_inside-2-clause-ok : goal.returns-in_ok-push_inside-2-clause-ok
-returns-in_ok-push_inside-2-clause-ok g c =
+pub returns-in_ok-push_inside-2 : goal.returns-in_ok-push_inside-2
+returns-in_ok-push_inside-2 g c =
     let whole = g.I.IntNumber.whole in
     let e = plain_edge whole g.C.EdgeCount.counts c.args.e.now in
     let f = plain_edge whole g.C.EdgeCount.counts c.args.f.now in
@@ -19,8 +19,8 @@ returns-in_ok-push_inside-2-clause-ok g c =
       | in_default w ↦ absurd (cc (w.matches-is, c.if-matches.true))
     ]
 
-pub returns-else-matches-clause-ok : goal.returns-else-matches-clause-ok
-returns-else-matches-clause-ok g c =
+pub returns-else-matches : goal.returns-else-matches
+returns-else-matches g c =
     let whole = g.I.IntNumber.whole in
     let e = plain_edge whole g.C.EdgeCount.counts c.args.e.now in
     let f = plain_edge whole g.C.EdgeCount.counts c.args.f.now in

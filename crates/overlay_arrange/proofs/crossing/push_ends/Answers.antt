@@ -5,8 +5,8 @@ use Rattle.overlay_arrange.specs.Content.{plain_edge}
 use Rattle.overlay_arrange.proofs.PairMeetings.{ends_added}
 use Rattle.overlay_arrange.proofs.crossing.push_ends.Goals as goal
 
-pub returns-clause-ok : goal.returns-clause-ok
-returns-clause-ok g c =
+pub returns : goal.returns
+returns g c =
     let e = plain_edge g.I.IntNumber.whole g.C.EdgeCount.counts c.args.e.now in
     let f = plain_edge g.I.IntNumber.whole g.C.EdgeCount.counts c.args.f.now in
     on_ok_weaker c.push_ends_between-2.result

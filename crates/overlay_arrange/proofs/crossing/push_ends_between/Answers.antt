@@ -7,8 +7,8 @@ use Rattle.overlay_arrange.specs.Content.{plain_edge}
 use Rattle.overlay_arrange.proofs.PairMeetings.{two_added}
 use Rattle.overlay_arrange.proofs.crossing.push_ends_between.Goals as goal
 
-pub returns-clause-ok : goal.returns-clause-ok
-returns-clause-ok g c =
+pub returns : goal.returns
+returns g c =
     let whole = g.I.IntNumber.whole in
     let e = plain_edge whole g.C.EdgeCount.counts c.args.e.now in
     on_ok_weaker c.push_between-2.result

@@ -5,8 +5,8 @@ use Rattle.overlay_arrange.specs.Meetings.{plain_meetings}
 use Rattle.overlay_arrange.proofs.PairMeetings.{none_where_beside}
 use Rattle.overlay_arrange.proofs.crossing.push_meetings.Goals as goal
 
-pub returns-in-Beside-clause-ok : goal.returns-in-Beside-clause-ok
-returns-in-Beside-clause-ok g c =
+pub returns-in-Beside : goal.returns-in-Beside
+returns-in-Beside g c =
     let whole = g.I.IntNumber.whole in
     let e = plain_edge whole g.C.EdgeCount.counts c.args.e.now in
     let f = plain_edge whole g.C.EdgeCount.counts c.args.f.now in

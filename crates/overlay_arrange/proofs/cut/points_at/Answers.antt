@@ -8,8 +8,8 @@ use Rattle.overlay_arrange.specs.Meetings.{plain_meeting, plain_meetings, Meetin
 use Rattle.overlay_arrange.proofs.LedThrough.{points_of_run}
 use Rattle.overlay_arrange.proofs.cut.points_at.Goals as goal
 
-pub returns-clause-ok : goal.returns-clause-ok
-returns-clause-ok g c =
+pub returns : goal.returns
+returns g c =
     let whole = g.I.IntNumber.whole in
     let low = c.run_at-low.result.0 in
     let high = c.run_at-low.result.1 in

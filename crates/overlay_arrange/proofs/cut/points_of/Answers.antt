@@ -12,7 +12,7 @@ loop-m-preserved g c =
     c.loop-m.points.items _ _ c.args.meetings.now c.loop-m.m-index c.m-item.result
     c.loop-m-test.true c.m-item.is c.in_ok-push.ensures.items refl c.loop-m.invariant
 
-pub returns-clause-ok : goal.returns-clause-ok
-returns-clause-ok g c =
+pub returns : goal.returns
+returns g c =
     c.loop-m.invariant ∙ ap (map (λ (m : Meeting). m.point))
     (mapped_whole (plain_meeting g.I.IntNumber.whole) c.args.meetings.now c.loop-m.m-index c.loop-m-test.false)

@@ -7,8 +7,8 @@ use Rattle.overlay_arrange.specs.Content.{plain_edge}
 use Rattle.overlay_arrange.proofs.AlongEdges.{held_first, held_first-order, sorted_along}
 use Rattle.overlay_arrange.proofs.cut.sort_along.Goals as goal
 
-pub returns-clause-ok : goal.returns-clause-ok
-returns-clause-ok g c =
+pub returns : goal.returns
+returns g c =
     let whole = g.I.IntNumber.whole in
     let e = ends_of (plain_edge whole g.C.EdgeCount.counts c.args.e.now) in
     sorted_along whole e c.args.points.now.items c.sort_by.new.self.items c.sort_by.ensures.permutation

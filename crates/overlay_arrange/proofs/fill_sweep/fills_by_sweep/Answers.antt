@@ -128,8 +128,8 @@ loop-i-preserved g c =
           c.deref.ensures.value c.in_ok-fill.ensures.above,
     )
 
-pub returns-clause-ok : goal.returns-clause-ok
-returns-clause-ok g c =
+pub returns : goal.returns
+returns g c =
     let whole = g.I.IntNumber.whole in
     let counts = g.C.EdgeCount.counts in
     let ss = c.in_ok-starting.starting.items in

@@ -9,8 +9,8 @@ use Rattle.overlay_arrange.specs.Meetings.{plain_meetings, Meeting}
 use Rattle.overlay_arrange.proofs.HotLists.{are_hot_points, ends_and_met}
 use Rattle.overlay_arrange.proofs.hot.hot_points.Goals as goal
 
-pub returns-clause-ok : goal.returns-clause-ok
-returns-clause-ok g c =
+pub returns : goal.returns
+returns g c =
     let whole = g.I.IntNumber.whole in
     let es = plain_edges whole g.C.EdgeCount.counts c.args.edges.now in
     let ms = plain_meetings whole c.args.meetings.now in

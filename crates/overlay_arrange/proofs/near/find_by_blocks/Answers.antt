@@ -20,8 +20,8 @@ loop-at-init g c =
           (strips_before_apart width c.requires.some ss of c.requires.strips) (searched_none ss of)),
     )
 
-pub returns-clause-ok : goal.returns-clause-ok
-returns-clause-ok g c =
+pub returns : goal.returns
+returns g c =
     let width = c.args.strips.now.width in
     let extents = c.args.strips.now.edges.items in
     let ss = plain_extents g.I.IntNumber.whole extents in

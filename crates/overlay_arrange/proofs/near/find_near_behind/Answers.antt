@@ -10,8 +10,8 @@ use Rattle.overlay_arrange.proofs.NearEdges.{run_near, searched_near}
 use Rattle.overlay_arrange.proofs.PlacedExtents.{as_many_placed}
 use Rattle.overlay_arrange.proofs.near.find_near_behind.Goals as goal
 
-pub returns-then-end-from-lt-FEW-clause-ok : goal.returns-then-end-from-lt-FEW-clause-ok
-returns-then-end-from-lt-FEW-clause-ok g c =
+pub returns-then-end-from-lt-FEW : goal.returns-then-end-from-lt-FEW
+returns-then-end-from-lt-FEW g c =
     on_ok_weaker c.take_run.result
     (run_near (plain_edges g.I.IntNumber.whole g.C.EdgeCount.counts c.args.edges.now) c.args.from c.run_end-end.result
     (plain_edge g.I.IntNumber.whole g.C.EdgeCount.counts c.args.e.now) g.I.IntNumber.limit c.requires.held
@@ -32,8 +32,8 @@ find_by_blocks-requires-clause-within g c =
     let up_to = c.run_end-end.ensures.within in
     omega (arith, last, moved, count, l, m, ordered, up_to)
 
-pub returns-else-end-from-lt-FEW-clause-ok : goal.returns-else-end-from-lt-FEW-clause-ok
-returns-else-end-from-lt-FEW-clause-ok g c =
+pub returns-else-end-from-lt-FEW : goal.returns-else-end-from-lt-FEW
+returns-else-end-from-lt-FEW g c =
     let whole = g.I.IntNumber.whole in
     let plain = plain_edge whole g.C.EdgeCount.counts in
     let es = plain_edges whole g.C.EdgeCount.counts c.args.edges.now in

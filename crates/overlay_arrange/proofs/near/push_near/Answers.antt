@@ -29,7 +29,7 @@ loop-k-preserved g c =
           (w.if-not-is_apart.ensures.0 refl))
     ]
 
-pub returns-clause-ok : goal.returns-clause-ok
-returns-clause-ok g c =
+pub returns : goal.returns
+returns g c =
     searched_before (plain_extents g.I.IntNumber.whole c.args.extents.now) (plain_extent g.I.IntNumber.whole c.args.of)
     c.loop-k.k c.args.to c.loop-k.near.items c.loop-k-test.false c.loop-k.invariant

@@ -12,8 +12,8 @@ place_above-high-requires-clause-upwards g c = λ j k s t past le less at_s at_t
     let from = c.place_not_below-low.ensures.ordered in
     c.requires.upwards j k s t (omega (arith, past, from)) le less at_s at_t
 
-pub returns-clause-ok : goal.returns-clause-ok
-returns-clause-ok g c =
+pub returns : goal.returns
+returns g c =
     let whole = g.I.IntNumber.whole in
     let e = plain_edge whole g.C.EdgeCount.counts c.args.e.now in
     let low = c.place_not_below-low.result in

@@ -6,8 +6,8 @@ use Rattle.overlay_arrange.specs.Content.{plain_edge, plain_edges}
 use Rattle.overlay_arrange.proofs.SettledLists.{settled_where_counted}
 use Rattle.overlay_arrange.proofs.settle.is_settled.Goals as goal
 
-pub returns-clause-ok : goal.returns-clause-ok
-returns-clause-ok g c =
+pub returns : goal.returns
+returns g c =
     let count = c.in_ok-count.count in
     let all = length c.args.edges.now in
     let decides = Decides-eqb count all in

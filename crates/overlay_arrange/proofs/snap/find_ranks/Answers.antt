@@ -94,8 +94,8 @@ loop-end-preserved g c =
           c.index-hot-end.is at_v) c.loop-end.invariant.2,
     )
 
-pub returns-clause-ok : goal.returns-clause-ok
-returns-clause-ok g c =
+pub returns : goal.returns
+returns g c =
     let whole = g.I.IntNumber.whole in
     let vs = plain_points whole c.args.hot.now in
     let e = plain_edge whole g.C.EdgeCount.counts c.args.e.now in

@@ -28,8 +28,8 @@ loop-k-preserved g c =
     (met_joined c.args.i e (plain_points whole (take k points)) (plain_point whole v ∷ []) c.loop-k.invariant
     c.in_ok-push_where_met.ensures.ok)
 
-pub returns-clause-ok : goal.returns-clause-ok
-returns-clause-ok g c =
+pub returns : goal.returns
+returns g c =
     let whole = g.I.IntNumber.whole in
     subst (λ (us : List Point). AddsMet c.args.i (plain_edge whole g.C.EdgeCount.counts c.args.e.now) us
     (plain_meetings whole c.args.meetings.now.items) (plain_meetings whole c.loop-k.meetings.items))

@@ -10,8 +10,8 @@ use Rattle.overlay_arrange.proofs.snap.push_where_met.Goals as goal
 use Rattle.overlay_arrange.proofs.snap.push_where_met.Goals.{else-meets_pixel-via-else-meets_pixel}
 use Rattle.overlay_arrange.proofs.snap.push_where_met.Goals.{else-meets_pixel-via-then-meets_pixel+else-not-is_end_of}
 
-pub returns-in_ok-push-clause-ok : goal.returns-in_ok-push-clause-ok
-returns-in_ok-push-clause-ok g c =
+pub returns-in_ok-push : goal.returns-in_ok-push
+returns-in_ok-push g c =
     let whole = g.I.IntNumber.whole in
     point_met c.args.i (plain_edge whole g.C.EdgeCount.counts c.args.e.now) (plain_point whole c.args.v)
     (plain_meetings whole c.args.meetings.now.items) (plain_meetings whole c.push.new.self.items)
@@ -19,8 +19,8 @@ returns-in_ok-push-clause-ok g c =
     (ap (plain_meetings whole) c.in_ok-push.ensures.items
     ∙ map-append (plain_meeting whole) c.args.meetings.now.items (_ ∷ []))
 
-pub returns-else-meets_pixel-clause-ok : goal.returns-else-meets_pixel-clause-ok
-returns-else-meets_pixel-clause-ok g c =
+pub returns-else-meets_pixel : goal.returns-else-meets_pixel
+returns-else-meets_pixel g c =
     let whole = g.I.IntNumber.whole in
     point_passed c.args.i (plain_edge whole g.C.EdgeCount.counts c.args.e.now) (plain_point whole c.args.v)
     (plain_meetings whole c.args.meetings.now.items)

@@ -29,8 +29,8 @@ loop-k-preserved g c =
     ap (plain_points whole) c.in_ok-push.ensures.items ∙ map-append (plain_point whole) c.loop-k.points.items (v ∷ [])
     ∙ ap (λ (us : List Point). us ++ plain_point whole v ∷ []) c.loop-k.invariant ∙ sym more
 
-pub returns-clause-ok : goal.returns-clause-ok
-returns-clause-ok g c =
+pub returns : goal.returns
+returns g c =
     c.loop-k.invariant
     ∙ mapped_whole (λ j. get_or (plain_points g.I.IntNumber.whole c.args.hot.now) j origin) c.args.ranks.now
     c.loop-k.k c.loop-k-test.false

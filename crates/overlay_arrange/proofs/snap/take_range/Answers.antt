@@ -4,8 +4,8 @@ use Rattle.overlay_geom.specs.Points.{plain_point, plain_points}
 use Rattle.overlay_geom.proofs.Mapped.{mapped_range}
 use Rattle.overlay_arrange.proofs.snap.take_range.Goals as goal
 
-pub returns-clause-ok : goal.returns-clause-ok
-returns-clause-ok g c =
+pub returns : goal.returns
+returns g c =
     let whole = g.I.IntNumber.whole in
     ap (plain_points whole) (c.in_ok-extend_from_slice.ensures.items
     ∙ ap (λ l. l ++ slice_range c.args.hot.now c.args.low c.args.high) c.clear.ensures.items)

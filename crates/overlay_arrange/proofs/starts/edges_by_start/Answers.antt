@@ -10,8 +10,8 @@ use Rattle.overlay_plane.proofs.SortedStarts.{starts_before, starts_before-order
 use Rattle.overlay_arrange.specs.Starts.{starting_ends, numbered_start, numbered_starts}
 use Rattle.overlay_arrange.proofs.starts.edges_by_start.Goals as goal
 
-pub returns-clause-ok : goal.returns-clause-ok
-returns-clause-ok g c =
+pub returns : goal.returns
+returns g c =
     let whole = g.I.IntNumber.whole in
     let counts = g.C.EdgeCount.counts in
     let sorted = c.sort_by.new.self.items in record {

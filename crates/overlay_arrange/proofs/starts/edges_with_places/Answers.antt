@@ -31,8 +31,8 @@ loop-place-preserved g c =
     c.loop-place-test.true c.index-edges-place.is)
     ∙ numbered_more 0 es e)
 
-pub returns-clause-ok : goal.returns-clause-ok
-returns-clause-ok g c =
+pub returns : goal.returns
+returns g c =
     c.loop-place.invariant ∙ ap (numbered 0)
     (mapped_whole (plain_edge g.I.IntNumber.whole g.C.EdgeCount.counts) c.args.edges.now c.loop-place.place
     c.loop-place-test.false)

@@ -36,8 +36,8 @@ loop-i-preserved g c =
           w.joined.ensures.first w.joined.ensures.second
     ]
 
-pub returns-clause-ok : goal.returns-clause-ok
-returns-clause-ok g c =
+pub returns : goal.returns
+returns g c =
     let plain = plain_extents g.I.IntNumber.whole in
     let l = length-map c.args.extents.now (plain_extent g.I.IntNumber.whole) in
     all_blocks (plain c.args.extents.now) (plain c.loop-i.blocks.items) c.loop-i.i

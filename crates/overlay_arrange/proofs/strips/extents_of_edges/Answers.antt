@@ -23,7 +23,7 @@ loop-place-preserved g c =
     ∙ sym (ap extents_of (mapped_more edge edges i c.index-edges-place.result c.loop-place-test.true
     c.index-edges-place.is) ∙ placed_more extent_of es e)
 
-pub returns-clause-ok : goal.returns-clause-ok
-returns-clause-ok g c =
+pub returns : goal.returns
+returns g c =
     c.loop-place.invariant ∙ ap extents_of (mapped_whole (plain_edge g.I.IntNumber.whole g.C.EdgeCount.counts)
     c.args.edges.now c.loop-place.place c.loop-place-test.false)

@@ -23,7 +23,7 @@ loop-place-preserved g c =
     ∙ sym (ap extents_of_points (mapped_more point points i c.index-points-place.result c.loop-place-test.true
     c.index-points-place.is) ∙ placed_more extent_of_point vs v)
 
-pub returns-clause-ok : goal.returns-clause-ok
-returns-clause-ok g c =
+pub returns : goal.returns
+returns g c =
     c.loop-place.invariant ∙ ap extents_of_points (mapped_whole (plain_point g.I.IntNumber.whole)
     c.args.points.now c.loop-place.place c.loop-place-test.false)

@@ -4,8 +4,8 @@ use Rattle.overlay_arrange.specs.Extents.{plain_extents, AreBlocks}
 use Rattle.overlay_arrange.proofs.ExtentBlocks.{blocks_of_blocks}
 use Rattle.overlay_arrange.proofs.strips.strips_of.Goals as goal
 
-pub returns-clause-ok : goal.returns-clause-ok
-returns-clause-ok g c =
+pub returns : goal.returns
+returns g c =
     let whole = g.I.IntNumber.whole in
     let plain = plain_extents whole in
     let sorted = c.in_ok-extents.extents.items in

@@ -15,15 +15,15 @@ thinned-requires g c =
     subst (AllInRange g.I.IntNumber.limit) (sym same)
     (points_in_range g.I.IntNumber.limit (plain_steps whole c.args.walk.now) c.requires)
 
-pub returns-then-keeps_points-clause-ok : goal.returns-then-keeps_points-clause-ok
-returns-then-keeps_points-clause-ok g c =
+pub returns-then-keeps_points : goal.returns-then-keeps_points
+returns-then-keeps_points g c =
     let whole = g.I.IntNumber.whole in
     subst (λ k. IsKeptOrThinned k (points_of (plain_steps whole c.args.walk.now))
     (plain_points whole c.in_ok-points.points.items))
     (sym c.if-keeps_points.true) c.in_ok-points.ensures.ok
 
-pub returns-clause-ok : goal.returns-clause-ok
-returns-clause-ok g c =
+pub returns : goal.returns
+returns g c =
     let whole = g.I.IntNumber.whole in
     let given = points_of (plain_steps whole c.args.walk.now) in
     let same = ap (plain_points whole) c.deref.ensures.value ∙ c.in_ok-points.ensures.ok in

@@ -69,8 +69,8 @@ loop-i-preserved g c =
     (AllZip-push (IsKeptOrThinned keep) (map points_of (map (walk_at cs) before)) (paths_of_shape whole shape)
     (points_of (walk_at cs place)) (plain_points whole contour.items) c.loop-i.invariant taken))
 
-pub returns-clause-shape : goal.returns-clause-shape
-returns-clause-shape g c =
+pub returns : goal.returns
+returns g c =
     let whole = g.I.IntNumber.whole in
     subst (λ ps. AllZip (IsKeptOrThinned c.args.keeps_points)
     (map points_of (map (walk_at (plain_contours whole c.args.contours.now)) ps))

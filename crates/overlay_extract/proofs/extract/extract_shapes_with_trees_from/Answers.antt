@@ -27,8 +27,8 @@ assembled-requires-clause-inside g c =
     (subst (λ ps. AreInside (length (plain_contours whole c.in_ok-placed.placed.contours.items)) (place_lists ps))
     (sym c.deref-2.ensures.value) c.in_ok-placed.ensures.placed.placed.inside)
 
-pub returns-clause-result : goal.returns-clause-result
-returns-clause-result g c =
+pub returns : goal.returns
+returns g c =
     let whole = g.I.IntNumber.whole in
     let keep = c.args.options.preserve_output_collinear in
     let q = asked g.I.Wide.WideIntNumber.width g.I.WideUInt.UIntNumber.natural c.args.graph.now.fill_rule

@@ -43,8 +43,8 @@ loop-number-preserved g c =
     ∙ ap (λ ls. group_contours_from 0 (walks_at cs ls))
     (sym (mapped_more (λ (ps : _). ps.items) places n x inside c.index-places-number.is))
 
-pub returns-clause-ok : goal.returns-clause-ok
-returns-clause-ok g c =
+pub returns : goal.returns
+returns g c =
     c.loop-number.invariant
     ∙ ap (λ ls. group_contours_from 0 (walks_at (plain_contours g.I.IntNumber.whole c.args.contours.now) ls))
     (mapped_whole (λ (ps : _). ps.items) c.args.places.now c.loop-number.number c.loop-number-test.false)

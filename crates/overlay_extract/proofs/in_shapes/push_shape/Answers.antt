@@ -51,8 +51,8 @@ loop-i-preserved g c =
     ∙ ap (contours_of_group n) (sym (map-append (walk_at cs) (take i c.args.places.now) (place ∷ []))
     ∙ ap (map (walk_at cs)) (sym (take_more c.args.places.now i 0 c.loop-i-test.true))))
 
-pub returns-clause-pushed : goal.returns-clause-pushed
-returns-clause-pushed g c =
+pub returns : goal.returns
+returns g c =
     let whole = g.I.IntNumber.whole in
     c.loop-i.invariant
     ∙ ap (λ ps. plain_contours whole c.args.ordered.now.items

@@ -41,8 +41,8 @@ loop-child-preserved g c =
           ∙ sym (more ∙ ap (λ o. links_from cs 0 before ++ one_or_none o) told)
     ]
 
-pub returns-clause-ok : goal.returns-clause-ok
-returns-clause-ok g c =
+pub returns : goal.returns
+returns g c =
     c.loop-child.invariant
     ∙ ap (links_from (plain_contours g.I.IntNumber.whole c.args.contours.now) 0)
     (take_all c.loop-child.child c.args.holes.now c.loop-child-test.false)

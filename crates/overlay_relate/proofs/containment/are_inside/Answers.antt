@@ -11,6 +11,6 @@ loop-l-preserved g c =
     (c.in_ok-push.ensures).items ∙ ap₂ (λ xs t. xs ++ t ∷ []) c.loop-l.invariant c.is_inside.ensures
     ∙ sym (map_more is_inside c.args.locations.now c.loop-l.l-index Inside c.loop-l-test.true)
 
-pub returns-clause-inside : goal.returns-clause-inside
-returns-clause-inside g c = c.loop-l.invariant ∙ mapped_whole is_inside c.args.locations.now c.loop-l.l-index
+pub returns : goal.returns
+returns g c = c.loop-l.invariant ∙ mapped_whole is_inside c.args.locations.now c.loop-l.l-index
     c.loop-l-test.false

@@ -22,8 +22,8 @@ locate_by_sweep-requires-clause-contour g c =
           (plain_edges whole c.deref-2.result.now) long;
     }
 
-pub returns-clause-located : goal.returns-clause-located
-returns-clause-located g c =
+pub returns : goal.returns
+returns g c =
     let whole = g.I.IntNumber.whole in
     let contour = plain_points whole c.args.contour.now in
     let es = plain_edges whole c.deref-2.result.now in

@@ -49,8 +49,8 @@ in_given_order-requires-clause-counted g c =
     ∙ length-map qs (λ (n : Numbered Point). n.item) ∙ length-map c.in_ok-queries.queries.items (plain_query whole)
     ∙ sym (ap length c.deref-3.ensures.value)
 
-pub returns-clause-located : goal.returns-clause-located
-returns-clause-located g c =
+pub returns : goal.returns
+returns g c =
     let whole = g.I.IntNumber.whole in
     let points = plain_points whole c.args.points.now in
     let R = λ (q : Point) (l : PointLocation). IsLocatedIn (paths_of_shape whole c.args.contours.now) (in_plane q) l in

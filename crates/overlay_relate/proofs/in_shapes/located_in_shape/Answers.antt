@@ -54,8 +54,8 @@ loop-contour-preserved g c =
     (subst (λ ps. AnswersWhere (IsLocatedIn (seen ++ plain_points whole ps ∷ [])) points new) c.deref.ensures.value
     (c.in_ok-join_contour.ensures.joined seen c.loop-contour.invariant))
 
-pub returns-clause-located : goal.returns-clause-located
-returns-clause-located g c =
+pub returns : goal.returns
+returns g c =
     let whole = g.I.IntNumber.whole in
     subst (λ ss. AnswersWhere (IsLocatedIn ss) (plain_points whole c.args.points.now) c.loop-contour.located.items)
     (mapped_whole (λ x. plain_points g.I.IntNumber.whole x.items) c.args.contours.now c.loop-contour.contour-index

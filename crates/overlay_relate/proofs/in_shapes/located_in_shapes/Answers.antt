@@ -54,8 +54,8 @@ loop-shape-preserved g c =
     (subst (λ cs. AnswersWhere (IsLocatedAmong (seen ++ paths_of_shape whole cs ∷ [])) points new) c.deref.ensures.value
     (c.in_ok-join_shape.ensures.joined seen c.loop-shape.invariant))
 
-pub returns-clause-located : goal.returns-clause-located
-returns-clause-located g c =
+pub returns : goal.returns
+returns g c =
     let whole = g.I.IntNumber.whole in
     subst (λ ss. AnswersWhere (IsLocatedAmong ss) (plain_points whole c.args.points.now) c.loop-shape.located.items)
     (mapped_whole (λ x. paths_of_shape g.I.IntNumber.whole x.items) c.args.shapes.now c.loop-shape.shape-index

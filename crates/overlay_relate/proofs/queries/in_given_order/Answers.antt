@@ -53,8 +53,8 @@ loop-i-preserved g c =
           }) c.loop-i.invariant.1,
     )
 
-pub returns-clause-ok : goal.returns-clause-ok
-returns-clause-ok g c =
+pub returns : goal.returns
+returns g c =
     let whole = g.I.IntNumber.whole in
     let qs = plain_queries whole c.args.queries.now in
     let past : length qs ≤ c.loop-i.i = rw length-map c.loop-i-test.false in

@@ -20,8 +20,8 @@ loop-query-preserved g c =
     c.query-item.result c.loop-query-test.true c.query-item.is)
     ∙ map-append (λ (n : Numbered Point). n.item) (plain_queries whole qs) (q ∷ []))
 
-pub returns-clause-ok : goal.returns-clause-ok
-returns-clause-ok g c =
+pub returns : goal.returns
+returns g c =
     let whole = g.I.IntNumber.whole in
     c.loop-query.invariant ∙ ap points_asked
     (mapped_whole (plain_query whole) c.args.queries.now c.loop-query.query-index c.loop-query-test.false)

@@ -8,8 +8,8 @@ use Rattle.overlay_relate.specs.Queries.{plain_query, plain_queries}
 use Rattle.overlay_relate.proofs.Asked.{queries_sorted, is_left, is_left-order, by_x-from_sorted}
 use Rattle.overlay_relate.proofs.queries.queries_by_x.Goals as goal
 
-pub returns-clause-queries : goal.returns-clause-queries
-returns-clause-queries g c =
+pub returns : goal.returns
+returns g c =
     let whole = g.I.IntNumber.whole in
     queries_sorted (plain_points whole c.args.points.now) (plain_queries whole c.in_ok-queries.queries.items)
     (plain_queries whole c.sort_by.new.self.items)

@@ -23,8 +23,8 @@ loop-place-preserved g c =
     c.loop-place-test.true c.index-points-place.is)
     ∙ numbered_more 0 ps p)
 
-pub returns-clause-ok : goal.returns-clause-ok
-returns-clause-ok g c =
+pub returns : goal.returns
+returns g c =
     let whole = g.I.IntNumber.whole in
     c.loop-place.invariant ∙ ap (numbered 0)
     (mapped_whole (plain_point whole) c.args.points.now c.loop-place.place c.loop-place-test.false)

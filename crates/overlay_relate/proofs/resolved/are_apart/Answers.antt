@@ -14,8 +14,8 @@ pub is_settled-requires-clause-held : goal.is_settled-requires-clause-held
 is_settled-requires-clause-held g c =
     long_held g.I.IntNumber.limit (edges_once g.I.IntNumber.whole c.args.edges.now) c.requires.long
 
-pub returns-then-ascend-clause-ok : goal.returns-then-ascend-clause-ok
-returns-then-ascend-clause-ok g c =
+pub returns-then-ascend : goal.returns-then-ascend
+returns-then-ascend g c =
     let ks = edges_once g.I.IntNumber.whole c.args.edges.now in
     let forward = long_forward g.I.IntNumber.limit (ends_once g.I.IntNumber.whole c.args.edges.now) c.requires.long in
     let ascending = c.ascend.ensures.0 c.if-ascend.true in
@@ -26,8 +26,8 @@ returns-then-ascend-clause-ok g c =
       λ apart. told.1 (apart_settled ks forward apart),
     )) c.is_settled.ensures.ok
 
-pub returns-else-ascend-clause-ok : goal.returns-else-ascend-clause-ok
-returns-else-ascend-clause-ok g c =
+pub returns-else-ascend : goal.returns-else-ascend
+returns-else-ascend g c =
     let ks = edges_once g.I.IntNumber.whole c.args.edges.now in
     let forward = long_forward g.I.IntNumber.limit (ends_once g.I.IntNumber.whole c.args.edges.now) c.requires.long in (
       λ t. absurd (false≢true t),

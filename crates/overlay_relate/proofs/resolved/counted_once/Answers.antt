@@ -20,7 +20,7 @@ loop-e-preserved g c =
     ∙ sym (mapped_more (plain_ends whole) c.args.edges.now c.loop-e.e-index c.e-item.result c.loop-e-test.true
     c.e-item.is)
 
-pub returns-clause-ok : goal.returns-clause-ok
-returns-clause-ok g c =
+pub returns : goal.returns
+returns g c =
     let whole = g.I.IntNumber.whole in
     c.loop-e.invariant ∙ mapped_whole (plain_ends whole) c.args.edges.now c.loop-e.e-index c.loop-e-test.false

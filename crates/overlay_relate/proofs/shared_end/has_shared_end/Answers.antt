@@ -15,8 +15,8 @@ use Rattle.overlay_relate.proofs.NextEnds.{in_order-from_sorted}
 use Rattle.overlay_relate.proofs.SharedBorders.{shared_from_share, share_from_shared}
 use Rattle.overlay_relate.proofs.shared_end.has_shared_end.Goals as goal
 
-pub returns-clause-ok : goal.returns-clause-ok
-returns-clause-ok g c =
+pub returns : goal.returns
+returns g c =
     let whole = g.I.IntNumber.whole in
     let rule = c.args.graph.now.fill_rule in
     let es = graph_edges c.args.graph.now in

@@ -8,8 +8,8 @@ use Rattle.overlay_relate.specs.Sweeps.{wide_edge, wide_edges}
 use Rattle.overlay_relate.proofs.ByStart.{by_start_sorted, by_start, held_before, leads}
 use Rattle.overlay_relate.proofs.starts.edges_by_start.Goals as goal
 
-pub returns-clause-order : goal.returns-clause-order
-returns-clause-order g c =
+pub returns : goal.returns
+returns g c =
     let whole = g.I.IntNumber.whole in
     by_start_sorted (plain_edges whole c.args.edges.now) c.requires.contour (wide_edges whole c.in_ok-wide.wide.items)
     (wide_edges whole c.sort_by.new.self.items)

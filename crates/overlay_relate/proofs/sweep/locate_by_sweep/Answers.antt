@@ -204,8 +204,8 @@ loop-query-preserved g c =
           counted i q at.within at.read c.location.result right c.loop-query.invariant.5,
     )
 
-pub returns-clause-located : goal.returns-clause-located
-returns-clause-located g c =
+pub returns : goal.returns
+returns g c =
     let whole = g.I.IntNumber.whole in
     let points = plain_points whole c.args.points.now in
     let qs = plain_queries whole c.deref-query-items.result.now in

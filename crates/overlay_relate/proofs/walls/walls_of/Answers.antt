@@ -21,8 +21,8 @@ loop-e-preserved g c =
     c.e-item.is)
     ∙ map-append wall_of (map plain (take c.loop-e.e-index c.args.edges.now)) (plain c.e-item.result ∷ []))
 
-pub returns-clause-walls : goal.returns-clause-walls
-returns-clause-walls g c =
+pub returns : goal.returns
+returns g c =
     let whole = g.I.IntNumber.whole in
     let plain = plain_edge whole in record {
       same = subst (λ es. IsPermutation es (plain_edges whole c.sort_by.new.self.items))

@@ -33,8 +33,8 @@ loop-place-preserved g c =
           ∙ ap (λ k. turned c.args.way (piece_at ss k)) (sym is);
     }) is)
 
-pub returns-clause-ok : goal.returns-clause-ok
-returns-clause-ok g c =
+pub returns : goal.returns
+returns g c =
     let whole = g.I.IntNumber.whole in
     let past = c.loop-place-test.false in
     let end = c.loop-place.auto.place-end in

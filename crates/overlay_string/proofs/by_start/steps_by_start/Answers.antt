@@ -10,8 +10,8 @@ use Rattle.overlay_string.specs.Pieces.{plain_piece, plain_pieces}
 use Rattle.overlay_string.proofs.PieceOrder.{sorted_by_start}
 use Rattle.overlay_string.proofs.by_start.steps_by_start.Goals as goal
 
-pub returns-clause-ok : goal.returns-clause-ok
-returns-clause-ok g c =
+pub returns : goal.returns
+returns g c =
     let whole = g.I.IntNumber.whole in
     let pieces = c.args.pieces.now in
     let compares = answers_always _ _ _ (λ f a r h k.

@@ -29,8 +29,8 @@ loop-piece-preserved g c =
     (ap (plain_points whole) c.in_ok-push.ensures.items
     ∙ map-append (plain_point whole) l.path.items (c.end-end.result ∷ []))
 
-pub returns-clause-ok : goal.returns-clause-ok
-returns-clause-ok g c =
+pub returns : goal.returns
+returns g c =
     let whole = g.I.IntNumber.whole in
     let l = c.loop-piece in
     comes_to_an_end c.args.way (plain_point whole c.args.from) c.args.pieces.now

@@ -24,8 +24,8 @@ loop-piece-preserved g c =
     (ap (paths_of_shape whole) c.in_ok-push.ensures.items
     ∙ map-append (λ v. plain_points whole v.items) l.paths.items (path ∷ []))
 
-pub returns-clause-ok : goal.returns-clause-ok
-returns-clause-ok g c =
+pub returns : goal.returns
+returns g c =
     let whole = g.I.IntNumber.whole in
     let l = c.loop-piece in
     all_joined c.args.pieces.now l.pieces c.take_first.new.self (paths_of_shape whole l.paths.items) l.invariant

@@ -6,8 +6,8 @@ use Rattle.overlay_geom.proofs.Mapped.{map-reverse}
 use Rattle.overlay_string.proofs.JoinedPaths.{ends, found_onward, found_back}
 use Rattle.overlay_string.proofs.joined_paths.path_of.Goals as goal
 
-pub returns-in-Onward-clause-ok : goal.returns-in-Onward-clause-ok
-returns-in-Onward-clause-ok g c =
+pub returns-in-Onward : goal.returns-in-Onward
+returns-in-Onward g c =
     let whole = g.I.IntNumber.whole in
     let s = plain_piece whole c.args.piece in
     let old = c.args.pieces.now in
@@ -21,8 +21,8 @@ returns-in-Onward-clause-ok g c =
     (subst (λ v. GoesOn way v old new (ends s way) found) c.end-end.ensures
     (subst (λ l. GoesOn way (plain_point whole c.end-end.result) old new l found) two c.in_ok-go_on.ensures.ok))
 
-pub returns-in-Back-clause-ok : goal.returns-in-Back-clause-ok
-returns-in-Back-clause-ok g c =
+pub returns-in-Back : goal.returns-in-Back
+returns-in-Back g c =
     let whole = g.I.IntNumber.whole in
     let s = plain_piece whole c.args.piece in
     let old = c.args.pieces.now in

@@ -20,8 +20,8 @@ loop-edge-preserved g c =
     ∙ ap (λ l. l ++ given edge) c.loop-edge.invariant
     ∙ sym (joined_more given c.edges-edges.result.now c.loop-edge.edge-index edge c.loop-edge-test.true c.edge-item.is)
 
-pub returns-clause-ok : goal.returns-clause-ok
-returns-clause-ok g c =
+pub returns : goal.returns
+returns g c =
     let whole = g.I.IntNumber.whole in
     let edges = c.edges-edges.result.now in
     let past = c.loop-edge-test.false in

@@ -8,8 +8,8 @@ use Rattle.overlay_vector.specs.ListedVectors.{uncounted}
 use Rattle.overlay_vector.proofs.ListedVectors.{listed_all}
 use Rattle.overlay_vector.proofs.graph_vectors.graph_vectors.Goals as goal
 
-pub returns-clause-listed : goal.returns-clause-listed
-returns-clause-listed g c =
+pub returns : goal.returns
+returns g c =
     let whole = g.I.IntNumber.whole in
     let graph = c.args.graph.now in
     let edges = c.edges.result.now in

@@ -5,8 +5,8 @@ use Rattle.overlay_vector.specs.DataVectors.{plain_data_vector, plain_data_vecto
 use Rattle.overlay_vector.specs.Joining.{IsAppended}
 use Rattle.overlay_vector.proofs.joining.append.Goals as goal
 
-pub returns-clause-ok : goal.returns-clause-ok
-returns-clause-ok g c =
+pub returns : goal.returns
+returns g c =
     let whole = g.I.IntNumber.whole in
     let back = c.join_back-vector in
     subst (IsAppended g.D.PartialEq.eq g.I.IntNumber.limit (plain_data_vectors whole c.args.path.now.items)

@@ -24,8 +24,8 @@ are_joinable-requires-clause-second g c =
     All-mapped_at (IsInRange g.I.IntNumber.limit) (plain_data_vector g.I.IntNumber.whole) _ _ _
     (omega (arith, c.loop-path.path.ok.0)) c.index-first.ensures c.loop-path.invariant.in_range
 
-pub returns-then-not-are_joinable-clause-joined : goal.returns-then-not-are_joinable-clause-joined
-returns-then-not-are_joinable-clause-joined g c =
+pub returns-then-not-are_joinable : goal.returns-then-not-are_joinable
+returns-then-not-are_joinable g c =
     let plain = plain_data_vector g.I.IntNumber.whole in
     let eq = g.D.PartialEq.eq in
     let xs = c.loop-path.path.items in
@@ -120,8 +120,8 @@ loop-path-preserved g c =
     (subst (λ w. IsAppended eq limit (map plain c.remove.new.self.items) w more) c.join.ensures
     c.in_ok-append.ensures.ok))
 
-pub returns-clause-joined : goal.returns-clause-joined
-returns-clause-joined g c =
+pub returns : goal.returns
+returns g c =
     let plain = plain_data_vector g.I.IntNumber.whole in
     let long = length-map c.loop-path.path.items plain in
     record {

@@ -33,8 +33,8 @@ loop-vector-preserved g c =
     (plain_data_vectors whole c.loop-vector.path.items) (plain_data_vector whole c.vector-item.result) more
     c.loop-vector.invariant c.in_ok-append.ensures.ok)
 
-pub returns-clause-joined : goal.returns-clause-joined
-returns-clause-joined g c =
+pub returns : goal.returns
+returns g c =
     let whole = g.I.IntNumber.whole in
     let eq = g.D.PartialEq.eq in
     let limit = g.I.IntNumber.limit in

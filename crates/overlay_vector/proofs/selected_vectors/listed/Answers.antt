@@ -18,8 +18,8 @@ loop-edge-preserved g c =
     ∙ ap (λ l. l ++ given edge) c.loop-edge.invariant
     ∙ sym (joined_more given c.args.edges.now c.loop-edge.edge-index edge c.loop-edge-test.true c.edge-item.is)
 
-pub returns-clause-ok : goal.returns-clause-ok
-returns-clause-ok g c =
+pub returns : goal.returns
+returns g c =
     let past = c.loop-edge-test.false in
     c.loop-edge.invariant
     ∙ ap (flat_map (vectors_by_bits g.I.IntNumber.whole c.args.rule))

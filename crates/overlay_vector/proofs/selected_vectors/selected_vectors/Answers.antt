@@ -9,8 +9,8 @@ use Rattle.overlay_vector.specs.ListedVectors.{vectors_by_bits}
 use Rattle.overlay_vector.proofs.ListedVectors.{listed_selected}
 use Rattle.overlay_vector.proofs.selected_vectors.selected_vectors.Goals as goal
 
-pub returns-clause-listed : goal.returns-clause-listed
-returns-clause-listed g c =
+pub returns : goal.returns
+returns g c =
     let whole = g.I.IntNumber.whole in
     let rule = c.args.overlay_rule in
     let graph = c.args.graph.now in

@@ -8,8 +8,8 @@ use Rattle.overlay_walk.specs.Walks.{plain_walks}
 use Rattle.overlay_walk.proofs.GroupContours.{none_left, as_contour, free_plain}
 use Rattle.overlay_walk.proofs.group_contours.push_free_holes.Goals as goal
 
-pub returns-clause-pushed : goal.returns-clause-pushed
-returns-clause-pushed g c =
+pub returns : goal.returns
+returns g c =
     let whole = g.I.IntNumber.whole in
     let old = c.args.contours.now.items in
     let done = c.loop-steps.yielded in

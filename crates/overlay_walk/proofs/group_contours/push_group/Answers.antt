@@ -24,8 +24,8 @@ loop-steps-preserved g c =
       role_later n l.yielded w,
     )
 
-pub returns-clause-pushed : goal.returns-clause-pushed
-returns-clause-pushed g c =
+pub returns : goal.returns
+returns g c =
     let whole = g.I.IntNumber.whole in
     let old = c.args.contours.now.items in
     let n = c.args.number in

@@ -97,8 +97,8 @@ cut_again-requires-clause-long g c =
     (record { alternate = c.requires.alternate; once = c.requires.once; long = c.requires.long }) filled
     (plain_walks whole c.in_ok-groups.groups.items) grouped).long
 
-pub returns-clause-cut : goal.returns-clause-cut
-returns-clause-cut g c =
+pub returns : goal.returns
+returns g c =
     let whole = g.I.IntNumber.whole in
     let filled = filled_hand c.args.direction in
     let keeps : List Step → Bool = λ w. reaches g.I.Wide.WideIntNumber.width

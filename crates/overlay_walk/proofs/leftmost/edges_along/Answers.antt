@@ -33,8 +33,8 @@ loop-place-preserved g c =
     (omega (arith, within, length-map steps (plain_step whole)))
     (c.edge_along.ensures ∙ ap (λ (s : Step). record { edge = edge_of s; value = place }) (sym stands)))
 
-pub returns-clause-ok : goal.returns-clause-ok
-returns-clause-ok g c =
+pub returns : goal.returns
+returns g c =
     let whole = g.I.IntNumber.whole in
     let past = c.loop-place-test.false in
     let end = c.loop-place.auto.place-end in

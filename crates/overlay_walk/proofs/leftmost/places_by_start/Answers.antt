@@ -10,8 +10,8 @@ use Rattle.overlay_walk.specs.WalkEdges.{numbered_entry, numbered_entries}
 use Rattle.overlay_walk.proofs.StartPlaces.{places_sorted}
 use Rattle.overlay_walk.proofs.leftmost.places_by_start.Goals as goal
 
-pub returns-clause-ok : goal.returns-clause-ok
-returns-clause-ok g c =
+pub returns : goal.returns
+returns g c =
     let whole = g.I.IntNumber.whole in
     let ss = plain_steps whole c.args.steps.now in
     let edges = c.in_ok-edges.edges.items in

@@ -17,8 +17,8 @@ loop-edge-preserved g c =
     ∙ ap (λ xs. xs ++ c.edge-item.result.a.y ∷ []) c.in_ok-push.ensures.items)))
     c.in_ok-push-5.ensures.items
 
-pub returns-clause-listed : goal.returns-clause-listed
-returns-clause-listed g c =
+pub returns : goal.returns
+returns g c =
     let whole = g.I.IntNumber.whole in
     subst (λ vs. AreListed whole vs
     (record { coordinates = c.loop-edge.coordinates.items; fills = c.loop-edge.fills.items }))

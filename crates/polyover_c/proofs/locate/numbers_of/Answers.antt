@@ -11,6 +11,6 @@ loop-location-preserved c =
     c.in_ok-push.ensures.items ∙ ap₂ (λ xs n. xs ++ n ∷ []) c.loop-location.invariant c.number_of.ensures
     ∙ sym (map_more number_of c.args.locations.now c.loop-location.location-index Inside c.loop-location-test.true)
 
-pub returns-clause-numbers : goal.returns-clause-numbers
-returns-clause-numbers c = c.loop-location.invariant
+pub returns : goal.returns
+returns c = c.loop-location.invariant
     ∙ mapped_whole number_of c.args.locations.now c.loop-location.location-index c.loop-location-test.false

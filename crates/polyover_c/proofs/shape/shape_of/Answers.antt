@@ -16,8 +16,8 @@ loop-index-preserved g c =
     (c.in_ok-extend_from_slice.ensures.items ∙ ap (λ xs. xs ++ points) c.new-contour.ensures.items)
     c.in_ok-push.ensures.items
 
-pub returns-clause-shape : goal.returns-clause-shape
-returns-clause-shape g c =
+pub returns : goal.returns
+returns g c =
     let whole = g.I.IntNumber.whole in
     let paths = paths_in whole c.args.contours.now.points.items c.args.contours.now.ranges.items in
     subst (λ ps. paths_of_shape whole c.loop-index.shape.items ≡ ps) (take_all c.loop-index.index paths

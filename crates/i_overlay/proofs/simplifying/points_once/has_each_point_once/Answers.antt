@@ -11,8 +11,8 @@ use Rattle.i_overlay.specs.Points.{all_next_differ}
 use Rattle.i_overlay.proofs.OnceSorted.{held_before, held_before-order, once_by_sorting}
 use Rattle.i_overlay.proofs.simplifying.points_once.has_each_point_once.Goals as goal
 
-pub returns-clause-ok : goal.returns-clause-ok
-returns-clause-ok g c =
+pub returns : goal.returns
+returns g c =
     let whole = g.I.IntNumber.whole in
     let sorted = c.sort_by.new.self.items in
     let told = once_by_sorting whole c.in_ok-sorted.sorted.items sorted c.in_ok-sort_by.ensures.permutation

@@ -55,8 +55,8 @@ loop-i-preserved g c =
           (some_from_test (get_or known i None) (c.is_none.ensures ∙ ap not w.if-is_none.false)))
     ]
 
-pub returns-clause-ok : goal.returns-clause-ok
-returns-clause-ok g c =
+pub returns : goal.returns
+returns g c =
     let whole = g.I.IntNumber.whole in
     holes_sorted (map (walk_of g.I.IntNumber.whole) c.args.contours.now) c.args.known.now c.loop-i.i
     (numbered_entries whole c.loop-i.anchors.items)

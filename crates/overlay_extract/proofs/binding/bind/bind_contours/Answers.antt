@@ -16,8 +16,8 @@ use Rattle.overlay_extract.proofs.BoundRoles.{first_for_all, each_by_sweep}
 use Rattle.overlay_extract.proofs.RolesRead.{walks_alike}
 use Rattle.overlay_extract.proofs.binding.bind.bind_contours.Goals as goal
 
-pub returns-then-shape_count-eq1-clause-found : goal.returns-then-shape_count-eq1-clause-found
-returns-then-shape_count-eq1-clause-found g c =
+pub returns-then-shape_count-eq1 : goal.returns-then-shape_count-eq1
+returns-then-shape_count-eq1 g c =
     let filled = filled_hand c.args.direction in
     let contours = plain_contours g.I.IntNumber.whole c.args.contours.now in
     IfOk-weaker c.all_in_first.result _ (λ v. AreShapesFound filled contours v.items)
@@ -55,8 +55,8 @@ find_shapes-requires-clause-known g c =
     ∙ length-map contours (λ (k : Contour). stands_in k.role)
     ∙ length-map c.args.contours.now (plain_contour g.I.IntNumber.whole)
 
-pub returns-clause-found : goal.returns-clause-found
-returns-clause-found g c =
+pub returns : goal.returns
+returns g c =
     let whole = g.I.IntNumber.whole in
     let filled = filled_hand c.args.direction in
     let contours = plain_contours whole c.args.contours.now in

@@ -7,8 +7,8 @@ use Rattle.overlay_walk.specs.WalkEdges.{numbered_entry, numbered_entries}
 use Rattle.overlay_extract.proofs.FilledEntries.{filled_sorted}
 use Rattle.overlay_extract.proofs.binding.filled_above_edges.filled_above_edges.Goals as goal
 
-pub returns-clause-ok : goal.returns-clause-ok
-returns-clause-ok g c =
+pub returns : goal.returns
+returns g c =
     let whole = g.I.IntNumber.whole in
     filled_sorted (filled_hand c.args.direction) (map (walk_of g.I.IntNumber.whole) c.args.contours.now)
     (numbered_entries whole c.in_ok-edges.edges.items)

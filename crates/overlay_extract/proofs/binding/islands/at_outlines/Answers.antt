@@ -46,8 +46,8 @@ loop-i-preserved g c =
           ∙ sym more
     ]
 
-pub returns-clause-ok : goal.returns-clause-ok
-returns-clause-ok g c =
+pub returns : goal.returns
+returns g c =
     let past = c.loop-i-test.false in
     let both = c.requires in
     c.loop-i.invariant

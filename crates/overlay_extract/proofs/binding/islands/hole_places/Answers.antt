@@ -38,7 +38,7 @@ loop-i-preserved g c =
           ∙ sym more
     ]
 
-pub returns-clause-ok : goal.returns-clause-ok
-returns-clause-ok g c = c.loop-i.invariant
+pub returns : goal.returns
+returns g c = c.loop-i.invariant
     ∙ ap (hole_places 0) (mapped_whole (plain_contour g.I.IntNumber.whole) c.args.contours.now c.loop-i.i
     c.loop-i-test.false)

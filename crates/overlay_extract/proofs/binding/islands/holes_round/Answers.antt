@@ -51,8 +51,8 @@ find_shapes-requires-clause-known g c =
 pub at_outlines-requires : goal.at_outlines-requires
 at_outlines-requires g c = ap length c.deref-2.ensures.value ∙ c.in_ok-found.ensures.counted
 
-pub returns-clause-round : goal.returns-clause-round
-returns-clause-round g c =
+pub returns : goal.returns
+returns g c =
     let whole = g.I.IntNumber.whole in
     let filled = filled_hand c.args.direction in
     let contours = plain_contours whole c.args.contours.now in

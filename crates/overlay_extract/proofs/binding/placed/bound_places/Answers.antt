@@ -14,8 +14,8 @@ shape_places-requires g c =
     subst (CanBePlaced cs) (sym c.deref.ensures.value)
     (c.requires.placeable c.in_ok-found.found.items c.in_ok-found.ensures.found)
 
-pub returns-clause-placed : goal.returns-clause-placed
-returns-clause-placed g c =
+pub returns : goal.returns
+returns g c =
     let cs = plain_contours g.I.IntNumber.whole c.args.contours.now in
     IfOk-weaker c.shape_places.result (λ v. ArePlaced cs c.deref.result.now (place_lists v.items))
     (λ v. ArePlacedSomehow (filled_hand c.args.direction) cs (place_lists v.items))

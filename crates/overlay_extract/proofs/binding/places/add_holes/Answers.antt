@@ -63,8 +63,8 @@ loop-i-preserved g c =
     (added_more c.args.holes cs (take i (contours_bound cs c.args.found.now)) old lists i (plain x) s
     (walk_there cs i (plain x) in_contours read) in_contours counted c.loop-i.invariant))
 
-pub returns-clause-added : goal.returns-clause-added
-returns-clause-added g c =
+pub returns : goal.returns
+returns g c =
     let cs = plain_contours g.I.IntNumber.whole c.args.contours.now in
     added_all c.args.holes cs c.args.found.now (place_lists c.args.places.now.items)
     (place_lists c.loop-i.places.items) c.loop-i.i

@@ -6,8 +6,8 @@ use Rattle.overlay_geom.proofs.Mapped.{read_mapped}
 use Rattle.overlay_extract.specs.Places.{place_lists, with_place}
 use Rattle.overlay_extract.proofs.binding.places.push_place.Goals as goal
 
-pub returns-in_ok-push-in-Some-clause-ok : goal.returns-in_ok-push-in-Some-clause-ok
-returns-in_ok-push-in-Some-clause-ok g c =
+pub returns-in_ok-push-in-Some : goal.returns-in_ok-push-in-Some
+returns-in_ok-push-in-Some g c =
     let old = c.args.places.now.items in
     let shape = c.index_mut.result.now in
     let n = c.in-Some.number in

@@ -33,8 +33,8 @@ add_holes-requires-2-clause-numbered g c =
     ∙ outlines_counted cs (place_lists c.in_ok-places.places.items) c.in_ok-places.ensures.begun))
     (numbers_below Found cs c.args.found.now c.requires)
 
-pub returns-clause-placed : goal.returns-clause-placed
-returns-clause-placed g c =
+pub returns : goal.returns
+returns g c =
     let cs = plain_contours g.I.IntNumber.whole c.args.contours.now in
     are_placed cs c.args.found.now c.requires (place_lists c.in_ok-places.places.items)
     (place_lists c.add_holes.new.places.items) (place_lists c.add_holes-2.new.places.items)

@@ -11,7 +11,7 @@ loop-i-preserved g c =
     ∙ sym (mapped_more number_of c.args.contours.now c.loop-i.i c.index-contours-i.result c.loop-i-test.true
     c.index-contours-i.is)
 
-pub returns-clause-ok : goal.returns-clause-ok
-returns-clause-ok g c =
+pub returns : goal.returns
+returns g c =
     c.loop-i.invariant ∙ mapped_whole number_of c.args.contours.now c.loop-i.i c.loop-i-test.false
     ∙ sym (numbers_alike g.I.IntNumber.whole c.args.contours.now)

@@ -36,8 +36,8 @@ loop-i-preserved g c =
     ∙ ap (map turned_loop) (sym (mapped_more (λ (w : _). plain_steps whole w.items) loops l.i loop c.loop-i-test.true
     c.index-loops-i.is)))
 
-pub returns-clause-turned : goal.returns-clause-turned
-returns-clause-turned g c =
+pub returns : goal.returns
+returns g c =
     let whole = g.I.IntNumber.whole in
     let past = c.loop-i-test.false in
     c.loop-i.invariant ∙ ap (map turned_loop)

@@ -20,8 +20,8 @@ loop-place-preserved g c =
     ∙ ap (map reversed_step)
     (sym (mapped_more (plain_step whole) walk l.place step c.loop-place-test.true c.index-walk-place.is)))
 
-pub returns-clause-back : goal.returns-clause-back
-returns-clause-back g c =
+pub returns : goal.returns
+returns g c =
     let whole = g.I.IntNumber.whole in
     let l = c.loop-place in
     let past = c.loop-place-test.false in

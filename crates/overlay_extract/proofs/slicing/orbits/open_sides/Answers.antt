@@ -18,8 +18,8 @@ new-requires g c =
     ∙ sides_from_vectors graph.fill_rule es _ c.edges-edges.ensures.filled))
     (sides_are_long g.I.IntNumber.limit graph.fill_rule es c.edges-edges.ensures.arranged c.requires)
 
-pub returns-clause-sides : goal.returns-clause-sides
-returns-clause-sides g c =
+pub returns : goal.returns
+returns g c =
     let whole = g.I.IntNumber.whole in
     let graph = c.args.graph.now in
     let es = graph_edges graph in

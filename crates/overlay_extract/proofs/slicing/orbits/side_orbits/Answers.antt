@@ -24,8 +24,8 @@ cut_into_contours-requires-clause-once g c =
     (balanced_arrangement g.I.IntNumber.limit es c.note_arrangement.ensures c.requires)
     (plain_steps g.I.IntNumber.whole c.in_ok-open.open) c.in_ok-open.ensures.sides
 
-pub returns-clause-orbits : goal.returns-clause-orbits
-returns-clause-orbits g c =
+pub returns : goal.returns
+returns g c =
     let graph = c.args.graph.now in
     let es = graph_edges graph in
     orbits_cut (is_filled graph.fill_rule) subj_of es

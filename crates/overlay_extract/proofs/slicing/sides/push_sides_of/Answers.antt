@@ -9,8 +9,8 @@ use Rattle.overlay_walk.specs.Selection.{ends}
 use Rattle.overlay_walk.specs.Steps.{plain_steps}
 use Rattle.overlay_extract.proofs.slicing.sides.push_sides_of.Goals as goal
 
-pub returns-clause-ok : goal.returns-clause-ok
-returns-clause-ok g c =
+pub returns : goal.returns
+returns g c =
     let whole = g.I.IntNumber.whole in
     let old = plain_steps whole c.args.steps.now.items in
     let edge = ends (plain_vector whole c.args.edge) in

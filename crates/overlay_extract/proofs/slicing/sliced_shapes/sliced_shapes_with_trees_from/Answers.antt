@@ -42,8 +42,8 @@ assembled-requires-clause-inside g c =
     (subst (λ ps. AreInside (length (plain_contours whole slices.contours.items)) (place_lists ps))
     (sym c.deref-4.ensures.value) placed.inside)
 
-pub returns-clause-sliced : goal.returns-clause-sliced
-returns-clause-sliced g c =
+pub returns : goal.returns
+returns g c =
     let whole = g.I.IntNumber.whole in
     let graph = c.args.graph.now in
     let es = graph_edges graph in

@@ -16,8 +16,8 @@ invariant_of-result g c =
       arriving = rw (c.deref-2.ensures.value) at c.in_ok-back.ensures.ok;
     }
 
-pub returns-clause-ok : goal.returns-clause-ok
-returns-clause-ok g c =
+pub returns : goal.returns
+returns g c =
     unmarked-cleared (plain_pieces g.I.IntNumber.whole c.args.pieces.items) c.new-taken.result.items
     c.resize.new.self.items c.len.result _ c.new-taken.ensures.len c.new-taken.ensures.items
     c.in_ok-resize.ensures.items

@@ -5,7 +5,7 @@ use Rattle.overlay_geom.specs.Paths.{paths_of_shape}
 use Rattle.overlay_string.specs.ClipPaths.{ArePathsOf}
 use Rattle.overlay_string.proofs.string_overlay.clip.clipped.Goals as goal
 
-pub returns-clause-paths : goal.returns-clause-paths
-returns-clause-paths g c =
+pub returns : goal.returns
+returns g c =
     subst (λ ps. IfOk c.joined_paths.result (λ v. ArePathsOf ps (paths_of_shape g.I.IntNumber.whole v.items)))
     (c.in_ok-pieces.ensures.ok ∙ c.in_ok-kept.ensures.ok) c.joined_paths.ensures.ok

@@ -34,8 +34,8 @@ invariant_of-result g c =
       passing = none_passed c.resize.new.self.items c.in_ok-places.places.items;
     }
 
-pub returns-clause-all : goal.returns-clause-all
-returns-clause-all g c =
+pub returns : goal.returns
+returns g c =
     subst (IsPermutation c.args.steps.items)
     (sym (unmarked-cleared c.sort_steps.new.steps.items c.new-taken.result.items c.resize.new.self.items c.len.result _
     c.new-taken.ensures.len c.new-taken.ensures.items c.in_ok-resize.ensures.items))
