@@ -26,8 +26,8 @@ cancel_out-requires g c =
     ap is_lt answer ∙ point_cmp-is_less (plain_point whole a.0.now.point) (plain_point whole a.1.0.now.point))))))
 
 pub returns : goal.returns
-returns g c =
-    let whole = g.I.IntNumber.whole in
+returns g c = record {
+  balanced = let whole = g.I.IntNumber.whole in
     let es = plain_edges whole g.C.EdgeCount.counts c.args.edges.now in
     let sorted = c.sort_by.new.self.items in
     let moved = subst (λ ns. IsPermutation ns (plain_ends whole sorted)) c.in_ok-ends.ensures.ok
@@ -36,4 +36,5 @@ returns g c =
           (subst (λ ns. CancelOut (plain_ends whole ns)) c.deref.ensures.value (c.cancel_out.ensures.0 t)),
       λ balanced. c.cancel_out.ensures.1 (subst (λ ns. CancelOut (plain_ends whole ns)) (sym c.deref.ensures.value)
           (cancelled_where_balanced es (plain_ends whole sorted) moved balanced)),
-    )
+    );
+}

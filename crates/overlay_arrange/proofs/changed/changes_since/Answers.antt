@@ -49,8 +49,8 @@ strips_of-requires-clause-ascending g c =
     (changes_ascend es places cs changes c.requires.ascending)
 
 pub returns : goal.returns
-returns g c =
-    let whole = g.I.IntNumber.whole in
+returns g c = record {
+  ok = let whole = g.I.IntNumber.whole in
     let counts = g.C.EdgeCount.counts in
     let es = plain_edges whole counts c.args.edges.now in
     let before = edges_in c.in-Some.before.edges in
@@ -65,4 +65,5 @@ returns g c =
     let stand : StandAt es places cs = rw (← c.deref-2.ensures.value) c.in_ok-changed.ensures.ok in
     let changes = changes_found es c.requires.ascending before opens known (length c.args.edges.now) places cs
     (omega (arith, l)) found stand in
-    record { changes = changes; strips = rw (← c.deref-3.ensures.value) c.in_ok-strips.ensures.ok }
+    record { changes = changes; strips = rw (← c.deref-3.ensures.value) c.in_ok-strips.ensures.ok };
+}

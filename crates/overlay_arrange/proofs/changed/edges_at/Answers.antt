@@ -24,7 +24,8 @@ loop-k-preserved g c =
     c.loop-k.invariant)
 
 pub returns : goal.returns
-returns g c =
-    all_stand (plain_edges g.I.IntNumber.whole g.C.EdgeCount.counts c.args.edges.now) c.args.places.now c.loop-k.k
+returns g c = record {
+  ok = all_stand (plain_edges g.I.IntNumber.whole g.C.EdgeCount.counts c.args.edges.now) c.args.places.now c.loop-k.k
     (plain_edges g.I.IntNumber.whole g.C.EdgeCount.counts c.loop-k.found.items)
-    (let up = c.loop-k.auto.k-end in omega (arith, up, c.loop-k-test.false)) c.loop-k.invariant
+    (let up = c.loop-k.auto.k-end in omega (arith, up, c.loop-k-test.false)) c.loop-k.invariant;
+}

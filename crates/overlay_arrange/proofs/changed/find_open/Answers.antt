@@ -67,8 +67,8 @@ put_places-requires g c =
     c.first_from-k.result c.find_near_behind-else-index-i.new.near.items near)
 
 pub returns-then-k-len : goal.returns-then-k-len
-returns-then-k-len g c =
-    let whole = g.I.IntNumber.whole in
+returns-then-k-len g c = record {
+  ok = let whole = g.I.IntNumber.whole in
     let counts = g.C.EdgeCount.counts in
     let es = plain_edges whole counts c.args.edges.now in
     let changed = c.in-Some.changed in
@@ -84,21 +84,23 @@ returns-then-k-len g c =
     near_of_edge es c.args.i (plain_edge whole counts e) c.clear.new.self.items at_e
     (subst (AreNearBehind es (plain_edge whole counts e) (c.args.i + 1)) (sym c.clear.ensures.items)
     (none_left es changed.places.items cs known.changes c.args.i c.first_from-k.result first
-    (plain_edge whole counts e) at_e (λ at. omega (arith, all, at.0)) all))
+    (plain_edge whole counts e) at_e (λ at. omega (arith, all, at.0)) all));
+}
 
 pub returns-then-index-i : goal.returns-then-index-i
-returns-then-index-i g c =
-    let plain = plain_edge g.I.IntNumber.whole g.C.EdgeCount.counts in
+returns-then-index-i g c = record {
+  ok = let plain = plain_edge g.I.IntNumber.whole g.C.EdgeCount.counts in
     let es = plain_edges g.I.IntNumber.whole g.C.EdgeCount.counts c.args.edges.now in
     let e = c.index-edges-i.result in
     on_ok_weaker c.find_near_behind-then-index-i.result
     (near_of_edge es c.args.i (plain e) c.find_near_behind-then-index-i.new.near.items
     (placed_in_mapped plain c.args.edges.now c.args.i e c.requires.within c.index-edges-i.is))
-    c.find_near_behind-then-index-i.ensures.ok
+    c.find_near_behind-then-index-i.ensures.ok;
+}
 
 pub returns-in_ok-find_near_behind : goal.returns-in_ok-find_near_behind
-returns-in_ok-find_near_behind g c =
-    let whole = g.I.IntNumber.whole in
+returns-in_ok-find_near_behind g c = record {
+  ok = let whole = g.I.IntNumber.whole in
     let counts = g.C.EdgeCount.counts in
     let es = plain_edges whole counts c.args.edges.now in
     let changed = c.in-Some.changed in
@@ -119,4 +121,5 @@ returns-in_ok-find_near_behind g c =
     ∙ at.1))
     c.find_near_behind-else-index-i.new.near.items c.put_places.new.near.items near
     (subst (λ ps. ArePlacesAt ps c.find_near_behind-else-index-i.new.near.items c.put_places.new.near.items)
-    c.deref-else-index-i-2.ensures.value c.put_places.ensures))
+    c.deref-else-index-i-2.ensures.value c.put_places.ensures));
+}

@@ -8,8 +8,8 @@ use Rattle.overlay_arrange.proofs.crossing.push_crossing.Goals as goal
 use Rattle.overlay_arrange.proofs.crossing.push_crossing.Goals.{in-Across, in_default}
 
 pub returns-in_ok-push_inside-2 : goal.returns-in_ok-push_inside-2
-returns-in_ok-push_inside-2 g c =
-    let whole = g.I.IntNumber.whole in
+returns-in_ok-push_inside-2 g c = record {
+  ok = let whole = g.I.IntNumber.whole in
     let e = plain_edge whole g.C.EdgeCount.counts c.args.e.now in
     let f = plain_edge whole g.C.EdgeCount.counts c.args.f.now in
     elim c.match-matches.branch [
@@ -17,11 +17,12 @@ returns-in_ok-push_inside-2 g c =
           c.requires.across w.in-Across.ensures c.common_point-point.ensures
           c.in_ok-push_inside.ensures.ok c.in_ok-push_inside-2.ensures.ok
       | in_default w ↦ absurd (cc (w.matches-is, c.if-matches.true))
-    ]
+    ];
+}
 
 pub returns-else-matches : goal.returns-else-matches
-returns-else-matches g c =
-    let whole = g.I.IntNumber.whole in
+returns-else-matches g c = record {
+  ok = let whole = g.I.IntNumber.whole in
     let e = plain_edge whole g.C.EdgeCount.counts c.args.e.now in
     let f = plain_edge whole g.C.EdgeCount.counts c.args.f.now in
     elim c.match-matches.branch [
@@ -30,4 +31,5 @@ returns-else-matches g c =
           c.place_by.result
           ((Decides-point_lt f.a f.b).0 c.requires.other.forward) c.requires.across c.place_by.ensures
           w.in_default.not-Across
-    ]
+    ];
+}

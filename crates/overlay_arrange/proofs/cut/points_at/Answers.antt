@@ -9,8 +9,8 @@ use Rattle.overlay_arrange.proofs.LedThrough.{points_of_run}
 use Rattle.overlay_arrange.proofs.cut.points_at.Goals as goal
 
 pub returns : goal.returns
-returns g c =
-    let whole = g.I.IntNumber.whole in
+returns g c = record {
+  ok = let whole = g.I.IntNumber.whole in
     let low = c.run_at-low.result.0 in
     let high = c.run_at-low.result.1 in
     points_of_run (plain_meetings whole c.args.meetings.now) c.args.i
@@ -19,4 +19,5 @@ returns g c =
     c.run_at-low.ensures
     (c.in_ok-points.ensures.ok ∙ ap (map (λ (m : Meeting). m.point))
     (mapped_range (plain_meeting whole) c.args.meetings.now low high))
-    c.in_ok-sort_along.ensures.ok
+    c.in_ok-sort_along.ensures.ok;
+}

@@ -13,6 +13,7 @@ loop-m-preserved g c =
     c.loop-m-test.true c.m-item.is c.in_ok-push.ensures.items refl c.loop-m.invariant
 
 pub returns : goal.returns
-returns g c =
-    c.loop-m.invariant ∙ ap (map (λ (m : Meeting). m.point))
-    (mapped_whole (plain_meeting g.I.IntNumber.whole) c.args.meetings.now c.loop-m.m-index c.loop-m-test.false)
+returns g c = record {
+  ok = c.loop-m.invariant ∙ ap (map (λ (m : Meeting). m.point))
+    (mapped_whole (plain_meeting g.I.IntNumber.whole) c.args.meetings.now c.loop-m.m-index c.loop-m-test.false);
+}

@@ -129,8 +129,8 @@ loop-i-preserved g c =
     )
 
 pub returns : goal.returns
-returns g c =
-    let whole = g.I.IntNumber.whole in
+returns g c = record {
+  ok = let whole = g.I.IntNumber.whole in
     let counts = g.C.EdgeCount.counts in
     let ss = c.in_ok-starting.starting.items in
     let fs = plain_starts whole counts ss in
@@ -149,4 +149,5 @@ returns g c =
     told_by_function (fill_bits c.args.rule es) es fills sides
     (λ k x y lt. all_told (λ f m. m ≡ fill_bits c.args.rule fs f) 0 es ns (numbered_shuffled es ns by.permutation) fills
     sides i past c.loop-i.invariant.2 k x y lt
-    ∙ bits_shuffled es fs (subst (IsPermutation es) items (starts_permuted es ns by)) c.args.rule (get_or es k x))
+    ∙ bits_shuffled es fs (subst (IsPermutation es) items (starts_permuted es ns by)) c.args.rule (get_or es k x));
+}

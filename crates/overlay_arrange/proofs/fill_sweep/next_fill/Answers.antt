@@ -14,7 +14,7 @@ use Rattle.overlay_arrange.specs.declared.windings.Windings.{Windings}
 use Rattle.overlay_arrange.proofs.SideBits.{bits_between_windings}
 use Rattle.overlay_arrange.proofs.SweptFills.{is_over, meets, fresh, swept_with, swept_past}
 use Rattle.overlay_arrange.proofs.fill_sweep.next_fill.Goals as goal
-use Rattle.overlay_arrange.proofs.fill_sweep.next_fill.Goals.{then-is_lt+in_ok-insert, else-is_lt}
+use Rattle.overlay_arrange.proofs.fill_sweep.next_fill.Goals.{then-is_lt+in-Ok, else-is_lt}
 
 abbrev wind : ℤ → ℤ → Windings
 wind v w = record { subj = v; clip = w }
@@ -87,11 +87,11 @@ returns-clause-swept g c = λ f here.
     subst (λ (h : CountedEdge). IsSwept limit h.a.x (take (i + 1) (wound_entries fs))
     (g.S.Scan.content c.if-is_lt.scan)) (sym is ∙ get_or_default fs i e f lt ∙ here)
     (elim c.if-is_lt.branch [
-      | then-is_lt+in_ok-insert w ↦ subst (λ k. IsSwept limit e.a.x (take (i + 1) (wound_entries fs))
+      | then-is_lt+in-Ok w ↦ subst (λ k. IsSwept limit e.a.x (take (i + 1) (wound_entries fs))
           (g.S.Scan.content k)) (sym w.scan-is)
           (swept_with limit fs c.requires.edges i e lt is t swept (sym test ∙ w.if-is_lt.true) above subj clip
           (g.S.Scan.content w.insert.new.self)
-          w.in_ok-insert.ensures.ok w.in_ok-insert.ensures.reached w.in_ok-insert.ensures.state)
+          w.in-Ok.ensures.ok w.in-Ok.ensures.reached w.in-Ok.ensures.state)
       | else-is_lt w ↦ subst (λ k. IsSwept limit e.a.x (take (i + 1) (wound_entries fs)) (g.S.Scan.content k))
           (sym w.scan-is)
           (swept_past limit fs c.requires.edges i e lt is t swept (sym test ∙ w.if-is_lt.false))

@@ -10,8 +10,8 @@ use Rattle.overlay_arrange.proofs.HotLists.{are_hot_points, ends_and_met}
 use Rattle.overlay_arrange.proofs.hot.hot_points.Goals as goal
 
 pub returns : goal.returns
-returns g c =
-    let whole = g.I.IntNumber.whole in
+returns g c = record {
+  ok = let whole = g.I.IntNumber.whole in
     let es = plain_edges whole g.C.EdgeCount.counts c.args.edges.now in
     let ms = plain_meetings whole c.args.meetings.now in
     let sorted = plain_points whole c.sort_points.new.points.items in
@@ -24,4 +24,5 @@ returns g c =
     ∙ ap (λ vs. plain_points whole vs ++ map (λ (e : CountedEdge). e.a) es) c.new-points.ensures.items)) in
     are_hot_points es ms c.requires sorted
     (subst (λ (us : List Point). HaveSameMembers us sorted) listed c.in_ok-sort_points.ensures.members)
-    c.in_ok-sort_points.ensures.ascending
+    c.in_ok-sort_points.ensures.ascending;
+}

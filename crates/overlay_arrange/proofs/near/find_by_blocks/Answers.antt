@@ -21,8 +21,8 @@ loop-at-init g c =
     )
 
 pub returns : goal.returns
-returns g c =
-    let width = c.args.strips.now.width in
+returns g c = record {
+  ok = let width = c.args.strips.now.width in
     let extents = c.args.strips.now.edges.items in
     let ss = plain_extents g.I.IntNumber.whole extents in
     let of = plain_extent g.I.IntNumber.whole c.args.of in
@@ -35,4 +35,5 @@ returns g c =
     subst (λ n. IsSearchedTo ss of n js) count
     (searched_past ss of stop (length ss) js
     (strips_behind_apart width c.requires.some ss of c.requires.strips stop ends)
-    (searched_before ss of c.loop-at.at stop js c.loop-at-test.false c.loop-at.invariant.1))
+    (searched_before ss of c.loop-at.at stop js c.loop-at-test.false c.loop-at.invariant.1));
+}

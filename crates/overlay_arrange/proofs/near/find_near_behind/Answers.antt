@@ -11,11 +11,12 @@ use Rattle.overlay_arrange.proofs.PlacedExtents.{as_many_placed}
 use Rattle.overlay_arrange.proofs.near.find_near_behind.Goals as goal
 
 pub returns-then-end-from-lt-FEW : goal.returns-then-end-from-lt-FEW
-returns-then-end-from-lt-FEW g c =
-    on_ok_weaker c.take_run.result
+returns-then-end-from-lt-FEW g c = record {
+  ok = on_ok_weaker c.take_run.result
     (run_near (plain_edges g.I.IntNumber.whole g.C.EdgeCount.counts c.args.edges.now) c.args.from c.run_end-end.result
     (plain_edge g.I.IntNumber.whole g.C.EdgeCount.counts c.args.e.now) g.I.IntNumber.limit c.requires.held
-    c.requires.one c.requires.ascending c.run_end-end.ensures c.take_run.new.near.items) c.take_run.ensures.ok
+    c.requires.one c.requires.ascending c.run_end-end.ensures c.take_run.new.near.items) c.take_run.ensures.ok;
+}
 
 pub find_by_blocks-requires-clause-within : goal.find_by_blocks-requires-clause-within
 find_by_blocks-requires-clause-within g c =
@@ -33,8 +34,8 @@ find_by_blocks-requires-clause-within g c =
     omega (arith, last, moved, count, l, m, ordered, up_to)
 
 pub returns-else-end-from-lt-FEW : goal.returns-else-end-from-lt-FEW
-returns-else-end-from-lt-FEW g c =
-    let whole = g.I.IntNumber.whole in
+returns-else-end-from-lt-FEW g c = record {
+  ok = let whole = g.I.IntNumber.whole in
     let plain = plain_edge whole g.C.EdgeCount.counts in
     let es = plain_edges whole g.C.EdgeCount.counts c.args.edges.now in
     let e = plain c.args.e.now in
@@ -46,4 +47,5 @@ returns-else-end-from-lt-FEW g c =
     (λ searched. searched_near es c.args.from end e g.I.IntNumber.limit c.requires.held c.requires.one
     c.requires.ascending c.run_end-end.ensures ss js c.requires.strips.permutation
     (subst (λ n. IsSearchedTo ss (run_of e c.args.from end) n js) (sym (length-map extents (plain_extent whole)))
-    (subst (λ s. IsSearchedTo ss s (length extents) js) c.run_of.ensures searched))) c.find_by_blocks.ensures.ok
+    (subst (λ s. IsSearchedTo ss s (length extents) js) c.run_of.ensures searched))) c.find_by_blocks.ensures.ok;
+}

@@ -30,7 +30,8 @@ loop-k-preserved g c =
     ∙ ap (λ (us : List Point). us ++ plain_point whole v ∷ []) c.loop-k.invariant ∙ sym more
 
 pub returns : goal.returns
-returns g c =
-    c.loop-k.invariant
+returns g c = record {
+  ok = c.loop-k.invariant
     ∙ mapped_whole (λ j. get_or (plain_points g.I.IntNumber.whole c.args.hot.now) j origin) c.args.ranks.now
-    c.loop-k.k c.loop-k-test.false
+    c.loop-k.k c.loop-k-test.false;
+}

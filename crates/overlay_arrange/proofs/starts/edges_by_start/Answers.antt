@@ -11,8 +11,8 @@ use Rattle.overlay_arrange.specs.Starts.{starting_ends, numbered_start, numbered
 use Rattle.overlay_arrange.proofs.starts.edges_by_start.Goals as goal
 
 pub returns : goal.returns
-returns g c =
-    let whole = g.I.IntNumber.whole in
+returns g c = record {
+  ok = let whole = g.I.IntNumber.whole in
     let counts = g.C.EdgeCount.counts in
     let sorted = c.sort_by.new.self.items in record {
       permutation = subst (λ ns. IsPermutation ns (numbered_starts whole counts sorted)) c.in_ok-starting.ensures.ok
@@ -27,4 +27,5 @@ returns g c =
           (answers_always _ _ _ (λ f a r h k.
           let answer : is_lt r ≡ is_anchored_before (starting_ends whole a.0.now) (starting_ends whole a.1.0.now) =
           search rules in answer))));
-    }
+    };
+}

@@ -32,7 +32,8 @@ loop-place-preserved g c =
     ∙ numbered_more 0 es e)
 
 pub returns : goal.returns
-returns g c =
-    c.loop-place.invariant ∙ ap (numbered 0)
+returns g c = record {
+  ok = c.loop-place.invariant ∙ ap (numbered 0)
     (mapped_whole (plain_edge g.I.IntNumber.whole g.C.EdgeCount.counts) c.args.edges.now c.loop-place.place
-    c.loop-place-test.false)
+    c.loop-place-test.false);
+}

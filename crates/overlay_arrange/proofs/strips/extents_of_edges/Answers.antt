@@ -24,6 +24,7 @@ loop-place-preserved g c =
     c.index-edges-place.is) ∙ placed_more extent_of es e)
 
 pub returns : goal.returns
-returns g c =
-    c.loop-place.invariant ∙ ap extents_of (mapped_whole (plain_edge g.I.IntNumber.whole g.C.EdgeCount.counts)
-    c.args.edges.now c.loop-place.place c.loop-place-test.false)
+returns g c = record {
+  ok = c.loop-place.invariant ∙ ap extents_of (mapped_whole (plain_edge g.I.IntNumber.whole g.C.EdgeCount.counts)
+    c.args.edges.now c.loop-place.place c.loop-place-test.false);
+}

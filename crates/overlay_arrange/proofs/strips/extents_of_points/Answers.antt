@@ -24,6 +24,7 @@ loop-place-preserved g c =
     c.index-points-place.is) ∙ placed_more extent_of_point vs v)
 
 pub returns : goal.returns
-returns g c =
-    c.loop-place.invariant ∙ ap extents_of_points (mapped_whole (plain_point g.I.IntNumber.whole)
-    c.args.points.now c.loop-place.place c.loop-place-test.false)
+returns g c = record {
+  ok = c.loop-place.invariant ∙ ap extents_of_points (mapped_whole (plain_point g.I.IntNumber.whole)
+    c.args.points.now c.loop-place.place c.loop-place-test.false);
+}

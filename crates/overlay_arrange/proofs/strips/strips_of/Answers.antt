@@ -5,8 +5,8 @@ use Rattle.overlay_arrange.proofs.ExtentBlocks.{blocks_of_blocks}
 use Rattle.overlay_arrange.proofs.strips.strips_of.Goals as goal
 
 pub returns : goal.returns
-returns g c =
-    let whole = g.I.IntNumber.whole in
+returns g c = record {
+  ok = let whole = g.I.IntNumber.whole in
     let plain = plain_extents whole in
     let sorted = c.in_ok-extents.extents.items in
     let of_8 = plain c.in_ok-of_8.of_8.items in
@@ -29,4 +29,5 @@ returns g c =
       strips = c.in_ok-extents.ensures.strips;
       heights = c.in_ok-extents.ensures.heights;
       blocks = record { by_8 = by_8; by_64 = by_64; by_512 = by_512; by_4096 = by_4096; by_32768 = by_32768 };
-    }
+    };
+}

@@ -28,8 +28,8 @@ assembled-requires-clause-inside g c =
     (sym c.deref-2.ensures.value) c.in_ok-placed.ensures.placed.placed.inside)
 
 pub returns : goal.returns
-returns g c =
-    let whole = g.I.IntNumber.whole in
+returns g c = record {
+  result = let whole = g.I.IntNumber.whole in
     let keep = c.args.options.preserve_output_collinear in
     let q = asked g.I.Wide.WideIntNumber.width g.I.WideUInt.UIntNumber.natural c.args.graph.now.fill_rule
     c.args.overlay_rule c.args.options in
@@ -44,4 +44,5 @@ returns g c =
     c.deref-2.ensures.value
     (subst (λ ds. IfOk c.assembled.result (λ v. AreKeptOrThinned keep
     (points_of_shapes (walks_at (plain_contours whole ds) (place_lists c.deref-2.result.now)))
-    (plain_shapes whole v.items))) c.deref.ensures.value c.assembled.ensures.shapes))
+    (plain_shapes whole v.items))) c.deref.ensures.value c.assembled.ensures.shapes));
+}

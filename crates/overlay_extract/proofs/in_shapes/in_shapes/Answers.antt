@@ -44,7 +44,8 @@ loop-number-preserved g c =
     (sym (mapped_more (λ (ps : _). ps.items) places n x inside c.index-places-number.is))
 
 pub returns : goal.returns
-returns g c =
-    c.loop-number.invariant
+returns g c = record {
+  ok = c.loop-number.invariant
     ∙ ap (λ ls. group_contours_from 0 (walks_at (plain_contours g.I.IntNumber.whole c.args.contours.now) ls))
-    (mapped_whole (λ (ps : _). ps.items) c.args.places.now c.loop-number.number c.loop-number-test.false)
+    (mapped_whole (λ (ps : _). ps.items) c.args.places.now c.loop-number.number c.loop-number-test.false);
+}

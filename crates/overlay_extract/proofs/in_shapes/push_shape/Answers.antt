@@ -52,9 +52,10 @@ loop-i-preserved g c =
     ∙ ap (map (walk_at cs)) (sym (take_more c.args.places.now i 0 c.loop-i-test.true))))
 
 pub returns : goal.returns
-returns g c =
-    let whole = g.I.IntNumber.whole in
+returns g c = record {
+  pushed = let whole = g.I.IntNumber.whole in
     c.loop-i.invariant
     ∙ ap (λ ps. plain_contours whole c.args.ordered.now.items
     ++ contours_of_group c.args.number (map (walk_at (plain_contours whole c.args.contours.now)) ps))
-    (take_all c.loop-i.i c.args.places.now c.loop-i-test.false)
+    (take_all c.loop-i.i c.args.places.now c.loop-i-test.false);
+}

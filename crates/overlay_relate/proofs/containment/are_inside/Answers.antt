@@ -12,5 +12,7 @@ loop-l-preserved g c =
     ∙ sym (map_more is_inside c.args.locations.now c.loop-l.l-index Inside c.loop-l-test.true)
 
 pub returns : goal.returns
-returns g c = c.loop-l.invariant ∙ mapped_whole is_inside c.args.locations.now c.loop-l.l-index
-    c.loop-l-test.false
+returns g c = record {
+  inside = c.loop-l.invariant ∙ mapped_whole is_inside c.args.locations.now c.loop-l.l-index
+    c.loop-l-test.false;
+}

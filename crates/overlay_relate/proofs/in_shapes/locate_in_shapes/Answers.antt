@@ -50,8 +50,8 @@ in_given_order-requires-clause-counted g c =
     ∙ sym (ap length c.deref-3.ensures.value)
 
 pub returns : goal.returns
-returns g c =
-    let whole = g.I.IntNumber.whole in
+returns g c = record {
+  located = let whole = g.I.IntNumber.whole in
     let points = plain_points whole c.args.points.now in
     let R = λ (q : Point) (l : PointLocation). IsLocatedAmong (plain_shapes whole c.args.shapes.now) (in_plane q) l in
     let asked = points_asked (plain_queries whole c.deref-3.result.now) in
@@ -62,4 +62,5 @@ returns g c =
     (subst (λ qs. AnswersEach R qs c.in_ok-located.located.items) is c.in_ok-located.ensures.located) in
     IfOk-weaker c.in_given_order.result (λ v. AnswersEach (IsAnswered asked c.deref-4.result.now) points v.items)
     (λ v. AnswersEach R points v.items)
-    (λ v placed. answers_ordered R points asked c.deref-4.result.now v.items right placed) c.in_given_order.ensures.ok
+    (λ v placed. answers_ordered R points asked c.deref-4.result.now v.items right placed) c.in_given_order.ensures.ok;
+}

@@ -55,8 +55,9 @@ loop-contour-preserved g c =
     (c.in_ok-join_contour.ensures.joined seen c.loop-contour.invariant))
 
 pub returns : goal.returns
-returns g c =
-    let whole = g.I.IntNumber.whole in
+returns g c = record {
+  located = let whole = g.I.IntNumber.whole in
     subst (λ ss. AnswersWhere (IsLocatedIn ss) (plain_points whole c.args.points.now) c.loop-contour.located.items)
     (mapped_whole (λ x. plain_points g.I.IntNumber.whole x.items) c.args.contours.now c.loop-contour.contour-index
-    c.loop-contour-test.false) c.loop-contour.invariant
+    c.loop-contour-test.false) c.loop-contour.invariant;
+}

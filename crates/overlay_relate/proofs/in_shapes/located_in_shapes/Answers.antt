@@ -55,8 +55,9 @@ loop-shape-preserved g c =
     (c.in_ok-join_shape.ensures.joined seen c.loop-shape.invariant))
 
 pub returns : goal.returns
-returns g c =
-    let whole = g.I.IntNumber.whole in
+returns g c = record {
+  located = let whole = g.I.IntNumber.whole in
     subst (λ ss. AnswersWhere (IsLocatedAmong ss) (plain_points whole c.args.points.now) c.loop-shape.located.items)
     (mapped_whole (λ x. paths_of_shape g.I.IntNumber.whole x.items) c.args.shapes.now c.loop-shape.shape-index
-    c.loop-shape-test.false) c.loop-shape.invariant
+    c.loop-shape-test.false) c.loop-shape.invariant;
+}

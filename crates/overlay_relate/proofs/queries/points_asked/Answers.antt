@@ -21,7 +21,8 @@ loop-query-preserved g c =
     ∙ map-append (λ (n : Numbered Point). n.item) (plain_queries whole qs) (q ∷ []))
 
 pub returns : goal.returns
-returns g c =
-    let whole = g.I.IntNumber.whole in
+returns g c = record {
+  ok = let whole = g.I.IntNumber.whole in
     c.loop-query.invariant ∙ ap points_asked
-    (mapped_whole (plain_query whole) c.args.queries.now c.loop-query.query-index c.loop-query-test.false)
+    (mapped_whole (plain_query whole) c.args.queries.now c.loop-query.query-index c.loop-query-test.false);
+}

@@ -24,7 +24,8 @@ loop-place-preserved g c =
     ∙ numbered_more 0 ps p)
 
 pub returns : goal.returns
-returns g c =
-    let whole = g.I.IntNumber.whole in
+returns g c = record {
+  ok = let whole = g.I.IntNumber.whole in
     c.loop-place.invariant ∙ ap (numbered 0)
-    (mapped_whole (plain_point whole) c.args.points.now c.loop-place.place c.loop-place-test.false)
+    (mapped_whole (plain_point whole) c.args.points.now c.loop-place.place c.loop-place-test.false);
+}

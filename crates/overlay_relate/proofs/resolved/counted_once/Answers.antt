@@ -21,6 +21,7 @@ loop-e-preserved g c =
     c.e-item.is)
 
 pub returns : goal.returns
-returns g c =
-    let whole = g.I.IntNumber.whole in
-    c.loop-e.invariant ∙ mapped_whole (plain_ends whole) c.args.edges.now c.loop-e.e-index c.loop-e-test.false
+returns g c = record {
+  ok = let whole = g.I.IntNumber.whole in
+    c.loop-e.invariant ∙ mapped_whole (plain_ends whole) c.args.edges.now c.loop-e.e-index c.loop-e-test.false;
+}

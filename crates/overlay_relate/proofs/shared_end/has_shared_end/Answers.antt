@@ -16,8 +16,8 @@ use Rattle.overlay_relate.proofs.SharedBorders.{shared_from_share, share_from_sh
 use Rattle.overlay_relate.proofs.shared_end.has_shared_end.Goals as goal
 
 pub returns : goal.returns
-returns g c =
-    let whole = g.I.IntNumber.whole in
+returns g c = record {
+  ok = let whole = g.I.IntNumber.whole in
     let rule = c.args.graph.now.fill_rule in
     let es = graph_edges c.args.graph.now in
     let sorted = c.sort_by.new.self.items in
@@ -39,4 +39,5 @@ returns g c =
       λ shared. test ∙ next_from_share (plain_ends whole sorted) order
           (share_from_shared rule es (plain_ends whole sorted)
           (λ m at. Contains-permutation all (plain_ends whole sorted) m moved at) shared),
-    )
+    );
+}

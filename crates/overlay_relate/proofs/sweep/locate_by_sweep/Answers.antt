@@ -205,8 +205,8 @@ loop-query-preserved g c =
     )
 
 pub returns : goal.returns
-returns g c =
-    let whole = g.I.IntNumber.whole in
+returns g c = record {
+  located = let whole = g.I.IntNumber.whole in
     let points = plain_points whole c.args.points.now in
     let qs = plain_queries whole c.deref-query-items.result.now in
     let asked : AreQueries points qs = subst (λ rs. AreQueries points (plain_queries whole rs))
@@ -215,4 +215,5 @@ returns g c =
     all_answered (λ p l. IsLocatedBy (plain_edges whole c.args.edges.now) (in_plane p) l) Outside points qs
     asked.numbered c.loop-query.answers.items
     (c.loop-query.invariant.0 ∙ sym (length-map c.args.points.now (plain_point whole))) c.loop-query.query-index past
-    c.loop-query.invariant.5
+    c.loop-query.invariant.5;
+}

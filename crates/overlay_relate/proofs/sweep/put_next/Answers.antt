@@ -90,9 +90,9 @@ returns-clause-swept g c =
     ∙ sym (ap length c.in_ok-push.ensures.items ∙ length_push c.args.inside.now.items _) in
     subst (λ m. IsSwept limit fs m (g.S.Scan.content c.insert.new.self)) pushed
     (put_in fs c.requires.edges n e next.within next.read limit t moved.swept (g.S.Scan.content c.insert.new.self)
-    c.in_ok-insert.ensures.ok
-    c.in_ok-insert.ensures.reached
-    c.in_ok-insert.ensures.state)
+    c.in-Ok.ensures.ok
+    c.in-Ok.ensures.reached
+    c.in-Ok.ensures.state)
 
 pub returns-clause-reached : goal.returns-clause-reached
 returns-clause-reached g c = λ f here.
@@ -106,7 +106,7 @@ returns-clause-reached g c = λ f here.
     let next = next_read (wide_edge g.I.IntNumber.whole) limit c.args.edges.now (length c.args.inside.now.items) n
     c.index-edges-place.result (g.S.Scan.content c.args.scan.now) at c.requires.within c.index-edges-place.is
     c.requires.swept in
-    c.in_ok-insert.ensures.reached
+    c.in-Ok.ensures.reached
     ∙ ap (λ (k : Edge). Some k.a.x) (sym next.read ∙ get_or_default fs n e f next.within ∙ ap (λ m. get_or fs m f) at
     ∙ here)
 

@@ -22,8 +22,8 @@ loop-e-preserved g c =
     ∙ map-append wall_of (map plain (take c.loop-e.e-index c.args.edges.now)) (plain c.e-item.result ∷ []))
 
 pub returns : goal.returns
-returns g c =
-    let whole = g.I.IntNumber.whole in
+returns g c = record {
+  walls = let whole = g.I.IntNumber.whole in
     let plain = plain_edge whole in record {
       same = subst (λ es. IsPermutation es (plain_edges whole c.sort_by.new.self.items))
           (c.loop-e.invariant ∙ ap (map wall_of)
@@ -32,4 +32,5 @@ returns g c =
       order = in_order-from_sorted whole c.sort_by.new.self.items
           (c.in_ok-sort_by.ensures.sorted (held_lt whole) (held_lt-order whole) (answers_always _ _ _ (λ f a r h k.
           let answer : is_lt r ≡ edge_lt (plain a.0.now) (plain a.1.0.now) = search rules in answer)));
-    }
+    };
+}

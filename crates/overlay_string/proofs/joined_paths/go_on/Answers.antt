@@ -30,9 +30,10 @@ loop-piece-preserved g c =
     ∙ map-append (plain_point whole) l.path.items (c.end-end.result ∷ []))
 
 pub returns : goal.returns
-returns g c =
-    let whole = g.I.IntNumber.whole in
+returns g c = record {
+  ok = let whole = g.I.IntNumber.whole in
     let l = c.loop-piece in
     comes_to_an_end c.args.way (plain_point whole c.args.from) c.args.pieces.now
     (plain_points whole c.args.path.now.items) (plain_point whole l.end) l.pieces c.take_at.new.self
-    (plain_points whole l.path.items) l.invariant c.in_default.ensures
+    (plain_points whole l.path.items) l.invariant c.in_default.ensures;
+}

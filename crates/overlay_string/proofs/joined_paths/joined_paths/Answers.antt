@@ -25,8 +25,9 @@ loop-piece-preserved g c =
     ∙ map-append (λ v. plain_points whole v.items) l.paths.items (path ∷ []))
 
 pub returns : goal.returns
-returns g c =
-    let whole = g.I.IntNumber.whole in
+returns g c = record {
+  ok = let whole = g.I.IntNumber.whole in
     let l = c.loop-piece in
     all_joined c.args.pieces.now l.pieces c.take_first.new.self (paths_of_shape whole l.paths.items) l.invariant
-    c.in_default.ensures
+    c.in_default.ensures;
+}

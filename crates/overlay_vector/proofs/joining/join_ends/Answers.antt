@@ -25,8 +25,8 @@ are_joinable-requires-clause-second g c =
     (omega (arith, c.loop-path.path.ok.0)) c.index-first.ensures c.loop-path.invariant.in_range
 
 pub returns-then-not-are_joinable : goal.returns-then-not-are_joinable
-returns-then-not-are_joinable g c =
-    let plain = plain_data_vector g.I.IntNumber.whole in
+returns-then-not-are_joinable g c = record {
+  joined = let plain = plain_data_vector g.I.IntNumber.whole in
     let eq = g.D.PartialEq.eq in
     let xs = c.loop-path.path.items in
     let k = c.len-in-loop-path.result - 1 in
@@ -42,7 +42,8 @@ returns-then-not-are_joinable g c =
       none_left = subst (NoneLeft eq) (sym same)
           (none_left_round eq f mid l (subst (NoneJoinable eq) same c.loop-path.invariant.inside)
           (λ can. false≢true (c.if-not-are_joinable.ensures.1 can)));
-    }
+    };
+}
 
 pub append-requires-clause-inside : goal.append-requires-clause-inside
 append-requires-clause-inside g c =
@@ -121,11 +122,12 @@ loop-path-preserved g c =
     c.in_ok-append.ensures.ok))
 
 pub returns : goal.returns
-returns g c =
-    let plain = plain_data_vector g.I.IntNumber.whole in
+returns g c = record {
+  joined = let plain = plain_data_vector g.I.IntNumber.whole in
     let long = length-map c.loop-path.path.items plain in
     record {
       becomes = c.loop-path.invariant.becomes;
       none_left = none_left_of_few g.D.PartialEq.eq (map plain c.loop-path.path.items)
           (omega (arith, long, c.loop-path.path.ok.0));
-    }
+    };
+}

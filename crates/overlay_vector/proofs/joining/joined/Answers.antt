@@ -34,8 +34,8 @@ loop-vector-preserved g c =
     c.loop-vector.invariant c.in_ok-append.ensures.ok)
 
 pub returns : goal.returns
-returns g c =
-    let whole = g.I.IntNumber.whole in
+returns g c = record {
+  joined = let whole = g.I.IntNumber.whole in
     let eq = g.D.PartialEq.eq in
     let limit = g.I.IntNumber.limit in
     let path = plain_data_vectors whole c.loop-vector.path.items in
@@ -44,4 +44,5 @@ returns g c =
     (take_all c.loop-vector.vector-index c.args.vectors.now c.loop-vector-test.false)
     (joined_further eq (plain_data_vectors whole (take c.loop-vector.vector-index c.args.vectors.now)) path new
     (gathered_whole eq limit (plain_data_vectors whole (take c.loop-vector.vector-index c.args.vectors.now)) path
-    c.loop-vector.invariant) c.in_ok-join_ends.ensures.joined)
+    c.loop-vector.invariant) c.in_ok-join_ends.ensures.joined);
+}

@@ -19,8 +19,9 @@ loop-edge-preserved g c =
     ∙ sym (joined_more given c.args.edges.now c.loop-edge.edge-index edge c.loop-edge-test.true c.edge-item.is)
 
 pub returns : goal.returns
-returns g c =
-    let past = c.loop-edge-test.false in
+returns g c = record {
+  ok = let past = c.loop-edge-test.false in
     c.loop-edge.invariant
     ∙ ap (flat_map (vectors_by_bits g.I.IntNumber.whole c.args.rule))
-    (take_all c.loop-edge.edge-index c.args.edges.now (omega (arith, past)))
+    (take_all c.loop-edge.edge-index c.args.edges.now (omega (arith, past)));
+}

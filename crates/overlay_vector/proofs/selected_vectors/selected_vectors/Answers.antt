@@ -10,8 +10,8 @@ use Rattle.overlay_vector.proofs.ListedVectors.{listed_selected}
 use Rattle.overlay_vector.proofs.selected_vectors.selected_vectors.Goals as goal
 
 pub returns : goal.returns
-returns g c =
-    let whole = g.I.IntNumber.whole in
+returns g c = record {
+  listed = let whole = g.I.IntNumber.whole in
     let rule = c.args.overlay_rule in
     let graph = c.args.graph.now in
     let edges = c.edges.result.now in
@@ -20,4 +20,5 @@ returns g c =
     IfOk-weaker c.listed.result (λ v. plain_data_vectors whole v.items ≡ flat_map (vectors_by_bits whole rule) edges)
     (λ v. plain_data_vectors whole v.items ≡ selected_vectors graph.fill_rule rule graph.edges)
     (λ v is. is ∙ listed)
-    c.listed.ensures.ok
+    c.listed.ensures.ok;
+}

@@ -9,8 +9,8 @@ use Rattle.overlay_walk.proofs.GroupContours.{none_left, as_contour, free_plain}
 use Rattle.overlay_walk.proofs.group_contours.push_free_holes.Goals as goal
 
 pub returns : goal.returns
-returns g c =
-    let whole = g.I.IntNumber.whole in
+returns g c = record {
+  pushed = let whole = g.I.IntNumber.whole in
     let old = c.args.contours.now.items in
     let done = c.loop-steps.yielded in
     let all : c.args.walks.items ≡ done =
@@ -19,4 +19,5 @@ returns g c =
     ap (plain_contours whole) c.loop-steps.invariant.3
     ∙ map-append (plain_contour whole) old (map (as_contour whole FreeHole) done)
     ∙ ap (λ cs. plain_contours whole old ++ cs) (free_plain whole done
-    ∙ ap (λ ws. map hole_to_bind (plain_walks whole ws)) (sym all))
+    ∙ ap (λ ws. map hole_to_bind (plain_walks whole ws)) (sym all));
+}

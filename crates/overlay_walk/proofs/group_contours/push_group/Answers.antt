@@ -25,8 +25,8 @@ loop-steps-preserved g c =
     )
 
 pub returns : goal.returns
-returns g c =
-    let whole = g.I.IntNumber.whole in
+returns g c = record {
+  pushed = let whole = g.I.IntNumber.whole in
     let old = c.args.contours.now.items in
     let n = c.args.number in
     let done = c.loop-steps.yielded in
@@ -36,4 +36,5 @@ returns g c =
     ap (plain_contours whole) c.loop-steps.invariant.3
     ∙ map-append (plain_contour whole) old (as_group whole n done)
     ∙ ap (λ cs. plain_contours whole old ++ cs) (group_plain whole n done
-    ∙ ap (λ ws. contours_of_group n (plain_walks whole ws)) (sym all))
+    ∙ ap (λ ws. contours_of_group n (plain_walks whole ws)) (sym all));
+}

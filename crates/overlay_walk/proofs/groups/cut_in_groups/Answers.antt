@@ -98,8 +98,8 @@ cut_again-requires-clause-long g c =
     (plain_walks whole c.in_ok-groups.groups.items) grouped).long
 
 pub returns : goal.returns
-returns g c =
-    let whole = g.I.IntNumber.whole in
+returns g c = record {
+  cut = let whole = g.I.IntNumber.whole in
     let filled = filled_hand c.args.direction in
     let keeps : List Step → Bool = λ w. reaches g.I.Wide.WideIntNumber.width
     (g.I.WideUInt.UIntNumber.natural c.args.min_output_area) w in
@@ -131,4 +131,5 @@ returns g c =
           ∙ ap₂ (λ cs ws. cs ++ map hole_to_bind ws) c.in_ok-contours.ensures.ok
           (ap (plain_walks whole) c.in_ok-large_walks.ensures.ok
           ∙ map-filter (λ (w : _). plain_steps whole w.items) keeps others);
-    }
+    };
+}

@@ -34,10 +34,11 @@ loop-place-preserved g c =
     (c.edge_along.ensures ∙ ap (λ (s : Step). record { edge = edge_of s; value = place }) (sym stands)))
 
 pub returns : goal.returns
-returns g c =
-    let whole = g.I.IntNumber.whole in
+returns g c = record {
+  ok = let whole = g.I.IntNumber.whole in
     let past = c.loop-place-test.false in
     let end = c.loop-place.auto.place-end in
     let all : c.loop-place.place ≡ length c.args.steps.now = omega arith in
     subst (λ n. HaveEdges (plain_steps whole c.args.steps.now) n (numbered_entries whole c.loop-place.edges.items)) all
-    c.loop-place.invariant
+    c.loop-place.invariant;
+}

@@ -11,8 +11,8 @@ use Rattle.overlay_walk.proofs.StartPlaces.{places_sorted}
 use Rattle.overlay_walk.proofs.leftmost.places_by_start.Goals as goal
 
 pub returns : goal.returns
-returns g c =
-    let whole = g.I.IntNumber.whole in
+returns g c = record {
+  ok = let whole = g.I.IntNumber.whole in
     let ss = plain_steps whole c.args.steps.now in
     let edges = c.in_ok-edges.edges.items in
     let sorted = c.sort_by_start.new.edges.items in
@@ -28,4 +28,5 @@ returns g c =
     IfOk-weaker c.numbers_of.result _ (λ v. ArePlacesByStart ss v.items)
     (λ v are. subst (ArePlacesByStart ss)
     (sym (are ∙ ap (λ (es : _). map (λ f. f.value) (numbered_entries whole es)) c.deref.ensures.value)) places)
-    c.numbers_of.ensures.ok
+    c.numbers_of.ensures.ok;
+}

@@ -18,9 +18,10 @@ loop-edge-preserved g c =
     c.in_ok-push-5.ensures.items
 
 pub returns : goal.returns
-returns g c =
-    let whole = g.I.IntNumber.whole in
+returns g c = record {
+  listed = let whole = g.I.IntNumber.whole in
     subst (λ vs. AreListed whole vs
     (record { coordinates = c.loop-edge.coordinates.items; fills = c.loop-edge.fills.items }))
     (mapped_whole (plain_vector whole) c.args.edges.now c.loop-edge.edge-index c.loop-edge-test.false)
-    c.loop-edge.invariant
+    c.loop-edge.invariant;
+}

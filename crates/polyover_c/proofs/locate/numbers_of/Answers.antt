@@ -12,5 +12,7 @@ loop-location-preserved c =
     ∙ sym (map_more number_of c.args.locations.now c.loop-location.location-index Inside c.loop-location-test.true)
 
 pub returns : goal.returns
-returns c = c.loop-location.invariant
-    ∙ mapped_whole number_of c.args.locations.now c.loop-location.location-index c.loop-location-test.false
+returns c = record {
+  numbers = c.loop-location.invariant
+    ∙ mapped_whole number_of c.args.locations.now c.loop-location.location-index c.loop-location-test.false;
+}

@@ -17,9 +17,10 @@ loop-index-preserved g c =
     c.in_ok-push.ensures.items
 
 pub returns : goal.returns
-returns g c =
-    let whole = g.I.IntNumber.whole in
+returns g c = record {
+  shape = let whole = g.I.IntNumber.whole in
     let paths = paths_in whole c.args.contours.now.points.items c.args.contours.now.ranges.items in
     subst (λ ps. paths_of_shape whole c.loop-index.shape.items ≡ ps) (take_all c.loop-index.index paths
     (subst (λ n. n ≤ c.loop-index.index) c.path_count-index-end.ensures c.loop-index-test.false))
-    c.loop-index.invariant
+    c.loop-index.invariant;
+}

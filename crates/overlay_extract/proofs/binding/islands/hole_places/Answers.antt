@@ -39,6 +39,8 @@ loop-i-preserved g c =
     ]
 
 pub returns : goal.returns
-returns g c = c.loop-i.invariant
+returns g c = record {
+  ok = c.loop-i.invariant
     ∙ ap (hole_places 0) (mapped_whole (plain_contour g.I.IntNumber.whole) c.args.contours.now c.loop-i.i
-    c.loop-i-test.false)
+    c.loop-i-test.false);
+}

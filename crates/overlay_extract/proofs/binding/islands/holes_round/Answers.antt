@@ -52,8 +52,8 @@ pub at_outlines-requires : goal.at_outlines-requires
 at_outlines-requires g c = ap length c.deref-2.ensures.value ∙ c.in_ok-found.ensures.counted
 
 pub returns : goal.returns
-returns g c =
-    let whole = g.I.IntNumber.whole in
+returns g c = record {
+  round = let whole = g.I.IntNumber.whole in
     let filled = filled_hand c.args.direction in
     let contours = plain_contours whole c.args.contours.now in
     let found = c.in_ok-found.found.items in
@@ -65,4 +65,5 @@ returns g c =
     (c.deref.ensures.value ∙ c.in_ok-places.ensures.ok) (c.in_ok-found.ensures.numbers n))) in
     IfOk-weaker c.at_outlines.result _ (λ v. AreHolesRound filled contours v.items)
     (λ v is. subst (AreHolesRound filled contours) (sym (is ∙ ap (at_outlines contours) c.deref-2.ensures.value)) round)
-    c.at_outlines.ensures.ok
+    c.at_outlines.ensures.ok;
+}

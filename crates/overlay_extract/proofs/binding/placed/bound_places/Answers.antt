@@ -15,8 +15,8 @@ shape_places-requires g c =
     (c.requires.placeable c.in_ok-found.found.items c.in_ok-found.ensures.found)
 
 pub returns : goal.returns
-returns g c =
-    let cs = plain_contours g.I.IntNumber.whole c.args.contours.now in
+returns g c = record {
+  placed = let cs = plain_contours g.I.IntNumber.whole c.args.contours.now in
     IfOk-weaker c.shape_places.result (λ v. ArePlaced cs c.deref.result.now (place_lists v.items))
     (λ v. ArePlacedSomehow (filled_hand c.args.direction) cs (place_lists v.items))
     (λ v placed. record {
@@ -24,4 +24,5 @@ returns g c =
       found = c.in_ok-found.ensures.found;
       placed = subst (λ ss. ArePlaced cs ss (place_lists v.items)) c.deref.ensures.value placed;
     })
-    c.shape_places.ensures.placed
+    c.shape_places.ensures.placed;
+}

@@ -10,7 +10,7 @@ use Rattle.overlay_walk.specs.WalkEdges.{numbered_entry, numbered_entries}
 use Rattle.overlay_scan.proofs.EntriesByStart.{new_among_live, meets_live, over_x, right_of_order}
 use Rattle.overlay_scan.proofs.SweptEntries.{ended, put_in}
 use Rattle.overlay_extract.proofs.binding.sweep.insert_up_to.Goals as goal
-use Rattle.overlay_extract.proofs.binding.sweep.insert_up_to.Goals.{then-is_lt-2+in_ok-insert, else-is_lt-2}
+use Rattle.overlay_extract.proofs.binding.sweep.insert_up_to.Goals.{then-is_lt-2+in-Ok, else-is_lt-2}
 
 pub returns-then-is_lt-clause-rest : goal.returns-then-is_lt-clause-rest
 returns-then-is_lt-clause-rest g c =
@@ -75,10 +75,10 @@ loop-i-preserved g c =
     let ends : c.is_lt-in-loop-i.result ≡ int_lt x e.edge.b.x =
     rw (c.is_lt-in-loop-i.ensures, c.compare-in-loop-i.ensures) (is_lt-int_cmp x e.edge.b.x) in
     subst (λ fs. IsSwept limit x fs (content c.if-is_lt-2.scan)) (sym more) (elim c.if-is_lt-2.branch [
-      | then-is_lt-2+in_ok-insert w ↦ subst (λ s. IsSwept limit x (take i es ++ e ∷ []) (content s)) (sym w.scan-is)
+      | then-is_lt-2+in-Ok w ↦ subst (λ s. IsSwept limit x (take i es ++ e ∷ []) (content s)) (sym w.scan-is)
           (put_in limit x (take i es) (content c.loop-i.scan) c.loop-i.invariant e (sym ends ∙ w.if-is_lt-2.true)
           (content w.insert.new.self)
-          w.in_ok-insert.ensures.ok w.in_ok-insert.ensures.reached w.in_ok-insert.ensures.state)
+          w.in-Ok.ensures.ok w.in-Ok.ensures.reached w.in-Ok.ensures.state)
       | else-is_lt-2 w ↦ subst (λ s. IsSwept limit x (take i es ++ e ∷ []) (content s)) (sym w.scan-is)
           (ended limit x (take i es) (content c.loop-i.scan) c.loop-i.invariant e (sym ends ∙ w.if-is_lt-2.false))
     ])

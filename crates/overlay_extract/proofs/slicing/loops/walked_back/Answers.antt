@@ -21,10 +21,11 @@ loop-place-preserved g c =
     (sym (mapped_more (plain_step whole) walk l.place step c.loop-place-test.true c.index-walk-place.is)))
 
 pub returns : goal.returns
-returns g c =
-    let whole = g.I.IntNumber.whole in
+returns g c = record {
+  back = let whole = g.I.IntNumber.whole in
     let l = c.loop-place in
     let past = c.loop-place-test.false in
     rw c.reverse.ensures.items
     (map-reverse (plain_step whole) l.back.items ∙ ap reverse (l.invariant
-    ∙ ap (map reversed_step) (mapped_whole (plain_step whole) c.args.walk.now l.place (omega arith))))
+    ∙ ap (map reversed_step) (mapped_whole (plain_step whole) c.args.walk.now l.place (omega arith))));
+}

@@ -19,8 +19,8 @@ new-requires g c =
     (sides_are_long g.I.IntNumber.limit graph.fill_rule es c.edges-edges.ensures.arranged c.requires)
 
 pub returns : goal.returns
-returns g c =
-    let whole = g.I.IntNumber.whole in
+returns g c = record {
+  sides = let whole = g.I.IntNumber.whole in
     let graph = c.args.graph.now in
     let es = graph_edges graph in
     let are = rw c.new-steps.ensures.items at c.in_ok-push_sides.ensures.ok in
@@ -28,4 +28,5 @@ returns g c =
     (λ o moved. subst (λ ss. IsPermutation ss (plain_steps whole o)) (are
     ∙ sides_from_vectors graph.fill_rule es _ c.edges-edges.ensures.filled)
     (IsPermutation-map (plain_step whole) c.push_sides.new.steps.items o moved))
-    c.new.ensures.all
+    c.new.ensures.all;
+}

@@ -43,8 +43,8 @@ assembled-requires-clause-inside g c =
     (sym c.deref-4.ensures.value) placed.inside)
 
 pub returns : goal.returns
-returns g c =
-    let whole = g.I.IntNumber.whole in
+returns g c = record {
+  sliced = let whole = g.I.IntNumber.whole in
     let graph = c.args.graph.now in
     let es = graph_edges graph in
     let min = g.I.WideUInt.UIntNumber.natural c.args.min_output_area in
@@ -62,4 +62,5 @@ returns g c =
     (same_shapes (points_of_shapes (walks_at cs (place_lists c.in_ok-places.places.items))) (plain_shapes whole shapes)
     shown ∙ ap points_of_shapes placed.are)))
     (sliced g.I.Wide.WideIntNumber.width min graph.fill_rule direction es
-    (balanced_arrangement g.I.IntNumber.limit es c.note_arrangement.ensures c.requires) cs slices.shapes.items are)
+    (balanced_arrangement g.I.IntNumber.limit es c.note_arrangement.ensures c.requires) cs slices.shapes.items are);
+}
