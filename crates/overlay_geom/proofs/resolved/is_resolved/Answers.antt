@@ -1,5 +1,6 @@
 -- The contour's steps are those from its first point through all and back.
-use Rattle.std.proofs.Common.{◌↔◌, IsTrue, subst}
+use Rattle.std.proofs.Common.{◌↔◌, IsTrue, subst, arith}
+use Rattle.std.proofs.lemmas.Grind.{common_steps}
 use Rattle.std.proofs.lemmas.List.Elements.{All-contains}
 use Rattle.overlay_geom.specs.Points.{plain_point, plain_points, InRange}
 use Rattle.overlay_geom.specs.Resolved.{AreApart}
@@ -18,3 +19,6 @@ returns-in-Some g c =
     subst (λ es. IsTrue c.is_round_resolved.result ↔ AreApart es)
     (edges_round (plain_point g.I.IntNumber.whole) c.args.points.now c.in-Some.first.now (c.in-Some.ensures).value)
     c.is_round_resolved.ensures
+
+pub returns-in-None : goal.returns-in-None
+returns-in-None g c = grind (arith, common_steps)

@@ -1,5 +1,6 @@
 -- The contour that is reached stands behind those of the shapes before.
 use Rattle.std.proofs.Common.{◌<◌, length, sym, arith}
+use Rattle.std.proofs.lemmas.Grind.{common_steps}
 use Rattle.std.proofs.lemmas.List.{length-map}
 use Rattle.overlay_geom.specs.Paths.{paths_of_shape}
 use Rattle.overlay_geom.specs.Points.{plain_points}
@@ -19,3 +20,6 @@ returns-then-left-len g c =
     c.loop-shape-test.true c.shape-item.is left
     (plain_points whole c.index.result.now.items) (rw length-map inside) (sym found) in
     rw (c.loop-shape.invariant, c.deref.ensures.value) there
+
+pub loop-shape-preserved : goal.loop-shape-preserved
+loop-shape-preserved g c = grind (arith, common_steps)

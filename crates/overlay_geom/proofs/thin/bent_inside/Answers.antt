@@ -1,5 +1,6 @@
 -- Each next point pops the collinear points before it, and is pushed.
 use Rattle.std.proofs.Common.{[], ◌∷◌, ◌++◌, ◌≡◌, ◌+◌, drop, sym, ◌∙◌, ap, subst, arith}
+use Rattle.std.proofs.lemmas.Grind.{common_steps}
 use Rattle.std.proofs.lemmas.List.{append_assoc, map_push}
 use Rattle.std.proofs.lemmas.List.Elements.{All-push}
 use Rattle.overlay_geom.specs.Points.{plain_point, plain_points, InRange, AllInRange}
@@ -41,3 +42,12 @@ loop-point-preserved g c =
           (All-mapped_at (InRange g.I.IntNumber.limit) (plain_point whole) xs i x (omega arith) c.point-item.is
           c.requires));
     }
+
+pub returns-clause-narrowed : goal.returns-clause-narrowed
+returns-clause-narrowed g c = grind (arith, common_steps)
+
+pub returns-clause-bent : goal.returns-clause-bent
+returns-clause-bent g c = grind (arith, common_steps)
+
+pub returns-clause-in_range : goal.returns-clause-in_range
+returns-clause-in_range g c = grind (arith, common_steps)

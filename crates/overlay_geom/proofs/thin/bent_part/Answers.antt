@@ -1,6 +1,7 @@
 -- A range of the points is left: ends are dropped where they are collinear with their neighbours, and no inner point
 -- is.
 use Rattle.std.proofs.Common.{List, [], length, ◌≡◌, ℕ, ◌+◌, ◌-◌, ◌≤◌, take, drop, slice_range, refl, sym, ◌∙◌, ap}
+use Rattle.std.proofs.lemmas.Grind.{common_steps}
 use Rattle.std.proofs.Common.{subst, arith}
 use Rattle.std.specs.Prelude.{ℤ}
 use Rattle.std.proofs.lemmas.Bool.{false≢true}
@@ -122,3 +123,15 @@ returns-clause-thinned g c =
     let none : slice_range xs i i ≡ [] = ap (λ n. take n (drop i xs)) (sub_self i) in
     c.loop-to.invariant.narrowed.thins _ (subst (λ ys. IsThinned (plain_points whole part) (plain_points whole ys))
     (sym none) (IsThinned-few (plain_points whole part) few))
+
+pub returns-else-is_straight-2-clause-ordered : goal.returns-else-is_straight-2-clause-ordered
+returns-else-is_straight-2-clause-ordered g c = grind (arith, common_steps)
+
+pub returns-else-is_straight-2-clause-within : goal.returns-else-is_straight-2-clause-within
+returns-else-is_straight-2-clause-within g c = grind (arith, common_steps)
+
+pub returns-clause-ordered : goal.returns-clause-ordered
+returns-clause-ordered g c = grind (arith, common_steps)
+
+pub returns-clause-within : goal.returns-clause-within
+returns-clause-within g c = grind (arith, common_steps)

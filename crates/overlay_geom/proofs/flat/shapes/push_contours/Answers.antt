@@ -1,4 +1,6 @@
 -- No contour is added at first, and each turn adds the next.
+use Rattle.std.proofs.Common.{arith}
+use Rattle.std.proofs.lemmas.Grind.{common_steps}
 use Rattle.overlay_geom.proofs.FlatShapes.{none_added, contour_added}
 use Rattle.overlay_geom.proofs.flat.shapes.push_contours.Goals as goal
 
@@ -12,3 +14,6 @@ loop-contour-preserved g c =
     c.deref.ensures.value c.loop-contour.points.items c.push_contour.new.points.items c.loop-contour.ranges.items
     c.push_contour.new.ranges.items c.in_ok-push_contour.ensures.points c.in_ok-push_contour.ensures.ranges
     c.loop-contour.invariant
+
+pub returns-clause-added : goal.returns-clause-added
+returns-clause-added g c = grind (arith, common_steps)

@@ -1,5 +1,6 @@
 -- The points and the ranges that are left are those of an added contour.
-use Rattle.std.proofs.Common.{◌++◌, ◌∷◌, [], length, sym, ap, ap₂, subst₂, ◌∙◌}
+use Rattle.std.proofs.Common.{◌++◌, ◌∷◌, [], length, sym, ap, ap₂, subst₂, ◌∙◌, arith}
+use Rattle.std.proofs.lemmas.Grind.{common_steps}
 use Rattle.std.proofs.lemmas.List.{length-append}
 use Rattle.overlay_geom.specs.Flat.{paths_in, AreInside}
 use Rattle.overlay_geom.proofs.FlatPaths.{inside_added, paths_added}
@@ -28,3 +29,9 @@ returns-clause-paths g c = λ all.
     let ranges = c.in_default.ensures.items
     ∙ ap₂ (λ a b. old.ranges.items ++ (record { start = a; end = b }) ∷ []) start end in
     ap₂ (paths_in whole) points ranges ∙ paths_added whole old.points.items c.args.contour.now old.ranges.items all
+
+pub returns-clause-points : goal.returns-clause-points
+returns-clause-points g c = grind (arith, common_steps)
+
+pub returns-clause-ranges : goal.returns-clause-ranges
+returns-clause-ranges g c = grind (arith, common_steps)

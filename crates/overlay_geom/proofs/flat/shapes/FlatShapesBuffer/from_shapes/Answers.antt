@@ -1,5 +1,6 @@
 -- A new buffer has no shape, and each push adds a shape.
-use Rattle.std.proofs.Common.{ap, sym, subst, ◌∙◌}
+use Rattle.std.proofs.Common.{ap, sym, subst, ◌∙◌, arith}
+use Rattle.std.proofs.lemmas.Grind.{common_steps}
 use Rattle.overlay_geom.specs.Flat.{shapes_in}
 use Rattle.overlay_geom.specs.FlatShapes.{AreShapesPacked}
 use Rattle.overlay_geom.specs.Paths.{paths_of_shape}
@@ -32,3 +33,9 @@ loop-shape-preserved g c =
           (packed_added whole b.points.items new.points.items b.contour_ranges.items new.contour_ranges.items
           b.shape_ranges.items shape is.contours packed),
     )
+
+pub returns-clause-shapes : goal.returns-clause-shapes
+returns-clause-shapes g c = grind (arith, common_steps)
+
+pub returns-clause-packed : goal.returns-clause-packed
+returns-clause-packed g c = grind (arith, common_steps)
