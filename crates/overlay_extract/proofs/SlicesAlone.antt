@@ -50,7 +50,7 @@ use Rattle.overlay_extract.specs.Bound.{PassesAnchor, HaveRoles}
 use Rattle.overlay_extract.specs.FilledSides.{filled_sides, IsInOneOrbit}
 use Rattle.overlay_extract.specs.Loops.{AreLoops}
 use Rattle.overlay_extract.proofs.AlongSides.{one_winding_along_sides}
-use Rattle.overlay_extract.proofs.BelowLoops.{alike_above_next}
+use Rattle.overlay_extract.proofs.BelowLoops.{alike_above_next, side_of_loop}
 use Rattle.overlay_extract.proofs.LostHoles.{can, e_forward, hole_passes}
 use Rattle.overlay_extract.proofs.OnceBySides.{once_by_sides}
 use Rattle.overlay_extract.proofs.RoledLoops.{roles_numbered, role_passes, outline_of_number}
@@ -91,9 +91,6 @@ module _ (fills : ℤ → Bool) (count : CountedEdge → ℤ) (es : List Counted
 
   simple_loop : (w : List Step) → Contains loops w → IsSimpleContour w
   simple_loop w c = All-contains IsSimpleContour loops w are.simple c
-
-  side_of_loop : (s : Step) → Contains (all_steps loops) s → Contains sides s
-  side_of_loop s c = All-contains (Contains sides) (all_steps loops) s are.are_sides c
 
   module _ (taken : List Step) (inside : (s : Step) → Contains taken s → Contains (all_steps loops) s)
       (part : IsBalancedPart es sides taken) where
@@ -267,7 +264,7 @@ module _ (fills : ℤ → Bool) (count : CountedEdge → ℤ) (es : List Counted
 
     part : IsBalancedPart es sides taken
     part = contours_part es sides along ws (λ w c. (simple_loop w (in_loops w c)).contour)
-        (λ s c. side_of_loop s (inside s c))
+        (λ s c. side_of_loop sides loops are s (inside s c))
 
     outline_simple : IsSimpleContour o.steps
     outline_simple = simple_loop o.steps (in_loops o.steps (Contains-head o.steps
@@ -308,7 +305,7 @@ module _ (fills : ℤ → Bool) (count : CountedEdge → ℤ) (es : List Counted
         w = Contains-from_flat_map (λ (v : List Step). v) ws h.lowest h.lowest_taken
 
     leftmost : HasLeftmost taken
-    leftmost = leftmost_steps_exist es sides taken along (λ s c. side_of_loop s (inside s c)) first
+    leftmost = leftmost_steps_exist es sides taken along (λ s c. side_of_loop sides loops are s (inside s c)) first
         (of_outline first passes.passes)
 
     -- and its anchor is the edge there
@@ -326,7 +323,7 @@ module _ (fills : ℤ → Bool) (count : CountedEdge → ℤ) (es : List Counted
     none_under : winding_under es taken anchor ≡ pos 0
     none_under = ap (λ k. winding_under es taken k) anchor_is
         ∙ (nothing_before_the_steps es sides taken along part leftmost.point leftmost.none_before).under_lowest_step
-        leftmost.lowest (side_of_loop leftmost.lowest (inside leftmost.lowest leftmost.lowest_taken))
+        leftmost.lowest (side_of_loop sides loops are leftmost.lowest (inside leftmost.lowest leftmost.lowest_taken))
         leftmost.lowest_starts leftmost.none_below
 
     -- the step back along it is not one of the shape's
