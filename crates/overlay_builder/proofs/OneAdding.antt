@@ -1,6 +1,6 @@
 -- Paths of which all points are taken lead to one content, and the first that would weigh too much is one.
 use Rattle.std.proofs.Common.{◌≡◌, ◌⊎◌, inl, inr, ⊎_elim, ◌^◌, ◌<◌, ◌≤◌, Bool, true, false, List, [], ◌∷◌, ◌++◌, map}
-use Rattle.std.proofs.Common.{drop, get_or, Result, Ok, Err, refl, sym, ap, ap₂, subst, ◌∙◌, arith}
+use Rattle.std.proofs.Common.{Result, Ok, Err, refl, sym, ap, ap₂, subst, ◌∙◌, arith}
 use Rattle.std.specs.Prelude.{IsErrOf}
 use Rattle.std.proofs.lemmas.Bool.{false≢true}
 use Rattle.std.proofs.lemmas.List.Elements.{All-head, All-tail}
@@ -10,6 +10,7 @@ use Rattle.overlay_geom.specs.Edges.{CountedEdge, weight}
 use Rattle.overlay_geom.specs.Plane.{Point}
 use Rattle.overlay_geom.specs.declared.error.OverlayError.{OverlayError}
 use Rattle.overlay_geom.specs.declared.error.OverlayError.TheVariants.{Memory, NotSettled, TooManyEdges, Failed}
+use Rattle.overlay_geom.proofs.Entries.{same_head, same_tail}
 use Rattle.overlay_builder.specs.Determined.{takes_all, AreTakenWhole, OneContent, OneAdding}
 use Rattle.overlay_builder.specs.Held.{Held}
 use Rattle.overlay_builder.specs.PathLists.{AddedPath, AddsOne, AddsPaths, AddsAsAsked, StopsAtPath, WouldWeighTooMuch}
@@ -77,13 +78,6 @@ not_added p ps whole old new heavy light (path_and_others {mid = mid} one more) 
     let much : (2 ^ 31) ≤ weight mid = subst (λ es. (2 ^ 31) ≤ weight es) same heavy.heavy in
     let rest = lighter_before ps mid new more in
     omega arith
-
--- the first entries of one list are one, and so are the others
-same_head : {X : Type 0} (x y : X) (xs ys : List X) → x ∷ xs ≡ y ∷ ys → x ≡ y
-same_head x y xs ys same = ap (λ zs. get_or zs 0 x) same
-
-same_tail : {X : Type 0} (x y : X) (xs ys : List X) → x ∷ xs ≡ y ∷ ys → xs ≡ ys
-same_tail x y xs ys same = ap (drop 1) same
 
 -- so no list of paths is added of which one would weigh too much behind those before it
 not_all_added : (paths before after : List (AddedPath CountedEdge)) (p : AddedPath CountedEdge) →

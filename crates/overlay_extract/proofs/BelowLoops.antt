@@ -58,20 +58,22 @@ at_most_taken true false true h = omega linear
 at_most_taken true false false h = omega linear
 at_most_taken false u v h = omega linear
 
+-- a step of a loop is a side
+pub side_of_loop : (sides : List Step) (loops : List (List Step)) → AreLoops sides loops → (s : Step) →
+    Contains (all_steps loops) s → Contains sides s
+side_of_loop sides loops are s c = All-contains (Contains sides) (all_steps loops) s are.are_sides c
+
 module _ (fills : ℤ → Bool) (count : CountedEdge → ℤ) (es : List CountedEdge)
     (arranged : IsBalancedArrangement count es) (empty : fills (pos 0) ≡ false) (loops : List (List Step))
     (are : AreLoops (filled_sides fills count es) loops) where
   abbrev sides : List Step
   sides = filled_sides fills count es
 
-  -- a step of a loop is a side
-  side_of_loop : (s : Step) → Contains (all_steps loops) s → Contains sides s
-  side_of_loop s c = All-contains (Contains sides) (all_steps loops) s are.are_sides c
-
   -- its edge is one of the list
   edge_listed : (s : Step) → Contains (all_steps loops) s → IsEdgeOf es (edge_of s)
   edge_listed s c = edge_of_step es sides
-      (sides_walk_along fills count es arranged left sides (sides_listed fills count es arranged)) s (side_of_loop s c)
+      (sides_walk_along fills count es arranged left sides (sides_listed fills count es arranged)) s
+      (side_of_loop sides loops are s c)
 
   -- and filled above where it leads forward
   listed_above : (s : Step) → Contains (all_steps loops) s → is_forward s ≡ true →
@@ -144,7 +146,8 @@ module _ (fills : ℤ → Bool) (count : CountedEdge → ℤ) (es : List Counted
     -- its entry, above which it is filled
     low : IsFilledSide fills count es left found.0
     low = (sides_listed fills count es arranged).sides found.0
-        (side_of_loop found.0 (Contains-flat_map (λ (w : List Step). w) loops next found.0 n.kept found_parts.0))
+        (side_of_loop sides loops are found.0
+        (Contains-flat_map (λ (w : List Step). w) loops next found.0 n.kept found_parts.0))
 
     abbrev g : CountedEdge
     g = low.edge
@@ -277,7 +280,7 @@ module _ (fills : ℤ → Bool) (count : CountedEdge → ℤ) (es : List Counted
             -- it is filled below, and so above
             below : IsFilledBelow fills count es arranged empty (ends_of f)
             below = filled_below fills count es arranged empty (ends_of f) (forward_entry count es arranged f c)
-                (subst (Contains sides) back_is (side_of_loop s d))
+                (subst (Contains sides) back_is (side_of_loop sides loops are s d))
 
             above : fills (winding_above count es f) ≡ true
             above = same_truth (fills (winding_above count es f)) (fills (winding_below count es f)) (no_sign f c is)

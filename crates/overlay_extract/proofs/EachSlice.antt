@@ -1,8 +1,7 @@
 -- Where the shapes to which loops of filled sides are bound have all loops, each of them winds once or zero times round
 -- each point: one shape alone winds as all filled sides.
-use Rattle.std.proofs.Common.{◌≡◌, ◌⊎◌, inl, inr, ⊎_elim, ℕ, suc, Bool, true, false, cond, ℤ, pos, List, [], ◌∷◌, ◌++◌}
-use Rattle.std.proofs.Common.{map, length, filter, Contains, Option, refl, sym, ap, ◌∙◌, subst, arith, append-nil}
-use Rattle.std.specs.List.{flat_map}
+use Rattle.std.proofs.Common.{◌≡◌, ◌⊎◌, inl, inr, ⊎_elim, ℕ, Bool, true, false, ℤ, pos, List, [], ◌∷◌, ◌++◌}
+use Rattle.std.proofs.Common.{length, Contains, Option, refl, sym, ap, ◌∙◌, subst, arith, append-nil}
 use Rattle.std.specs.List.Sorted.{IsPermutation}
 use Rattle.std.proofs.lemmas.Bool.{eqb-true}
 use Rattle.std.proofs.lemmas.Grind.{flat_map-append}
@@ -16,7 +15,7 @@ use Rattle.overlay_plane.specs.Contours.{all_steps}
 use Rattle.overlay_plane.specs.ContourNumbers.{outline_count}
 use Rattle.overlay_plane.specs.Nodes.{IsBalancedArrangement}
 use Rattle.overlay_plane.specs.Regions.{one_if}
-use Rattle.overlay_plane.specs.RoledContours.{Role, outline, own_hole, free_hole, Contour, is_outline}
+use Rattle.overlay_plane.specs.RoledContours.{Role, outline, own_hole, free_hole, Contour}
 use Rattle.overlay_plane.specs.ShapesAlone.{WindsOnceOrNot}
 use Rattle.overlay_plane.specs.Turn.Hand.{left}
 use Rattle.overlay_plane.proofs.AlongLines.{winding_part}
@@ -25,6 +24,7 @@ use Rattle.overlay_plane.proofs.Entries.{Contains-from_flat_map}
 use Rattle.overlay_plane.proofs.KeptWalks.{Each-first}
 use Rattle.overlay_plane.proofs.LaterEntries.{Contains-cases, Each, Each-from_all_pairs, AllPairs-from_each}
 use Rattle.overlay_plane.proofs.PartsOfLists.{part-all, part-none, part-append, Each-part}
+use Rattle.overlay_plane.proofs.ShapesAlone.{begun_counted}
 use Rattle.overlay_plane.proofs.ShuffledPairs.{once_shuffled}
 use Rattle.overlay_plane.proofs.ShuffledSteps.{Differ}
 use Rattle.overlay_extract.specs.Bound.{HaveRoles}
@@ -47,24 +47,6 @@ differ_in_each (s ∷ ss) differ shape c = ⊎_elim
   where
     parted : Each Differ (all_steps s ++ all_steps (walks_of ss))
     parted = subst (Each Differ) (flat_map-append (λ (w : List Step). w) s (walks_of ss)) differ
-
--- as many shapes are begun as there are outlines
-begun_counted : (bound bs : List BoundContour) →
-    length (flat_map (λ b. shape_begun_by bound b.contour.role b.contour.steps) bs) ≡
-    outline_count (map (λ b. b.contour) bs)
-begun_counted bound [] = refl
-begun_counted bound (b ∷ bs) = by b.contour.role (begun_counted bound bs)
-  where
-    by : (r : Role) → length (flat_map (λ d. shape_begun_by bound d.contour.role d.contour.steps) bs) ≡
-        outline_count (map (λ (d : BoundContour). d.contour) bs) →
-        length (shape_begun_by bound r b.contour.steps ++ flat_map (λ d. shape_begun_by bound d.contour.role
-        d.contour.steps) bs) ≡
-        length (cond (is_outline r) (b.contour ∷ filter (λ (c : Contour). is_outline c.role)
-        (map (λ (d : BoundContour). d.contour) bs))
-        (filter (λ (c : Contour). is_outline c.role) (map (λ (d : BoundContour). d.contour) bs)))
-    by (outline n) rest = ap suc rest
-    by (own_hole n) rest = rest
-    by free_hole rest = rest
 
 -- a shape that is the only one
 only_shape : (shapes : List (List (List Step))) → length shapes ≡ 1 → (shape : List (List Step)) →

@@ -1,11 +1,11 @@
 -- A closed walk is cut at its repeated points in one way: the first step that leaves a point left before is determined,
 -- and so is the step that left it.
-use Rattle.std.proofs.Common.{◌≡◌, false, List, [], ◌∷◌, ◌++◌, drop, get_or, Contains, refl, sym, ap, ap₂, ◌∙◌, subst}
+use Rattle.std.proofs.Common.{◌≡◌, false, List, [], ◌∷◌, ◌++◌, Contains, refl, sym, ap, ap₂, ◌∙◌, subst}
 use Rattle.std.proofs.lemmas.Bool.{both_ways}
 use Rattle.std.proofs.lemmas.List.{append_assoc, append-nil}
 use Rattle.std.proofs.lemmas.List.Elements.{Contains-append_right}
 use Rattle.overlay_geom.specs.Plane.{Step, point_eq, points_of}
-use Rattle.overlay_geom.proofs.Entries.{Contains-head}
+use Rattle.overlay_geom.proofs.Entries.{Contains-head, same_head, same_tail}
 use Rattle.overlay_geom.proofs.Orders.{point_eq-of_same}
 use Rattle.overlay_plane.specs.Groups.{HasEachPointOnce}
 use Rattle.overlay_plane.proofs.Entries.{Contains-map}
@@ -13,15 +13,6 @@ use Rattle.overlay_plane.proofs.KeptWalks.{Each-second, Each-across}
 use Rattle.overlay_plane.proofs.LaterEntries.{Each, Each-from_all_pairs}
 use Rattle.overlay_extract.specs.Repeats.{loop_if_long, IsCutAtRepeats}
 use Rattle.overlay_extract.specs.Repeats.IsCutAtRepeats.{left, again}
-
--- ---- lists
-
--- lists that are one have one first item, and one rest
-pub same_first : {X : Type 0} (x y : X) (xs ys : List X) → x ∷ xs ≡ y ∷ ys → x ≡ y
-same_first x y xs ys same = ap (λ zs. get_or zs 0 x) same
-
-pub same_rest : {X : Type 0} (x y : X) (xs ys : List X) → x ∷ xs ≡ y ∷ ys → xs ≡ ys
-same_rest x y xs ys same = ap (drop 1) same
 
 -- ---- steps that leave different points
 
@@ -45,13 +36,13 @@ first_repeat : (front ps qs : List Step) (t u : Step) (ts us : List Step) → Ea
     Each LeaveApart (front ++ qs) → (s : Step) → Contains (front ++ ps) s → t.from ≡ s.from → (r : Step) →
     Contains (front ++ qs) r → u.from ≡ r.from → ps ++ t ∷ ts ≡ qs ++ u ∷ us → (ps ≡ qs) × (t ≡ u) × (ts ≡ us)
 first_repeat front [] [] t u ts us once once' s c is r d is' same =
-    (refl, same_first t u ts us same, same_rest t u ts us same)
+    (refl, same_head t u ts us same, same_tail t u ts us same)
 first_repeat front [] (q ∷ qs) t u ts us once once' s c is r d is' same = absurd (not_apart s q
-    (sym is ∙ ap (λ (v : Step). v.from) (same_first t q ts (qs ++ u ∷ us) same))
+    (sym is ∙ ap (λ (v : Step). v.from) (same_head t q ts (qs ++ u ∷ us) same))
     (Each-across LeaveApart front (q ∷ qs) once' s q (subst (λ ss. Contains ss s) (append-nil front) c)
     (Contains-head q qs)))
 first_repeat front (p ∷ ps) [] t u ts us once once' s c is r d is' same = absurd (not_apart r p
-    (sym is' ∙ ap (λ (v : Step). v.from) (sym (same_first p u (ps ++ t ∷ ts) us same)))
+    (sym is' ∙ ap (λ (v : Step). v.from) (sym (same_head p u (ps ++ t ∷ ts) us same)))
     (Each-across LeaveApart front (p ∷ ps) once r p (subst (λ ss. Contains ss r) (append-nil front) d)
     (Contains-head p ps)))
 first_repeat front (p ∷ ps) (q ∷ qs) t u ts us once once' s c is r d is' same =
@@ -59,11 +50,11 @@ first_repeat front (p ∷ ps) (q ∷ qs) t u ts us once once' s c is r d is' sam
     (subst (Each LeaveApart) (sym (append_assoc front (p ∷ []) ps)) once)
     (subst (Each LeaveApart) past once') s
     (subst (λ ss. Contains ss s) (sym (append_assoc front (p ∷ []) ps)) c) is r
-    (subst (λ ss. Contains ss r) past d) is' (same_rest p q (ps ++ t ∷ ts) (qs ++ u ∷ us) same) in
+    (subst (λ ss. Contains ss r) past d) is' (same_tail p q (ps ++ t ∷ ts) (qs ++ u ∷ us) same) in
     (ap₂ (λ x xs. x ∷ xs) one more.0, more.1, more.2)
   where
     one : p ≡ q
-    one = same_first p q (ps ++ t ∷ ts) (qs ++ u ∷ us) same
+    one = same_head p q (ps ++ t ∷ ts) (qs ++ u ∷ us) same
 
     past : front ++ q ∷ qs ≡ (front ++ p ∷ []) ++ qs
     past = ap (λ v. front ++ v ∷ qs) (sym one) ∙ sym (append_assoc front (p ∷ []) qs)
@@ -74,16 +65,16 @@ one_leaver : (before others between ones : List Step) (s t : Step) → Each Leav
     s.from ≡ t.from → before ++ s ∷ between ≡ others ++ t ∷ ones →
     (before ≡ others) × (s ≡ t) × (between ≡ ones)
 one_leaver [] [] between ones s t once is same =
-    (refl, same_first s t between ones same, same_rest s t between ones same)
+    (refl, same_head s t between ones same, same_tail s t between ones same)
 one_leaver [] (q ∷ qs) between ones s t once is same = absurd (not_apart s t is (once.0 t
-    (subst (λ ss. Contains ss t) (sym (same_rest s q between (qs ++ t ∷ ones) same))
+    (subst (λ ss. Contains ss t) (sym (same_tail s q between (qs ++ t ∷ ones) same))
     (Contains-append_right qs (t ∷ ones) t (Contains-head t ones)))))
 one_leaver (p ∷ ps) [] between ones s t once is same = absurd (not_apart p s
-    (ap (λ (v : Step). v.from) (same_first p t (ps ++ s ∷ between) ones same) ∙ sym is)
+    (ap (λ (v : Step). v.from) (same_head p t (ps ++ s ∷ between) ones same) ∙ sym is)
     (once.0 s (Contains-append_right ps (s ∷ between) s (Contains-head s between))))
 one_leaver (p ∷ ps) (q ∷ qs) between ones s t once is same =
-    let more = one_leaver ps qs between ones s t once.1 is (same_rest p q (ps ++ s ∷ between) (qs ++ t ∷ ones) same) in
-    (ap₂ (λ x xs. x ∷ xs) (same_first p q (ps ++ s ∷ between) (qs ++ t ∷ ones) same) more.0, more.1, more.2)
+    let more = one_leaver ps qs between ones s t once.1 is (same_tail p q (ps ++ s ∷ between) (qs ++ t ∷ ones) same) in
+    (ap₂ (λ x xs. x ∷ xs) (same_head p q (ps ++ s ∷ between) (qs ++ t ∷ ones) same) more.0, more.1, more.2)
 
 -- ---- cuts
 

@@ -6,6 +6,7 @@ use Rattle.std.specs.Int.{Width}
 use Rattle.std.proofs.lemmas.List.Elements.{All-contains, All-filter}
 use Rattle.overlay_geom.specs.Plane.{Point, Step, reversed_step}
 use Rattle.overlay_geom.specs.Edges.{CountedEdge, subj_of}
+use Rattle.overlay_geom.proofs.Entries.{same_head, same_tail}
 use Rattle.overlay_plane.specs.BoundContours.{AreShapesFound, contours_bound, shapes_bound, walks_in}
 use Rattle.overlay_plane.specs.Groups.{IsSimpleContour}
 use Rattle.overlay_plane.specs.KeptContours.{CanBeBound}
@@ -34,7 +35,6 @@ use Rattle.overlay_extract.specs.SlicingWalks.{by_hand, AreFoundInOrder}
 use Rattle.overlay_extract.proofs.BoundLoops.{loops_can_be_bound}
 use Rattle.overlay_extract.proofs.FoundLoops.{backs_listed}
 use Rattle.overlay_extract.proofs.NextSides.{filled_sides_lead_on}
-use Rattle.overlay_extract.proofs.OneRepeat.{same_first, same_rest}
 use Rattle.overlay_extract.proofs.OneWalk.{one_order}
 use Rattle.overlay_extract.proofs.SideLists.{sides_listed}
 use Rattle.overlay_extract.proofs.SideOnce.{filled_sides_once, filled_sides_long}
@@ -64,19 +64,19 @@ one_role n cs ds one same none (a_hole p rest) = let long = ap length same in ab
 one_role n cs ds one same (an_outline p rest) none = let long = ap length same in absurd (omega arith)
 one_role n cs ds one same (a_hole p rest) none = let long = ap length same in absurd (omega arith)
 one_role n cs ds one same (an_outline {loop = v} {rest = vs} p rest) (an_outline {loop = w} {rest = ws} q others) =
-    ap₂ (λ x xs. outline_of n x ∷ xs) (same_first v w (walks_in vs) (walks_in ws) same)
+    ap₂ (λ x xs. outline_of n x ∷ xs) (same_head v w (walks_in vs) (walks_in ws) same)
     (one_role (suc n) vs ws (λ u c. one u (Contains-later v (walks_in vs) u c))
-    (same_rest v w (walks_in vs) (walks_in ws) same) rest others)
+    (same_tail v w (walks_in vs) (walks_in ws) same) rest others)
 one_role n cs ds one same (an_outline {loop = v} {rest = vs} p rest) (a_hole {loop = w} {rest = ws} q others) =
     absurd (one v (Contains-head v (walks_in vs)) p
-    (subst (PassesAnchor false) (sym (same_first v w (walks_in vs) (walks_in ws) same)) q))
+    (subst (PassesAnchor false) (sym (same_head v w (walks_in vs) (walks_in ws) same)) q))
 one_role n cs ds one same (a_hole {loop = v} {rest = vs} p rest) (an_outline {loop = w} {rest = ws} q others) =
     absurd (one v (Contains-head v (walks_in vs))
-    (subst (PassesAnchor true) (sym (same_first v w (walks_in vs) (walks_in ws) same)) q) p)
+    (subst (PassesAnchor true) (sym (same_head v w (walks_in vs) (walks_in ws) same)) q) p)
 one_role n cs ds one same (a_hole {loop = v} {rest = vs} p rest) (a_hole {loop = w} {rest = ws} q others) =
-    ap₂ (λ x xs. hole_to_bind x ∷ xs) (same_first v w (walks_in vs) (walks_in ws) same)
+    ap₂ (λ x xs. hole_to_bind x ∷ xs) (same_head v w (walks_in vs) (walks_in ws) same)
     (one_role n vs ws (λ u c. one u (Contains-later v (walks_in vs) u c))
-    (same_rest v w (walks_in vs) (walks_in ws) same) rest others)
+    (same_tail v w (walks_in vs) (walks_in ws) same) rest others)
 
 -- ---- loops
 

@@ -1,12 +1,11 @@
 -- Each of the shapes to which loops of filled sides are bound winds once or zero times round each point: beside its
 -- lowest edge at its leftmost lowest point, which is the anchor of its outline, it winds once; so it does along its
 -- outline, and along its holes, each from the next one below.
-use Rattle.std.proofs.Common.{◌≡◌, ◌⊎◌, inl, inr, ⊎_elim, ℕ, Bool, true, false, ◌&&◌, ℤ, pos, ◌+ℤ◌, ◌-ℤ◌}
-use Rattle.std.proofs.Common.{List, ◌∷◌, ◌++◌, Contains, Option, Some, None, refl, sym, ap, ap₂, ◌∙◌}
+use Rattle.std.proofs.Common.{◌≡◌, ◌⊎◌, inl, inr, ⊎_elim, ℕ, Bool, true, false, ℤ, pos, ◌+ℤ◌, ◌-ℤ◌}
+use Rattle.std.proofs.Common.{List, ◌∷◌, ◌++◌, Contains, Option, Some, refl, sym, ap, ap₂, ◌∙◌}
 use Rattle.std.proofs.Common.{subst}
-use Rattle.std.specs.Prelude.{slice_index_or, MatchBool}
 use Rattle.std.specs.List.{filter, slice_get}
-use Rattle.std.proofs.lemmas.Bool.{and_parts, eqb-true, false≢true}
+use Rattle.std.proofs.lemmas.Bool.{false≢true}
 use Rattle.std.proofs.lemmas.List.Elements.{All-contains, Contains-append_cases}
 use Rattle.std.proofs.lemmas.Option.{same_Some}
 use Rattle.overlay_geom.specs.Plane.{Point, Step, Edge, edge_of, point_lt, reversed_step}
@@ -14,7 +13,7 @@ use Rattle.overlay_geom.specs.Edges.{CountedEdge}
 use Rattle.overlay_plane.specs.Anchors.{IsAnchor}
 use Rattle.overlay_plane.specs.BesideOrbits.{winding_under, winding_over, winding_beside, WalksAlong, IsBalancedPart}
 use Rattle.overlay_plane.specs.BesideOrbits.{HasEachOnce}
-use Rattle.overlay_plane.specs.Binding.{HasNextAt, is_number}
+use Rattle.overlay_plane.specs.Binding.{HasNextAt}
 use Rattle.overlay_plane.specs.Binding.IsFoundBelow.{direct, through}
 use Rattle.overlay_plane.specs.BoundContours.{BoundContour, IsParent, walks_in, has_one_shape, AreShapesFound}
 use Rattle.overlay_plane.specs.BoundContours.{contours_bound, own_holes, found_holes}
@@ -24,7 +23,7 @@ use Rattle.overlay_plane.specs.KeptContours.{CanBeBound}
 use Rattle.overlay_plane.specs.LeftmostSteps.{HasLeftmost, StepHasEndBefore, NoneTakenBelow}
 use Rattle.overlay_plane.specs.Nodes.{IsBalancedArrangement}
 use Rattle.overlay_plane.specs.RoledContours.{Role, outline, own_hole, free_hole, Contour, stands_in, is_outline}
-use Rattle.overlay_plane.specs.RoledContours.{is_own_hole_of, is_free_hole}
+use Rattle.overlay_plane.specs.RoledContours.{is_own_hole_of}
 use Rattle.overlay_plane.specs.SelectedSteps.{step_with_left}
 use Rattle.overlay_plane.specs.ShapesAlone.{HasOneWinding, WindsOnceOrNot}
 use Rattle.overlay_plane.specs.Turn.Hand.{left}
@@ -37,6 +36,7 @@ use Rattle.overlay_plane.proofs.ContourSteps.{contour_long}
 use Rattle.overlay_plane.proofs.Entries.{Contains-from_filter, Contains-map, Contains-from_map}
 use Rattle.overlay_plane.proofs.Entries.{Contains-flat_map, Contains-from_flat_map}
 use Rattle.overlay_plane.proofs.FirstInShape.{after_own, lowest_not_found}
+use Rattle.overlay_plane.proofs.FoundHoles.{IsFoundFor, hole_found}
 use Rattle.overlay_plane.proofs.HoleWindings.{filled_over, empty_below}
 use Rattle.overlay_plane.proofs.LaterEntries.{Contains-cases}
 use Rattle.overlay_plane.proofs.LeastSteps.{leftmost_steps_exist}
@@ -50,22 +50,12 @@ use Rattle.overlay_extract.specs.Bound.{PassesAnchor, HaveRoles}
 use Rattle.overlay_extract.specs.FilledSides.{filled_sides, IsInOneOrbit}
 use Rattle.overlay_extract.specs.Loops.{AreLoops}
 use Rattle.overlay_extract.proofs.AlongSides.{one_winding_along_sides}
-use Rattle.overlay_extract.proofs.BelowLoops.{alike_above_next}
+use Rattle.overlay_extract.proofs.BelowLoops.{alike_above_next, side_of_loop}
 use Rattle.overlay_extract.proofs.LostHoles.{can, e_forward, hole_passes}
 use Rattle.overlay_extract.proofs.OnceBySides.{once_by_sides}
 use Rattle.overlay_extract.proofs.RoledLoops.{roles_numbered, role_passes, outline_of_number}
 use Rattle.overlay_extract.proofs.SideLists.{sides_listed, sides_walk_along}
 use Rattle.overlay_extract.proofs.SimpleLoops.{no_step_back}
-
--- a number that is some number
-number_of_some : (n : ℕ) (shape : Option ℕ) → is_number n shape ≡ true → shape ≡ Some n
-number_of_some n None h = absurd (false≢true h)
-number_of_some n (Some m) h = ap Some (eqb-true m n h)
-
-role_of_free : (r : Role) → is_free_hole r ≡ true → r ≡ free_hole
-role_of_free (outline m) h = absurd (false≢true h)
-role_of_free (own_hole m) h = absurd (false≢true h)
-role_of_free free_hole h = refl
 
 -- a hole of a group stands in a shape, and is no outline
 own_is_none : (n : ℕ) (r : Role) → ((m : ℕ) → stands_in r ≡ Some m → r ≡ outline m) →
@@ -91,9 +81,6 @@ module _ (fills : ℤ → Bool) (count : CountedEdge → ℤ) (es : List Counted
 
   simple_loop : (w : List Step) → Contains loops w → IsSimpleContour w
   simple_loop w c = All-contains IsSimpleContour loops w are.simple c
-
-  side_of_loop : (s : Step) → Contains (all_steps loops) s → Contains sides s
-  side_of_loop s c = All-contains (Contains sides) (all_steps loops) s are.are_sides c
 
   module _ (taken : List Step) (inside : (s : Step) → Contains taken s → Contains (all_steps loops) s)
       (part : IsBalancedPart es sides taken) where
@@ -191,19 +178,8 @@ module _ (fills : ℤ → Bool) (count : CountedEdge → ℤ) (es : List Counted
     at_o = in_contours b at_b
 
     -- a loop of the shape that is not its outline is a hole that is found for it
-    record IsFound (w : List Step) : Type 0 where
-      contour : Contour
-      place : ℕ
-      at : slice_get contours place ≡ Some contour
-      free : contour.role ≡ free_hole
-      number : IsParent left contours place (Some n)
-      is : contour.steps ≡ w
-
-    found_number : (one : Bool) → one ≡ false → (i : ℕ) (shape : Option ℕ) →
-        MatchBool one (shape ≡ Some 0) (IsParent left contours i shape) → shape ≡ Some n →
-        IsParent left contours i (Some n)
-    found_number true not_one i shape is same = absurd (false≢true (sym not_one))
-    found_number false not_one i shape is same = subst (IsParent left contours i) same is
+    abbrev IsFound : List Step → Type 0
+    IsFound w = IsFoundFor left contours n w
 
     walk_cases : (w : List Step) → Contains ws w → (o.steps ≡ w) ⊎ IsFound w
     walk_cases w c = ⊎_elim
@@ -214,23 +190,7 @@ module _ (fills : ℤ → Bool) (count : CountedEdge → ℤ) (es : List Counted
         let passed = Contains-from_filter (λ (e : BoundContour). is_own_hole_of n e.contour.role) bound d.0 d.1 in
         absurd (own_is_none n d.0.contour.role
         (λ m stands. outline_of_number m 0 contours roles d.0.contour (in_contours d.0 passed.0) stands) passed.1))
-        (λ of_found. let d = Contains-from_map (λ (e : BoundContour). e.contour.steps)
-        (filter (λ (e : BoundContour). is_free_hole e.contour.role && is_number n e.shape) bound) w of_found in
-        let passed = Contains-from_filter (λ (e : BoundContour). is_free_hole e.contour.role && is_number n e.shape)
-        bound d.0 d.1 in
-        let tests = and_parts (is_free_hole d.0.contour.role) (is_number n d.0.shape) passed.1 in
-        let place = bound_at contours shapes d.0 passed.0 in
-        let free = role_of_free d.0.contour.role tests.0 in
-        inr (record {
-          contour = d.0.contour;
-          place = place.0;
-          at = place.1;
-          free = free;
-          number = found_number (has_one_shape contours) many place.0 (slice_index_or shapes place.0 None)
-              (found.found place.0 d.0.contour place.1 free)
-              (place.2 ∙ number_of_some n d.0.shape tests.1);
-          is = d.2;
-        }))
+        (λ of_found. inr (hole_found left contours shapes found many n w of_found))
         (Contains-append_cases (own_holes bound n) (found_holes bound n) w later))
         (Contains-cases o.steps (own_holes bound n ++ found_holes bound n) w c)
 
@@ -267,7 +227,7 @@ module _ (fills : ℤ → Bool) (count : CountedEdge → ℤ) (es : List Counted
 
     part : IsBalancedPart es sides taken
     part = contours_part es sides along ws (λ w c. (simple_loop w (in_loops w c)).contour)
-        (λ s c. side_of_loop s (inside s c))
+        (λ s c. side_of_loop sides loops are s (inside s c))
 
     outline_simple : IsSimpleContour o.steps
     outline_simple = simple_loop o.steps (in_loops o.steps (Contains-head o.steps
@@ -308,7 +268,7 @@ module _ (fills : ℤ → Bool) (count : CountedEdge → ℤ) (es : List Counted
         w = Contains-from_flat_map (λ (v : List Step). v) ws h.lowest h.lowest_taken
 
     leftmost : HasLeftmost taken
-    leftmost = leftmost_steps_exist es sides taken along (λ s c. side_of_loop s (inside s c)) first
+    leftmost = leftmost_steps_exist es sides taken along (λ s c. side_of_loop sides loops are s (inside s c)) first
         (of_outline first passes.passes)
 
     -- and its anchor is the edge there
@@ -326,7 +286,7 @@ module _ (fills : ℤ → Bool) (count : CountedEdge → ℤ) (es : List Counted
     none_under : winding_under es taken anchor ≡ pos 0
     none_under = ap (λ k. winding_under es taken k) anchor_is
         ∙ (nothing_before_the_steps es sides taken along part leftmost.point leftmost.none_before).under_lowest_step
-        leftmost.lowest (side_of_loop leftmost.lowest (inside leftmost.lowest leftmost.lowest_taken))
+        leftmost.lowest (side_of_loop sides loops are leftmost.lowest (inside leftmost.lowest leftmost.lowest_taken))
         leftmost.lowest_starts leftmost.none_below
 
     -- the step back along it is not one of the shape's

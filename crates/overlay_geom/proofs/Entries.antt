@@ -1,5 +1,6 @@
 -- The first entry of a list, and the later entries.
-use Rattle.std.proofs.Common.{◌≡◌, ◌⊎◌, inl, inr, ℕ, zero, suc, ◌<◌, List, [], ◌∷◌, length, refl, arith}
+use Rattle.std.proofs.Common.{◌≡◌, ◌⊎◌, inl, inr, ℕ, zero, suc, ◌<◌, List, [], ◌∷◌, length, drop, get_or, refl, ap}
+use Rattle.std.proofs.Common.{arith}
 use Rattle.std.specs.List.{Contains}
 
 -- a list contains its first entry
@@ -19,3 +20,11 @@ Contains-cases y ys z (suc k, h, e) = inr (k, omega arith, e)
 pub some_entry : {X : Type 0} (xs : List X) (k : ℕ) → k < length xs → X
 some_entry [] k h = absurd (omega arith)
 some_entry (x ∷ xs) k h = x
+
+-- lists that are one have one first entry
+pub same_head : {X : Type 0} (x y : X) (xs ys : List X) → x ∷ xs ≡ y ∷ ys → x ≡ y
+same_head x y xs ys same = ap (λ zs. get_or zs 0 x) same
+
+-- and one rest
+pub same_tail : {X : Type 0} (x y : X) (xs ys : List X) → x ∷ xs ≡ y ∷ ys → xs ≡ ys
+same_tail x y xs ys same = ap (drop 1) same

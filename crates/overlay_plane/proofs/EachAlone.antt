@@ -1,11 +1,11 @@
 -- Each shape to which all contours are bound winds once or zero times round each point. Along its contours from the
 -- start the winding is once, since its lowest edge at its leftmost lowest point belongs to one. So it is along the
 -- holes found for it.
-use Rattle.std.proofs.Common.{◌≡◌, ◌⊎◌, inl, inr, ⊎_elim, ℕ, Bool, true, false, ◌&&◌, ℤ, pos, List, [], ◌∷◌, ◌++◌}
+use Rattle.std.proofs.Common.{◌≡◌, ◌⊎◌, inl, inr, ⊎_elim, ℕ, Bool, true, false, ℤ, pos, List, [], ◌∷◌, ◌++◌}
 use Rattle.std.proofs.Common.{filter, Contains, Option, Some, None, refl, sym, ap, ◌∙◌, subst, arith}
-use Rattle.std.specs.Prelude.{slice_index_or, MatchBool}
+use Rattle.std.specs.Prelude.{slice_index_or}
 use Rattle.std.specs.List.{slice_get}
-use Rattle.std.proofs.lemmas.Bool.{and_parts, eqb-true, eq-eqb, false≢true}
+use Rattle.std.proofs.lemmas.Bool.{eqb-true, eq-eqb, false≢true}
 use Rattle.std.proofs.lemmas.List.Elements.{All-contains, Contains-append_cases, Contains-append_left}
 use Rattle.std.proofs.lemmas.Option.{none-some}
 use Rattle.overlay_geom.specs.Plane.{Step, edge_of}
@@ -17,10 +17,9 @@ use Rattle.overlay_plane.specs.BesideOrbits.{winding_under, winding_beside, Walk
 use Rattle.overlay_plane.specs.LeftmostSteps.{HasLeftmost}
 use Rattle.overlay_plane.specs.Contours.{is_filled_above, outline_or_hole_hand, all_steps, IsContour}
 use Rattle.overlay_plane.specs.ContourWindings.{once_round}
-use Rattle.overlay_plane.specs.Binding.{is_number}
 use Rattle.overlay_plane.specs.RoledContours.{Role, outline, own_hole, free_hole, Contour, stands_in, is_own_hole_of}
-use Rattle.overlay_plane.specs.RoledContours.{is_free_hole, IsCutBy}
-use Rattle.overlay_plane.specs.BoundContours.{BoundContour, IsParent, walks_in, has_one_shape, AreShapesFound}
+use Rattle.overlay_plane.specs.RoledContours.{IsCutBy}
+use Rattle.overlay_plane.specs.BoundContours.{BoundContour, walks_in, has_one_shape, AreShapesFound}
 use Rattle.overlay_plane.specs.BoundContours.{contours_bound, own_holes, found_holes}
 use Rattle.overlay_plane.specs.Groups.{IsInsideAGroup}
 use Rattle.overlay_plane.specs.KeptContours.{AreKeptContours, KeepsAll, CanBeBound}
@@ -37,6 +36,7 @@ use Rattle.overlay_plane.proofs.Entries.{Contains-filter, Contains-from_filter, 
 use Rattle.overlay_plane.proofs.Entries.{Contains-flat_map, Contains-from_flat_map}
 use Rattle.overlay_plane.proofs.FilledEdges.{HaveSelected}
 use Rattle.overlay_plane.proofs.FirstInShape.{after_own, lowest_not_found}
+use Rattle.overlay_plane.proofs.FoundHoles.{IsFoundFor, hole_found}
 use Rattle.overlay_plane.proofs.FoundWindings.{found_once}
 use Rattle.overlay_plane.proofs.FreeHoles.{empty_by, have_all}
 use Rattle.overlay_plane.proofs.GroupedCuts.{contours_are_inside_groups}
@@ -60,16 +60,6 @@ stands_of_own : (n : ℕ) (r : Role) → is_own_hole_of n r ≡ true → stands_
 stands_of_own n (outline m) h = absurd (false≢true h)
 stands_of_own n (own_hole m) h = ap Some (eqb-true m n h)
 stands_of_own n free_hole h = absurd (false≢true h)
-
--- a number that is some number
-number_of_some : (n : ℕ) (shape : Option ℕ) → is_number n shape ≡ true → shape ≡ Some n
-number_of_some n None h = absurd (false≢true h)
-number_of_some n (Some m) h = ap Some (eqb-true m n h)
-
-role_of_free : (r : Role) → is_free_hole r ≡ true → r ≡ free_hole
-role_of_free (outline m) h = absurd (false≢true h)
-role_of_free (own_hole m) h = absurd (false≢true h)
-role_of_free free_hole h = refl
 
 -- a contour has a step
 first_of_contour : (walk : List Step) → IsContour walk → (s : Step) × Contains walk s
@@ -161,19 +151,8 @@ module _ (holds : ℤ → ℤ → Bool) (subj clip : CountedEdge → ℤ) (es : 
       is : contour.steps ≡ w
 
     -- or is found for it
-    record IsFound (w : List Step) : Type 0 where
-      contour : Contour
-      place : ℕ
-      at : slice_get contours place ≡ Some contour
-      free : contour.role ≡ free_hole
-      number : IsParent filled contours place (Some n)
-      is : contour.steps ≡ w
-
-    found_number : (one : Bool) → one ≡ false → (i : ℕ) (shape : Option ℕ) →
-        MatchBool one (shape ≡ Some 0) (IsParent filled contours i shape) → shape ≡ Some n →
-        IsParent filled contours i (Some n)
-    found_number true not_one i shape is same = absurd (false≢true (sym not_one))
-    found_number false not_one i shape is same = subst (IsParent filled contours i) same is
+    abbrev IsFound : List Step → Type 0
+    IsFound w = IsFoundFor filled contours n w
 
     walk_cases : (w : List Step) → Contains ws w → IsOwn w ⊎ IsFound w
     walk_cases w c = ⊎_elim
@@ -188,24 +167,7 @@ module _ (holds : ℤ → ℤ → Bool) (subj clip : CountedEdge → ℤ) (es : 
           stands = stands_of_own n d.0.contour.role passed.1;
           is = d.2;
         }))
-        (λ of_found. let d = Contains-from_map (λ (e : BoundContour). e.contour.steps)
-        (filter (λ (e : BoundContour). is_free_hole e.contour.role && is_number n e.shape) bound) w of_found in
-        let passed = Contains-from_filter (λ (e : BoundContour). is_free_hole e.contour.role && is_number n e.shape)
-        bound
-        d.0 d.1 in
-        let tests = and_parts (is_free_hole d.0.contour.role) (is_number n d.0.shape) passed.1 in
-        let place = contour_at_place d.0 passed.0 in
-        let free = role_of_free d.0.contour.role tests.0 in
-        inr (record {
-          contour = d.0.contour;
-          place = place.0;
-          at = place.1;
-          free = free;
-          number = found_number (has_one_shape contours) many place.0 (slice_index_or shapes place.0 None)
-              (found.found place.0 d.0.contour place.1 free)
-              (place.2 ∙ number_of_some n d.0.shape tests.1);
-          is = d.2;
-        }))
+        (λ of_found. inr (hole_found filled contours shapes found many n w of_found))
         (Contains-append_cases (own_holes bound n) (found_holes bound n) w later))
         (Contains-cases o.steps (own_holes bound n ++ found_holes bound n) w c)
 

@@ -62,6 +62,7 @@ pub mod ExactRounds
 pub mod FilledEdges
 pub mod FirstInShape
 pub mod FoundEntries
+pub mod FoundHoles
 pub mod FoundNumbers
 pub mod FoundWindings
 pub mod FreeHoles

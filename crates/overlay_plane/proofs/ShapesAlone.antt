@@ -57,7 +57,7 @@ list_of_one (y ∷ []) x one c = ⊎_elim (λ same. ap (λ z. z ∷ []) same) (�
 list_of_one (y ∷ z ∷ zs) x one c = absurd (omega (arith, one))
 
 -- as many shapes are begun as there are outlines
-begun_counted : (bound bs : List BoundContour) →
+pub begun_counted : (bound bs : List BoundContour) →
     length (flat_map (λ b. shape_begun_by bound b.contour.role b.contour.steps) bs) ≡
     outline_count (map (λ b. b.contour) bs)
 begun_counted bound [] = refl

@@ -5,8 +5,7 @@ use Rattle.std.proofs.Common.{ap₂, ◌∙◌, subst, arith}
 use Rattle.std.proofs.lemmas.Bool.{both_ways}
 use Rattle.std.proofs.lemmas.List.Elements.{All-contains, All-head, All-tail, Contains-append_right}
 use Rattle.overlay_geom.specs.Plane.{Point, Step, is_forward, reversed_step, backward}
-use Rattle.overlay_geom.proofs.Entries.{Contains-head}
-use Rattle.overlay_extract.proofs.OneRepeat.{same_first, same_rest}
+use Rattle.overlay_geom.proofs.Entries.{Contains-head, same_head, same_tail}
 use Rattle.overlay_extract.proofs.TurnedLoops.{again}
 use Rattle.overlay_string.specs.ClipPaths.{TakesFirst, IsWalkFrom, IsPathOf, AreClipPaths, points_along}
 use Rattle.overlay_string.specs.ClipPaths.IsWalkFrom.{stop, go}
@@ -25,17 +24,17 @@ first_once : (v : Point) (before others after later : List Step) (s t : Step) �
     before ++ s ∷ after ≡ others ++ t ∷ later → s.from ≡ v → t.from ≡ v → NoneFrom v before → NoneFrom v others →
     (before ≡ others) × (s ≡ t) × (after ≡ later)
 first_once v [] [] after later s t same at_s at_t none none' =
-    (refl, same_first s t after later same, same_rest s t after later same)
+    (refl, same_head s t after later same, same_tail s t after later same)
 first_once v [] (b ∷ bs) after later s t same at_s at_t none none' =
     absurd (All-head (λ u. u.from ≢ v) b bs none'
-    (ap (λ (u : Step). u.from) (sym (same_first s b after (bs ++ t ∷ later) same)) ∙ at_s))
+    (ap (λ (u : Step). u.from) (sym (same_head s b after (bs ++ t ∷ later) same)) ∙ at_s))
 first_once v (a ∷ rest) [] after later s t same at_s at_t none none' =
     absurd (All-head (λ u. u.from ≢ v) a rest none
-    (ap (λ (u : Step). u.from) (same_first a t (rest ++ s ∷ after) later same) ∙ at_t))
+    (ap (λ (u : Step). u.from) (same_head a t (rest ++ s ∷ after) later same) ∙ at_t))
 first_once v (a ∷ rest) (b ∷ bs) after later s t same at_s at_t none none' =
-    let more = first_once v rest bs after later s t (same_rest a b (rest ++ s ∷ after) (bs ++ t ∷ later) same) at_s at_t
+    let more = first_once v rest bs after later s t (same_tail a b (rest ++ s ∷ after) (bs ++ t ∷ later) same) at_s at_t
     (All-tail (λ u. u.from ≢ v) a rest none) (All-tail (λ u. u.from ≢ v) b bs none') in
-    (ap₂ (λ x xs. x ∷ xs) (same_first a b (rest ++ s ∷ after) (bs ++ t ∷ later) same) more.0, more.1, more.2)
+    (ap₂ (λ x xs. x ∷ xs) (same_head a b (rest ++ s ∷ after) (bs ++ t ∷ later) same) more.0, more.1, more.2)
 
 taken_once : (v : Point) (open_pieces : List Step) (s t : Step) (left others : List Step) →
     TakesFirst v open_pieces s left → TakesFirst v open_pieces t others → (s ≡ t) × (left ≡ others)
@@ -95,8 +94,8 @@ one_list_of_paths pieces others same paths ones (next path more) done = let long
 one_list_of_paths pieces others same paths ones
     (next {s = s} {open_pieces = ss} {path = p} {rest = rest} {paths = ps} path more)
     (next {s = t} {open_pieces = ts} {path = q} {rest = left} {paths = qs} path' more') =
-    let alike = subst (λ u. IsPathOf u ss q left) (sym (same_first s t ss ts same))
-    (subst (λ us. IsPathOf t us q left) (sym (same_rest s t ss ts same)) path') in
+    let alike = subst (λ u. IsPathOf u ss q left) (sym (same_head s t ss ts same))
+    (subst (λ us. IsPathOf t us q left) (sym (same_tail s t ss ts same)) path') in
     let one = one_path s ss p q rest left path alike in
     ap₂ (λ x xs. x ∷ xs) one.0 (one_list_of_paths rest left one.1 ps qs more more')
 

@@ -1,5 +1,5 @@
 -- Packed parts are all of a list, one behind the other, and the lengths of parts tell their ranges.
-use Rattle.std.proofs.Common.{◌≡◌, ◌-◌, ◌≤◌, ℕ, ℤ, List, [], ◌∷◌, ◌++◌, map, length, drop, get_or, flat_map}
+use Rattle.std.proofs.Common.{◌≡◌, ◌-◌, ◌≤◌, ℕ, ℤ, List, [], ◌∷◌, ◌++◌, map, length, drop, flat_map}
 use Rattle.std.proofs.Common.{refl, sym, ap, ap₂, subst, ◌∙◌, arith}
 use Rattle.std.specs.declared.ops.Range.{Range}
 use Rattle.std.proofs.Math.Seq.{drop-length}
@@ -12,6 +12,7 @@ use Rattle.overlay_geom.specs.Packed.AreBehind.{no_range, next}
 use Rattle.overlay_geom.specs.Plane.{Point}
 use Rattle.overlay_geom.specs.Points.{plain_point, plain_points}
 use Rattle.overlay_geom.specs.declared.point.IntPoint.{IntPoint}
+use Rattle.overlay_geom.proofs.Entries.{same_head, same_tail}
 use Rattle.overlay_geom.proofs.FlatPaths.{part_inside}
 use Rattle.overlay_geom.proofs.PackedPaths.{behind_inside}
 use Rattle.polyover_c.specs.ArrayLaws.{OnePacking, OnePackingOfShapes}
@@ -41,13 +42,6 @@ module _ {X : Type 0} (xs : List X) where
   long_is r h = ap length (part_inside xs r h)
       ∙ length-take-le (r.end - r.start) (drop r.start xs)
       (let rest = length-drop r.start xs in let up = h.rises in let to = h.ends in omega (arith, rest))
-
--- the first entries of one list are one, and so are the others
-same_head : {X : Type 0} (x y : X) (xs ys : List X) → x ∷ xs ≡ y ∷ ys → x ≡ y
-same_head x y xs ys same = ap (λ zs. get_or zs 0 x) same
-
-same_tail : {X : Type 0} (x y : X) (xs ys : List X) → x ∷ xs ≡ y ∷ ys → xs ≡ ys
-same_tail x y xs ys same = ap (drop 1) same
 
 -- packed ranges whose parts are as long as those of others are these
 same_ranges : {X : Type 0} (xs ys : List X) (m n : ℕ) → m ≡ n → (rs ss : List (Range ℕ)) (e e' : ℕ) →

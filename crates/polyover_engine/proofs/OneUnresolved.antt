@@ -1,9 +1,9 @@
 -- The first contour that is not resolved is one, and so is the number of the line in which the command stands.
-use Rattle.std.proofs.Common.{◌≡◌, ℕ, suc, ◌+◌, List, [], ◌∷◌, ◌++◌, length, drop, get_or, Contains, All, refl, sym, ap}
+use Rattle.std.proofs.Common.{◌≡◌, ℕ, suc, ◌+◌, List, [], ◌∷◌, ◌++◌, length, Contains, All, refl, sym, ap}
 use Rattle.std.proofs.Common.{subst, ◌∙◌}
 use Rattle.std.proofs.lemmas.List.Elements.{All-head, All-contains, Contains-append_right}
 use Rattle.overlay_geom.specs.Resolved.{IsResolved}
-use Rattle.overlay_geom.proofs.Entries.{Contains-head}
+use Rattle.overlay_geom.proofs.Entries.{Contains-head, same_head, same_tail}
 use Rattle.overlay_arrange.specs.declared.options.ShapeType.TheVariants.{Subject}
 use Rattle.overlay_plane.proofs.Entries.{All-first, All-rest, Contains-flat_map}
 use Rattle.polyover_text.specs.declared.query.Query.{Query}
@@ -11,13 +11,6 @@ use Rattle.polyover_text.specs.Grammar.{Line, GivenFigures, GivenContour, AreFig
 use Rattle.polyover_text.specs.Grammar.{IsCommand, AsksAt}
 use Rattle.polyover_text.proofs.GoodLines.{among_figures, command_is_not_plain}
 use Rattle.polyover_engine.specs.Subjects.{subject_part, subject_of, IsFirstUnresolved}
-
--- the first entries of one list are one, and so are the others
-same_head : {X : Type 0} (x y : X) (xs ys : List X) → x ∷ xs ≡ y ∷ ys → x ≡ y
-same_head x y xs ys same = ap (λ zs. get_or zs 0 x) same
-
-same_tail : {X : Type 0} (x y : X) (xs ys : List X) → x ∷ xs ≡ y ∷ ys → xs ≡ ys
-same_tail x y xs ys same = ap (drop 1) same
 
 -- ---- contours
 
