@@ -127,6 +127,7 @@ fn write_points<I: IntNumber, A: Allocator>(
     ensures err { IsOkUnless result OverlayError.Memory }
 {
     points.clear();
+    points.reserve(walk.len())?;
     for step in walk {
         points.push(step.from)?;
     }

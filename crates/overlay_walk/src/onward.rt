@@ -10,7 +10,7 @@ use overlay_geom::point::IntPoint;
 use std::alloc::Allocator;
 
 // Number of steps from which on places are noted.
-const LEAST_STEPS: usize = 16;
+const LEAST_STEPS: usize = 64;
 // Length of the first stretch of a search, and how much longer each next one is.
 const STRETCH: usize = 4;
 
@@ -141,10 +141,10 @@ fn first_between<I: IntNumber>(steps: &[Step<I>], from: usize, to: usize, p: Int
     low
 }
 
-/// Returns the place noted for the step at a place, or 0 where none is noted.
+/// Returns the place noted for the step at a place, or a place behind all steps where none is noted.
 pub fn noted(onward: &[usize], place: usize) -> usize {
     match onward.get(place) {
         Some(first) => *first,
-        None => 0,
+        None => usize::MAX,
     }
 }
