@@ -1,6 +1,6 @@
 //! Shapes assembled from contours: each outline, followed by the holes of its shape.
 
-ghost use Rattle.std.specs.Prelude.{◌≡◌, ◌<◌, length, map, All, IfOk};
+ghost use Rattle.std.specs.Prelude.{◌≡◌, ◌<◌, length, map, All, IfOk, OnOk, IsOkUnless};
 ghost use Rattle.std.specs.List.{AllZip};
 ghost use Rattle.overlay_geom.specs.Paths.{plain_shapes, paths_of_shape};
 ghost use Rattle.overlay_geom.specs.Plane.{points_of};
@@ -34,16 +34,18 @@ pub fn assembled<I: IntNumber, A: Allocator + Clone>(
         (points_of_shapes (walks_at (plain_contours I.whole contours.now) (place_lists places.now)))
         (plain_shapes I.whole v.items)) }
 {
-    let mut shapes = Vec::new(alloc.clone()?);
+    let mut shapes = Vec::with_capacity(alloc.clone()?, places.len())?;
+    let mut room = Vec::new(alloc.clone()?);
     for shape in places {
-        shapes.push(shape_at(alloc.clone()?, contours, shape, keeps_points)?)?;
+        shapes.push(shape_at(alloc.clone()?, &mut room, contours, shape, keeps_points)?)?;
     }
     Ok(shapes)
 }
 
-// Returns the shape with the contours at these places.
+// Returns the shape with the contours at these places. The room lends its memory.
 fn shape_at<I: IntNumber, A: Allocator + Clone>(
     alloc: A,
+    room: &mut IntContour<I, A>,
     contours: &[Contour<I, A>],
     places: &[usize],
     keeps_points: bool,
@@ -54,13 +56,14 @@ fn shape_at<I: IntNumber, A: Allocator + Clone>(
         (map points_of (map (walk_at (plain_contours I.whole contours.now)) places.now))
         (paths_of_shape I.whole v.items)) }
 {
-    let mut shape = Vec::new(alloc.clone()?);
+    let mut shape = Vec::with_capacity(alloc.clone()?, places.len())?;
     for i in 0..places.len() {
         let place = places[i];
-        shape.push(contour(alloc.clone()?, &contours[place].steps, keeps_points)?)?;
+        shape.push(contour_in(alloc.clone()?, room, &contours[place].steps, keeps_points)?)?;
     }
     Ok(shape)
 }
+
 /// Returns the points at which the steps of the walk begin. Unless `keeps_points`, points collinear with their two
 /// neighbours are dropped.
 pub fn contour<I: IntNumber, A: Allocator + Clone>(
@@ -79,6 +82,25 @@ pub fn contour<I: IntNumber, A: Allocator + Clone>(
     thinned(alloc, &points)
 }
 
+// Returns the contour that [`contour`] gives. The room lends its memory.
+fn contour_in<I: IntNumber, A: Allocator>(
+    alloc: A,
+    room: &mut IntContour<I, A>,
+    walk: &[Step<I>],
+    keeps_points: bool,
+) -> Result<IntContour<I, A>, OverlayError>
+    requires { All (IsLong I.limit) (plain_steps I.whole walk.now) }
+    ensures ok { IfOk result (λ v. IsKeptOrThinned keeps_points (points_of (plain_steps I.whole walk.now))
+        (plain_points I.whole v.items)) }
+    ensures err { IsOkUnless result OverlayError.Memory }
+{
+    if keeps_points {
+        return points_of(alloc, walk);
+    }
+    write_points(room, walk)?;
+    thinned(alloc, room)
+}
+
 // Returns the points at which the steps of the walk begin.
 fn points_of<I: IntNumber, A: Allocator>(
     alloc: A,
@@ -87,8 +109,22 @@ fn points_of<I: IntNumber, A: Allocator>(
     ensures ok { IfOk result (λ v. plain_points I.whole v.items ≡ points_of (plain_steps I.whole walk.now)) }
 {
     let mut points = Vec::with_capacity(alloc, walk.len())?;
+    write_points(&mut points, walk)?;
+    Ok(points)
+}
+
+// Puts the points at which the steps of the walk begin into the list, and drops those that it had.
+fn write_points<I: IntNumber, A: Allocator>(
+    points: &mut IntContour<I, A>,
+    walk: &[Step<I>],
+) -> Result<(), OverlayError>
+    ensures ok { OnOk result (plain_points I.whole points.new.items ≡ points_of (plain_steps I.whole walk.now)) }
+    ensures err { IsOkUnless result OverlayError.Memory }
+{
+    points.clear();
+    points.reserve(walk.len())?;
     for step in walk {
         points.push(step.from)?;
     }
-    Ok(points)
+    Ok(())
 }

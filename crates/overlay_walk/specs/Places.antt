@@ -39,12 +39,12 @@ pub record IsRun (ss : List Step) (p : Point) (low high : ℕ) : Type 0 where
   pub leave : (k : ℕ) → low ≤ k → k < high → (step_at ss k).from ≡ p
   pub all : (k : ℕ) → k < length ss → (step_at ss k).from ≡ p → (low ≤ k) × (k < high)
 
--- the steps from low up to high leave no greater point than p; if there is a step at high, it does
-pub record LeaveUpTo (ss : List Step) (p : Point) (low high : ℕ) : Type 0 where
+-- the steps from low up to high leave p; if there is a step at high, it does not
+pub record LeaveAlike (ss : List Step) (p : Point) (low high : ℕ) : Type 0 where
   pub ordered : low ≤ high
   pub within : high ≤ length ss
-  pub up_to : (k : ℕ) → low ≤ k → k < high → point_lt p (step_at ss k).from ≡ false
-  pub ends : high < length ss → point_lt p (step_at ss high).from ≡ true
+  pub leave : (k : ℕ) → low ≤ k → k < high → (step_at ss k).from ≡ p
+  pub ends : high < length ss → point_eq (step_at ss high).from p ≡ false
 
 -- the place of the open step that leaves the end of s and is met first, by a ray that turns there by the hand
 pub record IsNextAt (ss : List Step) (marks : List Bool) (hand : Hand) (s : Step) (m : ℕ) : Type 0 where

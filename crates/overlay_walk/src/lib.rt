@@ -15,6 +15,7 @@ mod leftmost;
 pub mod nearest;
 mod next;
 pub mod numbered_edge;
+mod onward;
 mod open_places;
 pub mod open_steps;
 pub mod selected_steps;

@@ -1,8 +1,10 @@
 //! The next step at the end of a step, among steps sorted by the points that they leave.
 
-ghost use Rattle.std.specs.Prelude.{◌≡◌, ◌≤◌, length, All};
+ghost use Rattle.std.specs.Prelude.{◌≡◌, ◌<◌, ◌≤◌, true, false, length, All};
+ghost use Rattle.std.specs.List.Sorted.{IsPartitionPoint};
+ghost use Rattle.overlay_geom.specs.Plane.{point_lt};
 ghost use Rattle.overlay_geom.specs.Points.{plain_point};
-ghost use Rattle.overlay_walk.specs.Places.{IsRun, LeaveUpTo, IsNextPlace};
+ghost use Rattle.overlay_walk.specs.Places.{step_at, IsRun, LeaveAlike, IsNextPlace};
 ghost use Rattle.overlay_walk.specs.Steps.{plain_hand, plain_step, plain_steps};
 ghost use Rattle.overlay_walk.specs.Steps.{IsByFrom, IsLong};
 
@@ -16,9 +18,11 @@ use overlay_geom::point::IntPoint;
 
 /// Returns the place of the next step at the end of a step, among the steps that leave that end and are not taken. A
 /// ray that turns by the hand from the way back along the step meets it first. The result is None where there is none.
+/// The steps that leave that end are looked for at the place `near` first.
 pub fn place_of_next<I: IntNumber>(
     steps: &[Step<I>],
     taken: &[bool],
+    near: usize,
     step: Step<I>,
     hand: Hand,
 ) -> Option<usize>
@@ -28,7 +32,7 @@ pub fn place_of_next<I: IntNumber>(
     requires step { IsLong I.limit (plain_step I.whole step) }
     ensures { IsNextPlace (plain_steps I.whole steps.now) taken.now (plain_hand hand) (plain_step I.whole step) result }
 {
-    let (low, high) = run_from(steps, step.to);
+    let (low, high) = run_from(steps, near, step.to);
     let mut nearest = NearestVector::new(Ray {
         node: step.to,
         start: step.from,
@@ -43,24 +47,60 @@ pub fn place_of_next<I: IntNumber>(
     found
 }
 
-/// Returns the places of the steps that leave a point: the first, and the place behind the last. It looks for the last
-/// step by step.
-fn run_from<I: IntNumber>(steps: &[Step<I>], p: IntPoint<I>) -> (usize, usize)
+/// Returns the places of the steps that leave a point: the first, and the place behind the last. It tries the place
+/// `near` for the first, and looks for the last step by step.
+fn run_from<I: IntNumber>(steps: &[Step<I>], near: usize, p: IntPoint<I>) -> (usize, usize)
     requires { IsByFrom (plain_steps I.whole steps.now) }
     ensures { IsRun (plain_steps I.whole steps.now) (plain_point I.whole p) result.0 result.1 }
 {
-    let low = steps.partition_point(|s| compare_points(s.from, p).is_lt());
+    let low = run_start(steps, near, p);
     (low, run_end(steps, low, p))
 }
 
-/// Returns the first place from `low` on whose step leaves a greater point, or the number of steps.
+/// Returns the number of steps that leave a point below p, which come first. It tries the place `near`.
+fn run_start<I: IntNumber>(steps: &[Step<I>], near: usize, p: IntPoint<I>) -> usize
+    requires { IsByFrom (plain_steps I.whole steps.now) }
+    ensures within { result ≤ length steps.now }
+    ensures parted { IsPartitionPoint (λ s. point_lt (plain_step I.whole s).from (plain_point I.whole p) ≡ true)
+        (λ s. point_lt (plain_step I.whole s).from (plain_point I.whole p) ≡ false) steps.now result }
+{
+    if is_parted_at(steps, near, p) {
+        near
+    } else {
+        steps.partition_point(|s| compare_points(s.from, p).is_lt())
+    }
+}
+
+/// Returns whether a step stands at the place that is the first not to leave a point below p.
+fn is_parted_at<I: IntNumber>(steps: &[Step<I>], place: usize, p: IntPoint<I>) -> bool
+    requires { IsByFrom (plain_steps I.whole steps.now) }
+    ensures within { result ≡ true → place < length steps.now }
+    ensures parted { result ≡ true →
+        IsPartitionPoint (λ s. point_lt (plain_step I.whole s).from (plain_point I.whole p) ≡ true)
+        (λ s. point_lt (plain_step I.whole s).from (plain_point I.whole p) ≡ false) steps.now place }
+{
+    if place >= steps.len() || leaves_below(steps, place, p) {
+        return false;
+    }
+    place == 0 || leaves_below(steps, place - 1, p)
+}
+
+/// Returns the first place from `low` on whose step does not leave p, or the number of steps.
 fn run_end<I: IntNumber>(steps: &[Step<I>], low: usize, p: IntPoint<I>) -> usize
     requires { low ≤ length steps.now }
-    ensures { LeaveUpTo (plain_steps I.whole steps.now) (plain_point I.whole p) low result }
+    ensures { LeaveAlike (plain_steps I.whole steps.now) (plain_point I.whole p) low result }
 {
     let mut high = low;
-    while high < steps.len() && !compare_points(steps[high].from, p).is_gt() {
+    while high < steps.len() && compare_points(steps[high].from, p).is_eq() {
         high += 1;
     }
     high
+}
+
+/// Returns whether the step at a place leaves a point below p.
+pub fn leaves_below<I: IntNumber>(steps: &[Step<I>], place: usize, p: IntPoint<I>) -> bool
+    requires { place < length steps.now }
+    ensures { result ≡ point_lt (step_at (plain_steps I.whole steps.now) place).from (plain_point I.whole p) }
+{
+    compare_points(steps[place].from, p).is_lt()
 }

@@ -14,6 +14,7 @@ ghost use Rattle.overlay_walk.specs.Steps.{IsByFrom, IsLong};
 use crate::hand::Hand;
 use crate::leftmost::{first_open, places_by_start};
 use crate::next::place_of_next;
+use crate::onward::{noted, onward_places};
 use crate::step::Step;
 use overlay_arrange::edge::compare_points;
 use overlay_arrange::sort_leaders::order_by_leaders;
@@ -35,6 +36,10 @@ pub struct OpenSteps<I: IntNumber, A: Allocator> {
     places: Vec<usize, A>,
     // the number of these places, from the front, that are known to be taken
     passed: usize,
+    // for each step the place where the steps that leave its end are looked for first
+    onward: Vec<usize, A>,
+    // that place for the step to be walked on from
+    near: usize,
 }
 
 impl<I: IntNumber, A: Allocator> Model for OpenSteps<I, A> {
@@ -71,7 +76,9 @@ impl<I: IntNumber, A: Allocator> OpenSteps<I, A> {
         if self.passed == self.places.len() {
             return None;
         }
-        Some(self.steps[self.places[self.passed]])
+        let place = self.places[self.passed];
+        self.near = noted(&self.onward, place);
+        Some(self.steps[place])
     }
 
     // Takes the next step by a hand after a step; one of the steps left leaves its end.
@@ -86,9 +93,10 @@ impl<I: IntNumber, A: Allocator> OpenSteps<I, A> {
             ≡ without (plain_steps I.whole self.old) (plain_step I.whole result ∷ []) }
         ensures fewer { All (Contains self.old) self.new }
     {
-        match place_of_next(&self.steps, &self.taken, step, hand) {
+        match place_of_next(&self.steps, &self.taken, self.near, step, hand) {
             Some(place) => {
                 self.taken[place] = true;
+                self.near = noted(&self.onward, place);
                 self.steps[place]
             }
             None => unreachable!(),
@@ -104,6 +112,7 @@ impl<I: IntNumber, A: Allocator + Clone> OpenSteps<I, A> {
     {
         sort_steps(&mut steps)?;
         let places = places_by_start(steps.allocator().clone()?, &steps)?;
+        let onward = onward_places(steps.allocator().clone()?, &steps, &places)?;
         let mut taken = Vec::new(steps.allocator().clone()?);
         taken.resize(steps.len(), false)?;
         Ok(OpenSteps {
@@ -111,6 +120,8 @@ impl<I: IntNumber, A: Allocator + Clone> OpenSteps<I, A> {
             taken,
             places,
             passed: 0,
+            onward,
+            near: 0,
         })
     }
 

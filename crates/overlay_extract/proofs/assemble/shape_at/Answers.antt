@@ -21,8 +21,8 @@ bounds-contours-place g c =
     let inside = c.requires.inside c.loop-i.i 0 c.loop-i-test.true in
     omega (arith, long, inside)
 
-pub contour-requires : goal.contour-requires
-contour-requires g c =
+pub contour_in-requires : goal.contour_in-requires
+contour_in-requires g c =
     let whole = g.I.IntNumber.whole in
     let plain = plain_contour whole in
     let cs = plain_contours whole c.args.contours.now in
@@ -50,14 +50,14 @@ loop-i-preserved g c =
     let inside : place < length cs = c.requires.inside i 0 c.loop-i-test.true in
     let walk = walk_there cs place (plain x) inside
     (read_mapped plain c.args.contours.now place x (plain x) (omega (arith, inside, long)) c.index-contours-place.is) in
-    let contour = c.in_ok-contour.field-0 in
+    let contour = c.in_ok-contour_in.field-0 in
     let before = take i c.args.places.now in
     let shape = c.loop-i.shape.items in
     let taken : IsKeptOrThinned keep (points_of (walk_at cs place)) (plain_points whole contour.items) =
     subst (λ w. IsKeptOrThinned keep (points_of w) (plain_points whole contour.items)) (sym walk)
     (subst (λ ss. IsKeptOrThinned keep (points_of (plain_steps whole ss)) (plain_points whole contour.items))
     (c.deref.ensures.value ∙ ap (λ (y : _). y.steps.items) (sym c.index-contours-place.is))
-    c.in_ok-contour.ensures.ok) in
+    c.in_ok-contour_in.ensures.ok) in
     subst (AllZip (IsKeptOrThinned keep) (map points_of (map (walk_at cs) (take (i + 1) c.args.places.now))))
     (sym (ap (paths_of_shape whole) c.in_ok-push.ensures.items
     ∙ map-append (λ (k : _). plain_points whole k.items) shape (contour ∷ [])))

@@ -34,11 +34,11 @@ returns-clause-some g c =
     (let differ = c.if-self-len.false in let counted = c.len.ensures in let ok = c.self.inside.places.ok.0 in
     let up = passed.within in omega arith) in
     let first = place_read taken places (plain_steps whole steps) c.self.invariant.starting
-    c.first_open-self-inside.result passed (length steps) c.index.result.now
-    (length-map steps (plain_step whole)) inside c.index.ensures opened in
+    c.first_open-self-inside.result passed (length steps) c.index-place.result.now
+    (length-map steps (plain_step whole)) inside c.index-place.ensures opened in
     rw (← c.self.view_is) (start_left whole g.I.IntNumber.limit steps taken c.self.invariant.marked
     c.self.invariant.long
-    c.index.result.now c.index-2.result.now c.index-2.ensures first)
+    c.index-place.result.now c.index.result.now c.index.ensures first)
 
 pub returns-clause-start : goal.returns-clause-start
 returns-clause-start g c =
@@ -52,14 +52,14 @@ returns-clause-start g c =
     (let differ = c.if-self-len.false in let counted = c.len.ensures in let ok = c.self.inside.places.ok.0 in
     let up = passed.within in omega arith) in
     let first = place_read taken places (plain_steps whole steps) c.self.invariant.starting
-    c.first_open-self-inside.result passed (length steps) c.index.result.now
-    (length-map steps (plain_step whole)) inside c.index.ensures opened in
+    c.first_open-self-inside.result passed (length steps) c.index-place.result.now
+    (length-map steps (plain_step whole)) inside c.index-place.ensures opened in
     rw (← c.self.view_is) (start_found whole g.I.IntNumber.limit steps taken c.self.invariant.marked
     c.self.invariant.long
-    c.index.result.now c.index-2.result.now c.index-2.ensures first)
+    c.index-place.result.now c.index.result.now c.index.ensures first)
 
 pub returns-clause-none : goal.returns-clause-none
 returns-clause-none g c = (
   λ e. cc,
-  λ e. absurd (elim (subst (λ ss. Contains ss c.index-2.result.now) e (returns-clause-some g c)).1 [ ]),
+  λ e. absurd (elim (subst (λ ss. Contains ss c.index.result.now) e (returns-clause-some g c)).1 [ ]),
 )

@@ -3,7 +3,7 @@ use Rattle.std.proofs.Common.{◌≡◌, take}
 use Rattle.overlay_geom.specs.Plane.{points_of}
 use Rattle.overlay_geom.specs.Points.{plain_points}
 use Rattle.overlay_walk.specs.Steps.{plain_steps}
-use Rattle.overlay_extract.proofs.assemble.points_of.Given as goal
+use Rattle.overlay_extract.proofs.assemble.write_points.Given as goal
 
 abbrev pub invariant-loop-step : goal.invariant-loop-step
 invariant-loop-step g l = plain_points g.I.IntNumber.whole l.points.items ≡ points_of
