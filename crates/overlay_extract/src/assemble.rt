@@ -1,6 +1,6 @@
 //! Shapes assembled from contours: each outline, followed by the holes of its shape.
 
-ghost use Rattle.std.specs.Prelude.{◌≡◌, ◌<◌, length, map, All, IfOk, OnOk, IsOkUnless};
+ghost use Rattle.std.specs.Prelude.{◌≡◌, ◌<◌, length, map, All, IfOk, OnOk};
 ghost use Rattle.std.specs.List.{AllZip};
 ghost use Rattle.overlay_geom.specs.Paths.{plain_shapes, paths_of_shape};
 ghost use Rattle.overlay_geom.specs.Plane.{points_of};
@@ -88,11 +88,10 @@ fn contour_in<I: IntNumber, A: Allocator>(
     room: &mut IntContour<I, A>,
     walk: &[Step<I>],
     keeps_points: bool,
-) -> Result<IntContour<I, A>, OverlayError>
+) -> Result<IntContour<I, A>, AllocError>
     requires { All (IsLong I.limit) (plain_steps I.whole walk.now) }
     ensures ok { IfOk result (λ v. IsKeptOrThinned keeps_points (points_of (plain_steps I.whole walk.now))
         (plain_points I.whole v.items)) }
-    ensures err { IsOkUnless result OverlayError.Memory }
 {
     if keeps_points {
         return points_of(alloc, walk);
@@ -117,9 +116,8 @@ fn points_of<I: IntNumber, A: Allocator>(
 fn write_points<I: IntNumber, A: Allocator>(
     points: &mut IntContour<I, A>,
     walk: &[Step<I>],
-) -> Result<(), OverlayError>
+) -> Result<(), AllocError>
     ensures ok { OnOk result (plain_points I.whole points.new.items ≡ points_of (plain_steps I.whole walk.now)) }
-    ensures err { IsOkUnless result OverlayError.Memory }
 {
     points.clear();
     points.reserve(walk.len())?;

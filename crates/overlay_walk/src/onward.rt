@@ -1,13 +1,12 @@
 //! The places where the steps that leave the ends of steps begin, noted before the steps are walked.
 
-ghost use Rattle.std.specs.Prelude.{◌≤◌, length, IsOkUnless};
+ghost use Rattle.std.specs.Prelude.{◌≤◌, length};
 
 use crate::next::leaves_below;
 use crate::step::{Step, is_forward};
-use overlay_geom::error::OverlayError;
 use overlay_geom::number::IntNumber;
 use overlay_geom::point::IntPoint;
-use std::alloc::Allocator;
+use std::alloc::{AllocError, Allocator};
 
 // Number of steps from which on places are noted.
 const LEAST_STEPS: usize = 64;
@@ -20,8 +19,7 @@ pub fn onward_places<I: IntNumber, A: Allocator>(
     alloc: A,
     steps: &[Step<I>],
     places: &[usize],
-) -> Result<Vec<usize, A>, OverlayError>
-    ensures err { IsOkUnless result OverlayError.Memory }
+) -> Result<Vec<usize, A>, AllocError>
 {
     let mut onward = Vec::new(alloc);
     if steps.len() >= LEAST_STEPS {
