@@ -15,16 +15,16 @@ thinned-requires g c =
     subst (AllInRange g.I.IntNumber.limit) (sym same)
     (points_in_range g.I.IntNumber.limit (plain_steps whole c.args.walk.now) c.requires)
 
-pub returns-then-keeps_points-clause-ok : goal.returns-then-keeps_points-clause-ok
-returns-then-keeps_points-clause-ok g c =
+pub returns-then-keeps_points : goal.returns-then-keeps_points
+returns-then-keeps_points g c =
     let whole = g.I.IntNumber.whole in
     let given = points_of (plain_steps whole c.args.walk.now) in
     IfOk-weaker c.points_of.result (λ v. plain_points whole v.items ≡ given) _
     (λ v same. subst (λ k. IsKeptOrThinned k given (plain_points whole v.items)) (sym c.if-keeps_points.true) same)
     c.points_of.ensures.ok
 
-pub returns-clause-ok : goal.returns-clause-ok
-returns-clause-ok g c =
+pub returns : goal.returns
+returns g c =
     let whole = g.I.IntNumber.whole in
     let given = points_of (plain_steps whole c.args.walk.now) in
     let same = ap (plain_points whole) c.deref.ensures.value ∙ c.in_ok-write_points.ensures.ok in

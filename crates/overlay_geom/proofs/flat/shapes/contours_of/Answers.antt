@@ -6,5 +6,5 @@ use Rattle.overlay_geom.proofs.flat.shapes.contours_of.Goals as goal
 pub loop-range-preserved : goal.loop-range-preserved
 loop-range-preserved g c = grind (arith, common_steps)
 
-pub returns-clause-ok : goal.returns-clause-ok
-returns-clause-ok g c = grind (arith, common_steps)
+pub returns : goal.returns
+returns g c = grind (arith, common_steps)

@@ -15,5 +15,5 @@ loop-contour-preserved g c =
     c.push_contour.new.ranges.items c.in_ok-push_contour.ensures.points c.in_ok-push_contour.ensures.ranges
     c.loop-contour.invariant
 
-pub returns-clause-added : goal.returns-clause-added
-returns-clause-added g c = grind (arith, common_steps)
+pub returns : goal.returns
+returns g c = grind (arith, common_steps)
