@@ -16,4 +16,6 @@ loop-contour-preserved g c =
     c.loop-contour.invariant
 
 pub returns : goal.returns
-returns g c = grind (arith, common_steps)
+returns g c = record {
+  added = grind (arith, common_steps);
+}

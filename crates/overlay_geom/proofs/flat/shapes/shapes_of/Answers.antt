@@ -7,4 +7,6 @@ pub loop-range-preserved : goal.loop-range-preserved
 loop-range-preserved g c = grind (arith, common_steps)
 
 pub returns : goal.returns
-returns g c = grind (arith, common_steps)
+returns g c = record {
+  ok = grind (arith, common_steps);
+}
