@@ -1,11 +1,11 @@
 -- A list in another order, of which a test lets some items pass: those are in another order too.
-use Rattle.std.proofs.Common.{◌≡◌, Bool, true, false, cond, ℕ, zero, suc, ◌<◌, List, [], ◌∷◌, get_or, set, length, refl, sym}
-use Rattle.std.proofs.Common.{subst, arith}
+use Rattle.std.proofs.Common.{◌≡◌, Bool, true, false, cond, ℕ, zero, suc, ◌<◌, List, [], ◌∷◌, get_or, set, length}
+use Rattle.std.proofs.Common.{refl, subst, arith}
 use Rattle.std.specs.List.{filter, swap}
 use Rattle.std.specs.List.Sorted.{IsPermutation}
 use Rattle.std.proofs.lemmas.List.Edits.{swap_is}
-use Rattle.std.proofs.lemmas.List.Sorted.{IsPermutation-refl, IsPermutation-cons, IsPermutation-keeps, IsPermutation-swap}
-use Rattle.std.proofs.lemmas.List.Sorted.{IsPermutation-trans}
+use Rattle.std.proofs.lemmas.List.Sorted.{IsPermutation-refl, IsPermutation-cons, IsPermutation-keeps}
+use Rattle.std.proofs.lemmas.List.Sorted.{IsPermutation-swap, IsPermutation-trans}
 
 module _ {X : Type 0} (p : X → Bool) where
   -- what passes in the second list is what passes in the first, in another order
@@ -40,7 +40,8 @@ module _ {X : Type 0} (p : X → Bool) where
   alike_first x d (y ∷ xs) zero within = alike_turned x y xs
   alike_first x d (y ∷ xs) (suc k) within =
       IsPermutation-trans _ _ _ (alike_turned x y xs)
-      (IsPermutation-trans _ _ _ (alike_cons y (x ∷ xs) (get_or xs k d ∷ set xs k x) (alike_first x d xs k (omega arith)))
+      (IsPermutation-trans _ _ _ (alike_cons y (x ∷ xs) (get_or xs k d ∷ set xs k x)
+      (alike_first x d xs k (omega arith)))
       (alike_turned y (get_or xs k d) (set xs k x)))
 
   -- with any two items exchanged
@@ -51,7 +52,8 @@ module _ {X : Type 0} (p : X → Bool) where
   alike_swapped d (x ∷ xs) zero (suc j) before within = alike_first x d xs j (omega arith)
   alike_swapped d (x ∷ xs) (suc i) zero before within = alike_first x d xs i (omega arith)
   alike_swapped d (x ∷ xs) (suc i) (suc j) before within =
-      alike_cons x xs (set (set xs i (get_or xs j d)) j (get_or xs i d)) (alike_swapped d xs i j (omega arith) (omega arith))
+      alike_cons x xs (set (set xs i (get_or xs j d)) j (get_or xs i d))
+      (alike_swapped d xs i j (omega arith) (omega arith))
 
   -- in any other order
   pub IsPermutation-filter : (xs ys : List X) → IsPermutation xs ys → IsPermutation (filter p xs) (filter p ys)
@@ -60,4 +62,5 @@ module _ {X : Type 0} (p : X → Bool) where
     where
       step : (l : List X) (i j : ℕ) → i < length l → j < length l → PassAlike l (swap l i j)
       step [] i j at to = absurd (omega arith)
-      step (d ∷ l) i j at to = subst (PassAlike (d ∷ l)) (swap_is (d ∷ l) i j d at to) (alike_swapped d (d ∷ l) i j at to)
+      step (d ∷ l) i j at to = subst (PassAlike (d ∷ l)) (swap_is (d ∷ l) i j d at to)
+          (alike_swapped d (d ∷ l) i j at to)

@@ -31,7 +31,7 @@ mod snap;
 mod snapping;
 pub mod sort_leaders;
 pub mod sort_numbers;
-pub mod sort_piles;
+mod sort_piles;
 pub mod sort_runs;
 mod spans;
 mod starting_edge;

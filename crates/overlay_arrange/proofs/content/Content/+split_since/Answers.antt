@@ -89,15 +89,18 @@ pub returns-in_default-clause-carried : goal.returns-in_default-clause-carried
 returns-in_default-clause-carried g n c =
     carried_at_once g.C.EdgeCount.merges g.C.EdgeCount.splits g.C.EdgeCount.reverses c.args.rounds c.args.self.now
     c.merge_runs.new.self
-    c.in_ok-merge_runs.ensures.ok (c.in_ok-meetings.ensures.settled.0 c.in_default.is) c.in_ok-merge_runs.ensures.carried
+    c.in_ok-merge_runs.ensures.ok (c.in_ok-meetings.ensures.settled.0 c.in_default.is)
+    c.in_ok-merge_runs.ensures.carried
 
 pub returns-in_ok-split_since-clause-carried : goal.returns-in_ok-split_since-clause-carried
 returns-in_ok-split_since-clause-carried g n c =
     carried_on g.C.EdgeCount.merges g.C.EdgeCount.splits g.C.EdgeCount.reverses Rounds
     (c.args.rounds - 1) c.args.rounds
-    c.args.self.now c.merge_runs.new.self c.cut_at.new.self _ (computed_chain (edges_in c.merge_runs.new.self)) (omega arith)
+    c.args.self.now c.merge_runs.new.self c.cut_at.new.self _ (computed_chain (edges_in c.merge_runs.new.self))
+    (omega arith)
     (cut_in_rounds (edges_in c.args.self.now) (edges_in c.merge_runs.new.self)
-    (forward_content g.I.IntNumber.limit (edges_in c.merge_runs.new.self) c.merge_runs.ensures.content) c.in_ok-merge_runs.ensures.ok
+    (forward_content g.I.IntNumber.limit (edges_in c.merge_runs.new.self) c.merge_runs.ensures.content)
+    c.in_ok-merge_runs.ensures.ok
     (not_settled c.in-Some.is c.in_ok-meetings.ensures.settled) (edges_in c.cut_at.new.self)
     c.in_ok-is_rounded.ensures.ok)
     c.in_ok-merge_runs.ensures.carried c.in_ok-is_rounded.ensures.carried
@@ -113,7 +116,8 @@ returns-in_ok-merge_runs-2-clause-split g n c =
     c.in_ok-is_rounded.ensures.ok in
     let settled = settled_where_whole (edges_in c.args.self.now) (edges_in c.merge_runs.new.self)
     (edges_in c.cut_at.new.self) (edges_in c.merge_runs-else-is_rounded.new.self)
-    (forward_content g.I.IntNumber.limit (edges_in c.merge_runs.new.self) c.merge_runs.ensures.content) c.in_ok-merge_runs.ensures.ok
+    (forward_content g.I.IntNumber.limit (edges_in c.merge_runs.new.self) c.merge_runs.ensures.content)
+    c.in_ok-merge_runs.ensures.ok
     unsettled (c.in_ok-is_rounded.ensures.rounded.0 c.if-is_rounded.false) c.in_ok-is_rounded.ensures.ok
     c.in_ok-merge_runs-2.ensures.ok in
     split_on Rounds (c.args.rounds - 1) c.args.rounds _ _ _ (omega arith) first
@@ -129,14 +133,17 @@ returns-in_ok-merge_runs-2-clause-carried g n c =
     not_settled c.in-Some.is c.in_ok-meetings.ensures.settled in
     let settled = settled_where_whole (edges_in c.args.self.now) (edges_in c.merge_runs.new.self)
     (edges_in c.cut_at.new.self) (edges_in c.merge_runs-else-is_rounded.new.self)
-    (forward_content g.I.IntNumber.limit (edges_in c.merge_runs.new.self) c.merge_runs.ensures.content) c.in_ok-merge_runs.ensures.ok
+    (forward_content g.I.IntNumber.limit (edges_in c.merge_runs.new.self) c.merge_runs.ensures.content)
+    c.in_ok-merge_runs.ensures.ok
     unsettled (c.in_ok-is_rounded.ensures.rounded.0 c.if-is_rounded.false) c.in_ok-is_rounded.ensures.ok
     c.in_ok-merge_runs-2.ensures.ok in
     carried_on g.C.EdgeCount.merges g.C.EdgeCount.splits g.C.EdgeCount.reverses Rounds
     (c.args.rounds - 1) c.args.rounds
-    c.args.self.now c.merge_runs.new.self c.cut_at.new.self _ (computed_chain (edges_in c.merge_runs.new.self)) (omega arith)
+    c.args.self.now c.merge_runs.new.self c.cut_at.new.self _ (computed_chain (edges_in c.merge_runs.new.self))
+    (omega arith)
     (cut_in_rounds (edges_in c.args.self.now) (edges_in c.merge_runs.new.self)
-    (forward_content g.I.IntNumber.limit (edges_in c.merge_runs.new.self) c.merge_runs.ensures.content) c.in_ok-merge_runs.ensures.ok
+    (forward_content g.I.IntNumber.limit (edges_in c.merge_runs.new.self) c.merge_runs.ensures.content)
+    c.in_ok-merge_runs.ensures.ok
     unsettled (edges_in c.cut_at.new.self) c.in_ok-is_rounded.ensures.ok)
     c.in_ok-merge_runs.ensures.carried c.in_ok-is_rounded.ensures.carried
     (carried_at_once g.C.EdgeCount.merges g.C.EdgeCount.splits g.C.EdgeCount.reverses (c.args.rounds - 1)

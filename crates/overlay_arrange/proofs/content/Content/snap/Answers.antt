@@ -19,8 +19,10 @@ returns-in_default-clause-split g c = split_at_once 1 _ _ c.in_ok-merge_runs.ens
 
 pub returns-in_default-clause-carried : goal.returns-in_default-clause-carried
 returns-in_default-clause-carried g c =
-    carried_at_once g.C.EdgeCount.merges g.C.EdgeCount.splits g.C.EdgeCount.reverses 1 c.args.self.now c.merge_runs.new.self
-    c.in_ok-merge_runs.ensures.ok (c.in_ok-meetings.ensures.settled.0 c.in_default.is) c.in_ok-merge_runs.ensures.carried
+    carried_at_once g.C.EdgeCount.merges g.C.EdgeCount.splits g.C.EdgeCount.reverses 1 c.args.self.now
+    c.merge_runs.new.self
+    c.in_ok-merge_runs.ensures.ok (c.in_ok-meetings.ensures.settled.0 c.in_default.is)
+    c.in_ok-merge_runs.ensures.carried
 
 pub returns-in_err-lead_once-clause-too_many : goal.returns-in_err-lead_once-clause-too_many
 returns-in_err-lead_once-clause-too_many g c = λ same.
@@ -35,7 +37,8 @@ returns-clause-carried g c =
     snapped_carrying g.C.EdgeCount.merges g.C.EdgeCount.splits g.C.EdgeCount.reverses g.I.IntNumber.limit
     c.args.self.now c.merge_runs.new.self c.merge_runs.ensures.content c.in_ok-merge_runs.ensures.ok
     (not_settled c.in-Some.is c.in_ok-meetings.ensures.settled) c.lead_once.new.self c.merge_runs-2.new.self
-    c.note_limits.ensures c.in_ok-merge_runs.ensures.carried c.in_ok-lead_once.ensures.ok c.in_ok-merge_runs-2.ensures.ok
+    c.note_limits.ensures c.in_ok-merge_runs.ensures.carried c.in_ok-lead_once.ensures.ok
+    c.in_ok-merge_runs-2.ensures.ok
     c.in_ok-merge_runs-2.ensures.carried
 
 pub returns-clause-split : goal.returns-clause-split
@@ -43,7 +46,8 @@ returns-clause-split g c =
     (snapped_carrying g.C.EdgeCount.merges g.C.EdgeCount.splits g.C.EdgeCount.reverses g.I.IntNumber.limit
     c.args.self.now c.merge_runs.new.self c.merge_runs.ensures.content c.in_ok-merge_runs.ensures.ok
     (not_settled c.in-Some.is c.in_ok-meetings.ensures.settled) c.lead_once.new.self c.merge_runs-2.new.self
-    c.note_limits.ensures c.in_ok-merge_runs.ensures.carried c.in_ok-lead_once.ensures.ok c.in_ok-merge_runs-2.ensures.ok
+    c.note_limits.ensures c.in_ok-merge_runs.ensures.carried c.in_ok-lead_once.ensures.ok
+    c.in_ok-merge_runs-2.ensures.ok
     c.in_ok-merge_runs-2.ensures.carried).split
 
 pub returns-clause-cut : goal.returns-clause-cut
