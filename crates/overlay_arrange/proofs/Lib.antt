@@ -7,6 +7,7 @@ pub mod CarriedLoop
 pub mod CarriedMerges
 pub mod CarriedPieces
 pub mod CarriedRuns
+pub mod CarriedShuffles
 pub mod ChangedEdges
 pub mod CountedEnds
 pub mod Crossings
@@ -17,6 +18,7 @@ pub mod EndSums
 pub mod ExtentBlocks
 pub mod FarEdges
 pub mod FilledVectors
+pub mod FilteredShuffles
 pub mod FirstEdges
 pub mod GatheredMeetings
 pub mod GatheredPixels
@@ -57,6 +59,7 @@ pub mod SideBits
 pub mod SnappedThrough
 pub mod SnapsTaken
 pub mod SolverRounds
+pub mod SortedMerges
 pub mod SortedPoints
 pub mod SpanWithin
 pub mod StartsTogether

@@ -1,14 +1,17 @@
 -- Merging keeps a builder's content within its bounds.
 use Rattle.std.proofs.Common.{◌≡◌, ℕ, true, false, List, get_or, ap, subst, ◌∙◌, arith, inl, inr}
 use Rattle.std.specs.List.{All}
+use Rattle.std.specs.List.Sorted.{IsPermutation}
 use Rattle.std.proofs.lemmas.Bool.{both_ways}
 use Rattle.std.proofs.lemmas.List.Elements.{All-contains}
+use Rattle.std.proofs.lemmas.List.Sorted.{All-permutation}
 use Rattle.overlay_geom.specs.Plane.{Edge, point_lt}
 use Rattle.overlay_geom.specs.Points.{InRange}
 use Rattle.overlay_geom.specs.Edges.{CountedEdge, ends_of, counts_nothing}
 use Rattle.overlay_geom.specs.Merged.{joined_edge, IsMerged}
 use Rattle.overlay_geom.proofs.Between.{find_between}
 use Rattle.overlay_geom.proofs.Merging.{joined_none}
+use Rattle.overlay_geom.proofs.Shuffled.{weight_shuffled}
 use Rattle.overlay_geom.proofs.Weights.{weight_of_merged}
 use Rattle.overlay_arrange.specs.Content.{IsHeld, IsContent}
 
@@ -36,4 +39,12 @@ pub IsContent-merged : (limit : ℕ) (old new : List CountedEdge) → IsContent 
 IsContent-merged limit old new content merged = record {
   held = λ k d l. IsHeld-joined limit old content.held (get_or new k d) (merged.joined k d l).0 (merged.joined k d l).1;
   light = omega (arith, weight_of_merged old new merged, content.light);
+}
+
+-- a builder may hold a content in another order
+pub IsContent-shuffled : (limit : ℕ) (old new : List CountedEdge) → IsPermutation old new → IsContent limit old →
+    IsContent limit new
+IsContent-shuffled limit old new shuffled content = record {
+  held = All-permutation (IsHeld limit) old new shuffled content.held;
+  light = omega (arith, weight_shuffled old new shuffled, content.light);
 }

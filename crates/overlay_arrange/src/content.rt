@@ -19,7 +19,7 @@ use crate::count::EdgeCount;
 use crate::edge::CountedEdge;
 use crate::fill_rule::FillRule;
 use crate::graph::Graph;
-use crate::merge::{merge, weight_of};
+use crate::merge::{merge, merge_runs, weight_of};
 use overlay_geom::error::OverlayError;
 use overlay_geom::number::IntNumber;
 use std::alloc::{AllocError, Allocator};
@@ -148,6 +148,21 @@ impl<I: IntNumber, C: EdgeCount, A: Allocator> Content<I, C, A> {
         ensures store { IsStoreReached C.writes store.old store.new }
     {
         let merged = merge(&mut self.edges, store);
+        self.weight = weight_of(&self.edges);
+        merged
+    }
+
+    /// Merges equal edges as `merge` does, in less time where the edges are few runs dealt out among each other.
+    pub(crate) fn merge_runs(&mut self, store: &mut C::Store) -> Result<(), OverlayError>
+    where
+        A: Clone,
+        ensures ok { OnOk result (IsMerged (edges_in self.old) (edges_in self.new)) }
+        ensures carried { OnOk result (CarriesMerged C.merges self.old self.new) }
+        ensures content { IsContent I.limit (edges_in self.new) }
+        ensures store { IsStoreReached C.writes store.old store.new }
+        ensures err { IsOkUnless result OverlayError.Memory }
+    {
+        let merged = merge_runs(&mut self.edges, store);
         self.weight = weight_of(&self.edges);
         merged
     }

@@ -31,6 +31,7 @@ mod snap;
 mod snapping;
 pub mod sort_leaders;
 pub mod sort_numbers;
+mod sort_piles;
 pub mod sort_runs;
 mod spans;
 mod starting_edge;

@@ -95,7 +95,7 @@ impl<I: IntNumber, C: EdgeCount, A: Allocator + Clone> Content<I, C, A> {
             → WeighsTooMuch Rounds rounds (2 ^ 31) (edges_in self.old) }
         ensures usable { result ≢ Err OverlayError.Failed }
     {
-        self.merge(store)?;
+        self.merge_runs(store)?;
         let Some((meetings, is_open)) = self.open_meetings(before)? else {
             return Ok(false);
         };
@@ -107,7 +107,7 @@ impl<I: IntNumber, C: EdgeCount, A: Allocator + Clone> Content<I, C, A> {
             self.split_since(rounds - 1, Some(Settling { edges, is_open }), store)?;
         } else {
             // (no point was rounded, so the pieces meet in ends alone)
-            self.merge(store)?;
+            self.merge_runs(store)?;
         }
         Ok(true)
     }

@@ -40,12 +40,12 @@ impl<I: IntNumber, C: EdgeCount, A: Allocator + Clone> Content<I, C, A> {
     {
         // (its contract says that the edges lead forward)
         self.note_limits();
-        self.merge(store)?;
+        self.merge_runs(store)?;
         let Some((meetings, _)) = self.open_meetings(None)? else {
             return Ok(false);
         };
         self.lead_once(meetings, store)?;
-        self.merge(store)?;
+        self.merge_runs(store)?;
         Ok(true)
     }
     /// Leads each edge through whole points, once. Where all meeting points are whole, it takes the edge's meeting

@@ -29,48 +29,48 @@ leaves_cut limit old es new content merged unsettled is = leaves_of_taken Rounds
     (cut_in_rounds old es (forward_content limit es content) merged unsettled new is)
 
 pub open_meetings-requires-clause-ascending : goal.open_meetings-requires-clause-ascending
-open_meetings-requires-clause-ascending g n c = c.in_ok-merge.ensures.ok.ascending
+open_meetings-requires-clause-ascending g n c = c.in_ok-merge_runs.ensures.ok.ascending
 
 pub returns-in_default-clause-split : goal.returns-in_default-clause-split
-returns-in_default-clause-split g n c = split_at_once c.args.rounds _ _ c.in_ok-merge.ensures.ok
+returns-in_default-clause-split g n c = split_at_once c.args.rounds _ _ c.in_ok-merge_runs.ensures.ok
     (c.in_ok-meetings.ensures.settled.0 c.in_default.is)
 
 pub returns-then-rounds-eq0-clause-not_settled : goal.returns-then-rounds-eq0-clause-not_settled
 returns-then-rounds-eq0-clause-not_settled g n c = λ same. unsettled_at_once c.args.rounds _ _
-    (omega arith) c.in_ok-merge.ensures.ok
+    (omega arith) c.in_ok-merge_runs.ensures.ok
     (not_settled c.in-Some.is c.in_ok-meetings.ensures.settled)
 
 pub returns-in_err-is_rounded-clause-too_many : goal.returns-in_err-is_rounded-clause-too_many
 returns-in_err-is_rounded-clause-too_many g n c = λ same.
     let passed = err_from_is_err_and c.from_residual-in_err-is_rounded.result
     c.from_residual-in_err-is_rounded.ensures.1 in
-    let first = leaves_cut g.I.IntNumber.limit (edges_in c.args.self.now) (edges_in c.merge.new.self)
-    (cut_edges (edges_in c.merge.new.self)) c.merge.ensures.content c.in_ok-merge.ensures.ok
+    let first = leaves_cut g.I.IntNumber.limit (edges_in c.args.self.now) (edges_in c.merge_runs.new.self)
+    (cut_edges (edges_in c.merge_runs.new.self)) c.merge_runs.ensures.content c.in_ok-merge_runs.ensures.ok
     (not_settled c.in-Some.is c.in_ok-meetings.ensures.settled)
     refl in
     heavy_at_once Rounds 2147483648 c.args.rounds _ _ (omega arith) first (c.in_err-is_rounded.ensures.too_many (cc))
 
 pub returns-in_ok-split_since-clause-split : goal.returns-in_ok-split_since-clause-split
 returns-in_ok-split_since-clause-split g n c =
-    let first = leaves_cut g.I.IntNumber.limit (edges_in c.args.self.now) (edges_in c.merge.new.self)
-    (edges_in c.cut_at.new.self) c.merge.ensures.content c.in_ok-merge.ensures.ok
+    let first = leaves_cut g.I.IntNumber.limit (edges_in c.args.self.now) (edges_in c.merge_runs.new.self)
+    (edges_in c.cut_at.new.self) c.merge_runs.ensures.content c.in_ok-merge_runs.ensures.ok
     (not_settled c.in-Some.is c.in_ok-meetings.ensures.settled) c.in_ok-is_rounded.ensures.ok in
     split_on Rounds (c.args.rounds - 1) c.args.rounds _ _ _ (omega arith) first c.in_ok-split_since.ensures.split
 
 pub returns-in_default-clause-cut : goal.returns-in_default-clause-cut
-returns-in_default-clause-cut g n c = uncut_where_settled c.in_ok-merge.ensures.ok
+returns-in_default-clause-cut g n c = uncut_where_settled c.in_ok-merge_runs.ensures.ok
     (c.in_ok-meetings.ensures.settled.0 c.in_default.is)
 
 pub returns-in_ok-split_since-clause-cut : goal.returns-in_ok-split_since-clause-cut
-returns-in_ok-split_since-clause-cut g n c = cut_where_unsettled c.in_ok-merge.ensures.ok
+returns-in_ok-split_since-clause-cut g n c = cut_where_unsettled c.in_ok-merge_runs.ensures.ok
     (not_settled c.in-Some.is c.in_ok-meetings.ensures.settled)
 
 pub returns-in_err-split_since-clause-not_settled : goal.returns-in_err-split_since-clause-not_settled
 returns-in_err-split_since-clause-not_settled g n c = λ same.
     let passed = err_from_is_err_and c.from_residual-in_err-split_since.result
     c.from_residual-in_err-split_since.ensures.1 in
-    let first = leaves_cut g.I.IntNumber.limit (edges_in c.args.self.now) (edges_in c.merge.new.self)
-    (edges_in c.cut_at.new.self) c.merge.ensures.content c.in_ok-merge.ensures.ok
+    let first = leaves_cut g.I.IntNumber.limit (edges_in c.args.self.now) (edges_in c.merge_runs.new.self)
+    (edges_in c.cut_at.new.self) c.merge_runs.ensures.content c.in_ok-merge_runs.ensures.ok
     (not_settled c.in-Some.is c.in_ok-meetings.ensures.settled) c.in_ok-is_rounded.ensures.ok in
     unsettled_on (c.args.rounds - 1) c.args.rounds _ _ (omega arith) first
     (c.in_err-split_since.ensures.not_settled (cc))
@@ -79,8 +79,8 @@ pub returns-in_err-split_since-clause-too_many : goal.returns-in_err-split_since
 returns-in_err-split_since-clause-too_many g n c = λ same.
     let passed = err_from_is_err_and c.from_residual-in_err-split_since.result
     c.from_residual-in_err-split_since.ensures.1 in
-    let first = leaves_cut g.I.IntNumber.limit (edges_in c.args.self.now) (edges_in c.merge.new.self)
-    (edges_in c.cut_at.new.self) c.merge.ensures.content c.in_ok-merge.ensures.ok
+    let first = leaves_cut g.I.IntNumber.limit (edges_in c.args.self.now) (edges_in c.merge_runs.new.self)
+    (edges_in c.cut_at.new.self) c.merge_runs.ensures.content c.in_ok-merge_runs.ensures.ok
     (not_settled c.in-Some.is c.in_ok-meetings.ensures.settled) c.in_ok-is_rounded.ensures.ok in
     heavy_on Rounds 2147483648 (c.args.rounds - 1) c.args.rounds _ _ (omega arith) first
     (c.in_err-split_since.ensures.too_many (cc))
@@ -88,86 +88,93 @@ returns-in_err-split_since-clause-too_many g n c = λ same.
 pub returns-in_default-clause-carried : goal.returns-in_default-clause-carried
 returns-in_default-clause-carried g n c =
     carried_at_once g.C.EdgeCount.merges g.C.EdgeCount.splits g.C.EdgeCount.reverses c.args.rounds c.args.self.now
-    c.merge.new.self
-    c.in_ok-merge.ensures.ok (c.in_ok-meetings.ensures.settled.0 c.in_default.is) c.in_ok-merge.ensures.carried
+    c.merge_runs.new.self
+    c.in_ok-merge_runs.ensures.ok (c.in_ok-meetings.ensures.settled.0 c.in_default.is)
+    c.in_ok-merge_runs.ensures.carried
 
 pub returns-in_ok-split_since-clause-carried : goal.returns-in_ok-split_since-clause-carried
 returns-in_ok-split_since-clause-carried g n c =
     carried_on g.C.EdgeCount.merges g.C.EdgeCount.splits g.C.EdgeCount.reverses Rounds
     (c.args.rounds - 1) c.args.rounds
-    c.args.self.now c.merge.new.self c.cut_at.new.self _ (computed_chain (edges_in c.merge.new.self)) (omega arith)
-    (cut_in_rounds (edges_in c.args.self.now) (edges_in c.merge.new.self)
-    (forward_content g.I.IntNumber.limit (edges_in c.merge.new.self) c.merge.ensures.content) c.in_ok-merge.ensures.ok
+    c.args.self.now c.merge_runs.new.self c.cut_at.new.self _ (computed_chain (edges_in c.merge_runs.new.self))
+    (omega arith)
+    (cut_in_rounds (edges_in c.args.self.now) (edges_in c.merge_runs.new.self)
+    (forward_content g.I.IntNumber.limit (edges_in c.merge_runs.new.self) c.merge_runs.ensures.content)
+    c.in_ok-merge_runs.ensures.ok
     (not_settled c.in-Some.is c.in_ok-meetings.ensures.settled) (edges_in c.cut_at.new.self)
     c.in_ok-is_rounded.ensures.ok)
-    c.in_ok-merge.ensures.carried c.in_ok-is_rounded.ensures.carried
+    c.in_ok-merge_runs.ensures.carried c.in_ok-is_rounded.ensures.carried
     c.in_ok-split_since.ensures.carried
 
 -- where no point was rounded, the pieces, merged, are settled
-pub returns-in_ok-merge-2-clause-split : goal.returns-in_ok-merge-2-clause-split
-returns-in_ok-merge-2-clause-split g n c =
-    let unsettled : ¬ (IsSettled (edges_in c.merge.new.self)) =
+pub returns-in_ok-merge_runs-2-clause-split : goal.returns-in_ok-merge_runs-2-clause-split
+returns-in_ok-merge_runs-2-clause-split g n c =
+    let unsettled : ¬ (IsSettled (edges_in c.merge_runs.new.self)) =
     not_settled c.in-Some.is c.in_ok-meetings.ensures.settled in
-    let first = leaves_cut g.I.IntNumber.limit (edges_in c.args.self.now) (edges_in c.merge.new.self)
-    (edges_in c.cut_at.new.self) c.merge.ensures.content c.in_ok-merge.ensures.ok unsettled
+    let first = leaves_cut g.I.IntNumber.limit (edges_in c.args.self.now) (edges_in c.merge_runs.new.self)
+    (edges_in c.cut_at.new.self) c.merge_runs.ensures.content c.in_ok-merge_runs.ensures.ok unsettled
     c.in_ok-is_rounded.ensures.ok in
-    let settled = settled_where_whole (edges_in c.args.self.now) (edges_in c.merge.new.self)
-    (edges_in c.cut_at.new.self) (edges_in c.merge-else-is_rounded.new.self)
-    (forward_content g.I.IntNumber.limit (edges_in c.merge.new.self) c.merge.ensures.content) c.in_ok-merge.ensures.ok
+    let settled = settled_where_whole (edges_in c.args.self.now) (edges_in c.merge_runs.new.self)
+    (edges_in c.cut_at.new.self) (edges_in c.merge_runs-else-is_rounded.new.self)
+    (forward_content g.I.IntNumber.limit (edges_in c.merge_runs.new.self) c.merge_runs.ensures.content)
+    c.in_ok-merge_runs.ensures.ok
     unsettled (c.in_ok-is_rounded.ensures.rounded.0 c.if-is_rounded.false) c.in_ok-is_rounded.ensures.ok
-    c.in_ok-merge-2.ensures.ok in
+    c.in_ok-merge_runs-2.ensures.ok in
     split_on Rounds (c.args.rounds - 1) c.args.rounds _ _ _ (omega arith) first
-    (split_at_once (c.args.rounds - 1) _ _ c.in_ok-merge-2.ensures.ok settled)
+    (split_at_once (c.args.rounds - 1) _ _ c.in_ok-merge_runs-2.ensures.ok settled)
 
-pub returns-in_ok-merge-2-clause-cut : goal.returns-in_ok-merge-2-clause-cut
-returns-in_ok-merge-2-clause-cut g n c = cut_where_unsettled c.in_ok-merge.ensures.ok
+pub returns-in_ok-merge_runs-2-clause-cut : goal.returns-in_ok-merge_runs-2-clause-cut
+returns-in_ok-merge_runs-2-clause-cut g n c = cut_where_unsettled c.in_ok-merge_runs.ensures.ok
     (not_settled c.in-Some.is c.in_ok-meetings.ensures.settled)
 
-pub returns-in_ok-merge-2-clause-carried : goal.returns-in_ok-merge-2-clause-carried
-returns-in_ok-merge-2-clause-carried g n c =
-    let unsettled : ¬ (IsSettled (edges_in c.merge.new.self)) =
+pub returns-in_ok-merge_runs-2-clause-carried : goal.returns-in_ok-merge_runs-2-clause-carried
+returns-in_ok-merge_runs-2-clause-carried g n c =
+    let unsettled : ¬ (IsSettled (edges_in c.merge_runs.new.self)) =
     not_settled c.in-Some.is c.in_ok-meetings.ensures.settled in
-    let settled = settled_where_whole (edges_in c.args.self.now) (edges_in c.merge.new.self)
-    (edges_in c.cut_at.new.self) (edges_in c.merge-else-is_rounded.new.self)
-    (forward_content g.I.IntNumber.limit (edges_in c.merge.new.self) c.merge.ensures.content) c.in_ok-merge.ensures.ok
+    let settled = settled_where_whole (edges_in c.args.self.now) (edges_in c.merge_runs.new.self)
+    (edges_in c.cut_at.new.self) (edges_in c.merge_runs-else-is_rounded.new.self)
+    (forward_content g.I.IntNumber.limit (edges_in c.merge_runs.new.self) c.merge_runs.ensures.content)
+    c.in_ok-merge_runs.ensures.ok
     unsettled (c.in_ok-is_rounded.ensures.rounded.0 c.if-is_rounded.false) c.in_ok-is_rounded.ensures.ok
-    c.in_ok-merge-2.ensures.ok in
+    c.in_ok-merge_runs-2.ensures.ok in
     carried_on g.C.EdgeCount.merges g.C.EdgeCount.splits g.C.EdgeCount.reverses Rounds
     (c.args.rounds - 1) c.args.rounds
-    c.args.self.now c.merge.new.self c.cut_at.new.self _ (computed_chain (edges_in c.merge.new.self)) (omega arith)
-    (cut_in_rounds (edges_in c.args.self.now) (edges_in c.merge.new.self)
-    (forward_content g.I.IntNumber.limit (edges_in c.merge.new.self) c.merge.ensures.content) c.in_ok-merge.ensures.ok
+    c.args.self.now c.merge_runs.new.self c.cut_at.new.self _ (computed_chain (edges_in c.merge_runs.new.self))
+    (omega arith)
+    (cut_in_rounds (edges_in c.args.self.now) (edges_in c.merge_runs.new.self)
+    (forward_content g.I.IntNumber.limit (edges_in c.merge_runs.new.self) c.merge_runs.ensures.content)
+    c.in_ok-merge_runs.ensures.ok
     unsettled (edges_in c.cut_at.new.self) c.in_ok-is_rounded.ensures.ok)
-    c.in_ok-merge.ensures.carried c.in_ok-is_rounded.ensures.carried
+    c.in_ok-merge_runs.ensures.carried c.in_ok-is_rounded.ensures.carried
     (carried_at_once g.C.EdgeCount.merges g.C.EdgeCount.splits g.C.EdgeCount.reverses (c.args.rounds - 1)
-    c.cut_at.new.self c.merge-else-is_rounded.new.self
-    c.in_ok-merge-2.ensures.ok settled c.in_ok-merge-2.ensures.carried)
+    c.cut_at.new.self c.merge_runs-else-is_rounded.new.self
+    c.in_ok-merge_runs-2.ensures.ok settled c.in_ok-merge_runs-2.ensures.carried)
 
 -- the store is reached by merging, cutting and the later rounds
 pub returns-in_err-is_rounded-clause-store : goal.returns-in_err-is_rounded-clause-store
 returns-in_err-is_rounded-clause-store g n c =
-    reached_on g.C.EdgeCount.writes _ _ _ c.in_ok-merge.ensures.store c.in_err-is_rounded.ensures.store
+    reached_on g.C.EdgeCount.writes _ _ _ c.in_ok-merge_runs.ensures.store c.in_err-is_rounded.ensures.store
 
 pub returns-in_ok-split_since-clause-store : goal.returns-in_ok-split_since-clause-store
 returns-in_ok-split_since-clause-store g n c =
     let writes = g.C.EdgeCount.writes in
-    reached_on writes _ _ _ (reached_on writes _ _ _ c.in_ok-merge.ensures.store c.in_ok-is_rounded.ensures.store)
+    reached_on writes _ _ _ (reached_on writes _ _ _ c.in_ok-merge_runs.ensures.store c.in_ok-is_rounded.ensures.store)
     c.in_ok-split_since.ensures.store
 
 pub returns-in_err-split_since-clause-store : goal.returns-in_err-split_since-clause-store
 returns-in_err-split_since-clause-store g n c =
     let writes = g.C.EdgeCount.writes in
-    reached_on writes _ _ _ (reached_on writes _ _ _ c.in_ok-merge.ensures.store c.in_ok-is_rounded.ensures.store)
+    reached_on writes _ _ _ (reached_on writes _ _ _ c.in_ok-merge_runs.ensures.store c.in_ok-is_rounded.ensures.store)
     c.in_err-split_since.ensures.store
 
-pub returns-in_ok-merge-2-clause-store : goal.returns-in_ok-merge-2-clause-store
-returns-in_ok-merge-2-clause-store g n c =
+pub returns-in_ok-merge_runs-2-clause-store : goal.returns-in_ok-merge_runs-2-clause-store
+returns-in_ok-merge_runs-2-clause-store g n c =
     let writes = g.C.EdgeCount.writes in
-    reached_on writes _ _ _ (reached_on writes _ _ _ c.in_ok-merge.ensures.store c.in_ok-is_rounded.ensures.store)
-    c.in_ok-merge-2.ensures.store
+    reached_on writes _ _ _ (reached_on writes _ _ _ c.in_ok-merge_runs.ensures.store c.in_ok-is_rounded.ensures.store)
+    c.in_ok-merge_runs-2.ensures.store
 
-pub returns-in_err-merge-2-clause-store : goal.returns-in_err-merge-2-clause-store
-returns-in_err-merge-2-clause-store g n c =
+pub returns-in_err-merge_runs-2-clause-store : goal.returns-in_err-merge_runs-2-clause-store
+returns-in_err-merge_runs-2-clause-store g n c =
     let writes = g.C.EdgeCount.writes in
-    reached_on writes _ _ _ (reached_on writes _ _ _ c.in_ok-merge.ensures.store c.in_ok-is_rounded.ensures.store)
-    c.in_err-merge-2.ensures.store
+    reached_on writes _ _ _ (reached_on writes _ _ _ c.in_ok-merge_runs.ensures.store c.in_ok-is_rounded.ensures.store)
+    c.in_err-merge_runs-2.ensures.store

@@ -14,55 +14,59 @@ not_settled : {X : Type 0} {found : Option X} {x : X} {P : Type 0} → found ≡
 not_settled is law settled = let none = sym is ∙ law.1 settled in absurd (cc)
 
 pub returns-in_default-clause-split : goal.returns-in_default-clause-split
-returns-in_default-clause-split g c = split_at_once 1 _ _ c.in_ok-merge.ensures.ok
+returns-in_default-clause-split g c = split_at_once 1 _ _ c.in_ok-merge_runs.ensures.ok
     (c.in_ok-meetings.ensures.settled.0 c.in_default.is)
 
 pub returns-in_default-clause-carried : goal.returns-in_default-clause-carried
 returns-in_default-clause-carried g c =
-    carried_at_once g.C.EdgeCount.merges g.C.EdgeCount.splits g.C.EdgeCount.reverses 1 c.args.self.now c.merge.new.self
-    c.in_ok-merge.ensures.ok (c.in_ok-meetings.ensures.settled.0 c.in_default.is) c.in_ok-merge.ensures.carried
+    carried_at_once g.C.EdgeCount.merges g.C.EdgeCount.splits g.C.EdgeCount.reverses 1 c.args.self.now
+    c.merge_runs.new.self
+    c.in_ok-merge_runs.ensures.ok (c.in_ok-meetings.ensures.settled.0 c.in_default.is)
+    c.in_ok-merge_runs.ensures.carried
 
 pub returns-in_err-lead_once-clause-too_many : goal.returns-in_err-lead_once-clause-too_many
 returns-in_err-lead_once-clause-too_many g c = λ same.
     let passed = err_from_is_err_and c.from_residual-in_err-lead_once.result
     c.from_residual-in_err-lead_once.ensures.1 in
     heavy_by_snapping g.C.EdgeCount.merges g.C.EdgeCount.splits g.C.EdgeCount.reverses g.I.IntNumber.limit
-    c.args.self.now c.merge.new.self c.merge.ensures.content c.in_ok-merge.ensures.ok
+    c.args.self.now c.merge_runs.new.self c.merge_runs.ensures.content c.in_ok-merge_runs.ensures.ok
     (not_settled c.in-Some.is c.in_ok-meetings.ensures.settled) 2147483648 (c.in_err-lead_once.ensures.too_many (cc))
 
 pub returns-clause-carried : goal.returns-clause-carried
 returns-clause-carried g c =
     snapped_carrying g.C.EdgeCount.merges g.C.EdgeCount.splits g.C.EdgeCount.reverses g.I.IntNumber.limit
-    c.args.self.now c.merge.new.self c.merge.ensures.content c.in_ok-merge.ensures.ok
-    (not_settled c.in-Some.is c.in_ok-meetings.ensures.settled) c.lead_once.new.self c.merge-2.new.self
-    c.note_limits.ensures c.in_ok-merge.ensures.carried c.in_ok-lead_once.ensures.ok c.in_ok-merge-2.ensures.ok
-    c.in_ok-merge-2.ensures.carried
+    c.args.self.now c.merge_runs.new.self c.merge_runs.ensures.content c.in_ok-merge_runs.ensures.ok
+    (not_settled c.in-Some.is c.in_ok-meetings.ensures.settled) c.lead_once.new.self c.merge_runs-2.new.self
+    c.note_limits.ensures c.in_ok-merge_runs.ensures.carried c.in_ok-lead_once.ensures.ok
+    c.in_ok-merge_runs-2.ensures.ok
+    c.in_ok-merge_runs-2.ensures.carried
 
 pub returns-clause-split : goal.returns-clause-split
 returns-clause-split g c =
     (snapped_carrying g.C.EdgeCount.merges g.C.EdgeCount.splits g.C.EdgeCount.reverses g.I.IntNumber.limit
-    c.args.self.now c.merge.new.self c.merge.ensures.content c.in_ok-merge.ensures.ok
-    (not_settled c.in-Some.is c.in_ok-meetings.ensures.settled) c.lead_once.new.self c.merge-2.new.self
-    c.note_limits.ensures c.in_ok-merge.ensures.carried c.in_ok-lead_once.ensures.ok c.in_ok-merge-2.ensures.ok
-    c.in_ok-merge-2.ensures.carried).split
+    c.args.self.now c.merge_runs.new.self c.merge_runs.ensures.content c.in_ok-merge_runs.ensures.ok
+    (not_settled c.in-Some.is c.in_ok-meetings.ensures.settled) c.lead_once.new.self c.merge_runs-2.new.self
+    c.note_limits.ensures c.in_ok-merge_runs.ensures.carried c.in_ok-lead_once.ensures.ok
+    c.in_ok-merge_runs-2.ensures.ok
+    c.in_ok-merge_runs-2.ensures.carried).split
 
 pub returns-clause-cut : goal.returns-clause-cut
-returns-clause-cut g c = cut_where_unsettled c.in_ok-merge.ensures.ok
+returns-clause-cut g c = cut_where_unsettled c.in_ok-merge_runs.ensures.ok
     (not_settled c.in-Some.is c.in_ok-meetings.ensures.settled)
 
 -- the store is reached by merging, leading the edges, and merging again
 pub returns-in_err-lead_once-clause-store : goal.returns-in_err-lead_once-clause-store
 returns-in_err-lead_once-clause-store g c =
-    reached_on g.C.EdgeCount.writes _ _ _ c.in_ok-merge.ensures.store c.in_err-lead_once.ensures.store
+    reached_on g.C.EdgeCount.writes _ _ _ c.in_ok-merge_runs.ensures.store c.in_err-lead_once.ensures.store
 
-pub returns-in_err-merge-2-clause-store : goal.returns-in_err-merge-2-clause-store
-returns-in_err-merge-2-clause-store g c =
+pub returns-in_err-merge_runs-2-clause-store : goal.returns-in_err-merge_runs-2-clause-store
+returns-in_err-merge_runs-2-clause-store g c =
     let writes = g.C.EdgeCount.writes in
-    reached_on writes _ _ _ (reached_on writes _ _ _ c.in_ok-merge.ensures.store c.in_ok-lead_once.ensures.store)
-    c.in_err-merge-2.ensures.store
+    reached_on writes _ _ _ (reached_on writes _ _ _ c.in_ok-merge_runs.ensures.store c.in_ok-lead_once.ensures.store)
+    c.in_err-merge_runs-2.ensures.store
 
 pub returns-clause-store : goal.returns-clause-store
 returns-clause-store g c =
     let writes = g.C.EdgeCount.writes in
-    reached_on writes _ _ _ (reached_on writes _ _ _ c.in_ok-merge.ensures.store c.in_ok-lead_once.ensures.store)
-    c.in_ok-merge-2.ensures.store
+    reached_on writes _ _ _ (reached_on writes _ _ _ c.in_ok-merge_runs.ensures.store c.in_ok-lead_once.ensures.store)
+    c.in_ok-merge_runs-2.ensures.store
