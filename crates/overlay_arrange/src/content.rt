@@ -153,14 +153,13 @@ impl<I: IntNumber, C: EdgeCount, A: Allocator> Content<I, C, A> {
     }
 
     /// Merges equal edges as `merge` does, in less time where the edges are few runs dealt out among each other.
-    pub(crate) fn merge_runs(&mut self, store: &mut C::Store) -> Result<(), OverlayError>
+    pub(crate) fn merge_runs(&mut self, store: &mut C::Store) -> Result<(), AllocError>
     where
         A: Clone,
         ensures ok { OnOk result (IsMerged (edges_in self.old) (edges_in self.new)) }
         ensures carried { OnOk result (CarriesMerged C.merges self.old self.new) }
         ensures content { IsContent I.limit (edges_in self.new) }
         ensures store { IsStoreReached C.writes store.old store.new }
-        ensures err { IsOkUnless result OverlayError.Memory }
     {
         let merged = merge_runs(&mut self.edges, store);
         self.weight = weight_of(&self.edges);

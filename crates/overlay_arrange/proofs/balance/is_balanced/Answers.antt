@@ -28,13 +28,13 @@ cancel_out-requires g c =
 pub returns : goal.returns
 returns g c = record {
   balanced = let whole = g.I.IntNumber.whole in
-    let es = plain_edges whole g.C.EdgeCount.counts c.args.edges.now in
-    let sorted = c.sort_by.new.self.items in
-    let moved = subst (λ ns. IsPermutation ns (plain_ends whole sorted)) c.in_ok-ends.ensures.ok
-    (IsPermutation-map (plain_end whole) c.in_ok-ends.ends.items sorted c.in_ok-sort_by.ensures.permutation) in (
-      λ t. balanced_where_cancelled es (plain_ends whole sorted) moved
-          (subst (λ ns. CancelOut (plain_ends whole ns)) c.deref.ensures.value (c.cancel_out.ensures.0 t)),
-      λ balanced. c.cancel_out.ensures.1 (subst (λ ns. CancelOut (plain_ends whole ns)) (sym c.deref.ensures.value)
-          (cancelled_where_balanced es (plain_ends whole sorted) moved balanced)),
-    );
+      let es = plain_edges whole g.C.EdgeCount.counts c.args.edges.now in
+      let sorted = c.sort_by.new.self.items in
+      let moved = subst (λ ns. IsPermutation ns (plain_ends whole sorted)) c.in_ok-ends.ensures.ok
+      (IsPermutation-map (plain_end whole) c.in_ok-ends.ends.items sorted c.in_ok-sort_by.ensures.permutation) in (
+        λ t. balanced_where_cancelled es (plain_ends whole sorted) moved
+            (subst (λ ns. CancelOut (plain_ends whole ns)) c.deref.ensures.value (c.cancel_out.ensures.0 t)),
+        λ balanced. c.cancel_out.ensures.1 (subst (λ ns. CancelOut (plain_ends whole ns)) (sym c.deref.ensures.value)
+            (cancelled_where_balanced es (plain_ends whole sorted) moved balanced)),
+      );
 }

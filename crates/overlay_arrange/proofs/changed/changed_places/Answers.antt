@@ -29,8 +29,8 @@ loop-i-preserved g c =
 pub returns : goal.returns
 returns g c = record {
   ok = let all : c.loop-i.i ≡ length c.args.edges.now = (let up = c.loop-i.auto.i-end in
-    omega (arith, up, c.loop-i-test.false)) in
-    subst (λ n. AreChangedBefore (plain_edges g.I.IntNumber.whole g.C.EdgeCount.counts c.args.edges.now)
-    (plain_edges g.I.IntNumber.whole g.C.EdgeCount.counts c.args.before.now) c.args.is_open.now n
-    c.loop-i.places.items) all c.loop-i.invariant;
+      omega (arith, up, c.loop-i-test.false)) in
+      subst (λ n. AreChangedBefore (plain_edges g.I.IntNumber.whole g.C.EdgeCount.counts c.args.edges.now)
+      (plain_edges g.I.IntNumber.whole g.C.EdgeCount.counts c.args.before.now) c.args.is_open.now n
+      c.loop-i.places.items) all c.loop-i.invariant;
 }

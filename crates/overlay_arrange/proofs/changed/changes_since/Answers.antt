@@ -51,19 +51,19 @@ strips_of-requires-clause-ascending g c =
 pub returns : goal.returns
 returns g c = record {
   ok = let whole = g.I.IntNumber.whole in
-    let counts = g.C.EdgeCount.counts in
-    let es = plain_edges whole counts c.args.edges.now in
-    let before = edges_in c.in-Some.before.edges in
-    let opens = c.in-Some.before.is_open.items in
-    let places = c.in_ok-places.places.items in
-    let cs = plain_edges whole counts c.in_ok-changed.changed.items in
-    let l = length-map c.args.edges.now (plain_edge whole counts) in
-    let known : AreOpenIn before opens = subst (λ o. IfSome o (λ s. AreOpenIn (edges_in s.edges) s.is_open.items))
-    c.in-Some.is c.requires.before in
-    let found : AreChangedBefore es before opens (length c.args.edges.now) places =
-    rw (← c.edges.ensures.plain, ← c.deref.ensures.value) c.in_ok-places.ensures.ok in
-    let stand : StandAt es places cs = rw (← c.deref-2.ensures.value) c.in_ok-changed.ensures.ok in
-    let changes = changes_found es c.requires.ascending before opens known (length c.args.edges.now) places cs
-    (omega (arith, l)) found stand in
-    record { changes = changes; strips = rw (← c.deref-3.ensures.value) c.in_ok-strips.ensures.ok };
+      let counts = g.C.EdgeCount.counts in
+      let es = plain_edges whole counts c.args.edges.now in
+      let before = edges_in c.in-Some.before.edges in
+      let opens = c.in-Some.before.is_open.items in
+      let places = c.in_ok-places.places.items in
+      let cs = plain_edges whole counts c.in_ok-changed.changed.items in
+      let l = length-map c.args.edges.now (plain_edge whole counts) in
+      let known : AreOpenIn before opens = subst (λ o. IfSome o (λ s. AreOpenIn (edges_in s.edges) s.is_open.items))
+      c.in-Some.is c.requires.before in
+      let found : AreChangedBefore es before opens (length c.args.edges.now) places =
+      rw (← c.edges.ensures.plain, ← c.deref.ensures.value) c.in_ok-places.ensures.ok in
+      let stand : StandAt es places cs = rw (← c.deref-2.ensures.value) c.in_ok-changed.ensures.ok in
+      let changes = changes_found es c.requires.ascending before opens known (length c.args.edges.now) places cs
+      (omega (arith, l)) found stand in
+      record { changes = changes; strips = rw (← c.deref-3.ensures.value) c.in_ok-strips.ensures.ok };
 }

@@ -26,6 +26,6 @@ loop-k-preserved g c =
 pub returns : goal.returns
 returns g c = record {
   ok = all_stand (plain_edges g.I.IntNumber.whole g.C.EdgeCount.counts c.args.edges.now) c.args.places.now c.loop-k.k
-    (plain_edges g.I.IntNumber.whole g.C.EdgeCount.counts c.loop-k.found.items)
-    (let up = c.loop-k.auto.k-end in omega (arith, up, c.loop-k-test.false)) c.loop-k.invariant;
+      (plain_edges g.I.IntNumber.whole g.C.EdgeCount.counts c.loop-k.found.items)
+      (let up = c.loop-k.auto.k-end in omega (arith, up, c.loop-k-test.false)) c.loop-k.invariant;
 }

@@ -8,9 +8,9 @@ use Rattle.overlay_arrange.proofs.crossing.push_ends.Goals as goal
 pub returns : goal.returns
 returns g c = record {
   ok = let e = plain_edge g.I.IntNumber.whole g.C.EdgeCount.counts c.args.e.now in
-    let f = plain_edge g.I.IntNumber.whole g.C.EdgeCount.counts c.args.f.now in
-    on_ok_weaker c.push_ends_between-2.result
-    (ends_added c.args.i e c.args.j f ((Decides-point_lt e.a e.b).0 c.requires.one.forward) c.requires.along
-    c.in_ok-push_ends_between.ensures.ok)
-    c.push_ends_between-2.ensures.ok;
+      let f = plain_edge g.I.IntNumber.whole g.C.EdgeCount.counts c.args.f.now in
+      on_ok_weaker c.push_ends_between-2.result
+      (ends_added c.args.i e c.args.j f ((Decides-point_lt e.a e.b).0 c.requires.one.forward) c.requires.along
+      c.in_ok-push_ends_between.ensures.ok)
+      c.push_ends_between-2.ensures.ok;
 }

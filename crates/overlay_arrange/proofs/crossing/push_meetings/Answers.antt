@@ -8,8 +8,8 @@ use Rattle.overlay_arrange.proofs.crossing.push_meetings.Goals as goal
 pub returns-in-Beside : goal.returns-in-Beside
 returns-in-Beside g c = record {
   ok = let whole = g.I.IntNumber.whole in
-    let e = plain_edge whole g.C.EdgeCount.counts c.args.e.now in
-    let f = plain_edge whole g.C.EdgeCount.counts c.args.f.now in
-    none_where_beside c.args.i e c.args.j f (plain_meetings whole c.args.meetings.now.items)
-    ((Decides-point_lt f.a f.b).0 c.requires.other.forward) c.in-Beside.ensures;
+      let e = plain_edge whole g.C.EdgeCount.counts c.args.e.now in
+      let f = plain_edge whole g.C.EdgeCount.counts c.args.f.now in
+      none_where_beside c.args.i e c.args.j f (plain_meetings whole c.args.meetings.now.items)
+      ((Decides-point_lt f.a f.b).0 c.requires.other.forward) c.in-Beside.ensures;
 }

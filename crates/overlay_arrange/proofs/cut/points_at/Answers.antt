@@ -11,13 +11,13 @@ use Rattle.overlay_arrange.proofs.cut.points_at.Goals as goal
 pub returns : goal.returns
 returns g c = record {
   ok = let whole = g.I.IntNumber.whole in
-    let low = c.run_at-low.result.0 in
-    let high = c.run_at-low.result.1 in
-    points_of_run (plain_meetings whole c.args.meetings.now) c.args.i
-    (ends_of (plain_edge whole g.C.EdgeCount.counts c.args.e.now)) low high
-    (plain_points whole c.in_ok-points.points.items) (plain_points whole c.sort_along.new.points.items)
-    c.run_at-low.ensures
-    (c.in_ok-points.ensures.ok ∙ ap (map (λ (m : Meeting). m.point))
-    (mapped_range (plain_meeting whole) c.args.meetings.now low high))
-    c.in_ok-sort_along.ensures.ok;
+      let low = c.run_at-low.result.0 in
+      let high = c.run_at-low.result.1 in
+      points_of_run (plain_meetings whole c.args.meetings.now) c.args.i
+      (ends_of (plain_edge whole g.C.EdgeCount.counts c.args.e.now)) low high
+      (plain_points whole c.in_ok-points.points.items) (plain_points whole c.sort_along.new.points.items)
+      c.run_at-low.ensures
+      (c.in_ok-points.ensures.ok ∙ ap (map (λ (m : Meeting). m.point))
+      (mapped_range (plain_meeting whole) c.args.meetings.now low high))
+      c.in_ok-sort_along.ensures.ok;
 }

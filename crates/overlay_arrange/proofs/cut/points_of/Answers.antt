@@ -15,5 +15,5 @@ loop-m-preserved g c =
 pub returns : goal.returns
 returns g c = record {
   ok = c.loop-m.invariant ∙ ap (map (λ (m : Meeting). m.point))
-    (mapped_whole (plain_meeting g.I.IntNumber.whole) c.args.meetings.now c.loop-m.m-index c.loop-m-test.false);
+      (mapped_whole (plain_meeting g.I.IntNumber.whole) c.args.meetings.now c.loop-m.m-index c.loop-m-test.false);
 }

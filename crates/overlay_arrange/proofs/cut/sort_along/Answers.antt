@@ -10,10 +10,10 @@ use Rattle.overlay_arrange.proofs.cut.sort_along.Goals as goal
 pub returns : goal.returns
 returns g c = record {
   ok = let whole = g.I.IntNumber.whole in
-    let e = ends_of (plain_edge whole g.C.EdgeCount.counts c.args.e.now) in
-    sorted_along whole e c.args.points.now.items c.sort_by.new.self.items c.sort_by.ensures.permutation
-    (c.in_ok-sort_by.ensures.sorted (held_first whole e) (held_first-order whole e)
-    (always_returns_same _ _ _ (λ a r f k.
-    let answer : is_lt r ≡ held_first whole e a.0.now a.1.0.now = search rules in
-    (answer, search rules))));
+      let e = ends_of (plain_edge whole g.C.EdgeCount.counts c.args.e.now) in
+      sorted_along whole e c.args.points.now.items c.sort_by.new.self.items c.sort_by.ensures.permutation
+      (c.in_ok-sort_by.ensures.sorted (held_first whole e) (held_first-order whole e)
+      (always_returns_same _ _ _ (λ a r f k.
+      let answer : is_lt r ≡ held_first whole e a.0.now a.1.0.now = search rules in
+      (answer, search rules))));
 }

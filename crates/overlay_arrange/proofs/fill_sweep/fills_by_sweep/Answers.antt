@@ -131,23 +131,23 @@ loop-i-preserved g c =
 pub returns : goal.returns
 returns g c = record {
   ok = let whole = g.I.IntNumber.whole in
-    let counts = g.C.EdgeCount.counts in
-    let ss = c.in_ok-starting.starting.items in
-    let fs = plain_starts whole counts ss in
-    let ns = numbered_starts whole counts ss in
-    let es = plain_edges whole counts c.args.edges.now in
-    let by = c.in_ok-starting.ensures.ok in
-    let items : map (λ (n : Numbered CountedEdge). n.item) ns ≡ fs = map-map (λ (n : Numbered CountedEdge). n.item)
-    (numbered_start whole counts) ss in
-    let i = c.loop-i.i in
-    let fills = c.loop-i.fills.items in
-    let size = c.in_ok-starting.starting.ok.0 in
-    let counted = c.len-i-end.ensures in
-    let test = c.loop-i-test.false in
-    let sides = c.loop-i.invariant.0 ∙ sym (length-map c.args.edges.now (plain_edge whole counts)) in
-    let past : length ns ≤ i = let l = length-map ss (numbered_start whole counts) in omega arith in
-    told_by_function (fill_bits c.args.rule es) es fills sides
-    (λ k x y lt. all_told (λ f m. m ≡ fill_bits c.args.rule fs f) 0 es ns (numbered_shuffled es ns by.permutation) fills
-    sides i past c.loop-i.invariant.2 k x y lt
-    ∙ bits_shuffled es fs (subst (IsPermutation es) items (starts_permuted es ns by)) c.args.rule (get_or es k x));
+      let counts = g.C.EdgeCount.counts in
+      let ss = c.in_ok-starting.starting.items in
+      let fs = plain_starts whole counts ss in
+      let ns = numbered_starts whole counts ss in
+      let es = plain_edges whole counts c.args.edges.now in
+      let by = c.in_ok-starting.ensures.ok in
+      let items : map (λ (n : Numbered CountedEdge). n.item) ns ≡ fs = map-map (λ (n : Numbered CountedEdge). n.item)
+      (numbered_start whole counts) ss in
+      let i = c.loop-i.i in
+      let fills = c.loop-i.fills.items in
+      let size = c.in_ok-starting.starting.ok.0 in
+      let counted = c.len-i-end.ensures in
+      let test = c.loop-i-test.false in
+      let sides = c.loop-i.invariant.0 ∙ sym (length-map c.args.edges.now (plain_edge whole counts)) in
+      let past : length ns ≤ i = let l = length-map ss (numbered_start whole counts) in omega arith in
+      told_by_function (fill_bits c.args.rule es) es fills sides
+      (λ k x y lt. all_told (λ f m. m ≡ fill_bits c.args.rule fs f) 0 es ns (numbered_shuffled es ns by.permutation) fills
+      sides i past c.loop-i.invariant.2 k x y lt
+      ∙ bits_shuffled es fs (subst (IsPermutation es) items (starts_permuted es ns by)) c.args.rule (get_or es k x));
 }

@@ -12,17 +12,17 @@ use Rattle.overlay_arrange.proofs.hot.hot_points.Goals as goal
 pub returns : goal.returns
 returns g c = record {
   ok = let whole = g.I.IntNumber.whole in
-    let es = plain_edges whole g.C.EdgeCount.counts c.args.edges.now in
-    let ms = plain_meetings whole c.args.meetings.now in
-    let sorted = plain_points whole c.sort_points.new.points.items in
-    let listed : plain_points whole c.push_points.new.points.items ≡ ends_and_met es ms c.requires =
-    c.in_ok-push_points.ensures.ok
-    ∙ ap (λ (vs : List Point). vs ++ map (λ (m : Meeting). m.point) ms)
-    (c.in_ok-push_ends.ensures.ok
-    ∙ ap (λ (vs : List Point). vs ++ map (λ (e : CountedEdge). e.b) es)
-    (c.in_ok-push_starts.ensures.ok
-    ∙ ap (λ vs. plain_points whole vs ++ map (λ (e : CountedEdge). e.a) es) c.new-points.ensures.items)) in
-    are_hot_points es ms c.requires sorted
-    (subst (λ (us : List Point). HaveSameMembers us sorted) listed c.in_ok-sort_points.ensures.members)
-    c.in_ok-sort_points.ensures.ascending;
+      let es = plain_edges whole g.C.EdgeCount.counts c.args.edges.now in
+      let ms = plain_meetings whole c.args.meetings.now in
+      let sorted = plain_points whole c.sort_points.new.points.items in
+      let listed : plain_points whole c.push_points.new.points.items ≡ ends_and_met es ms c.requires =
+      c.in_ok-push_points.ensures.ok
+      ∙ ap (λ (vs : List Point). vs ++ map (λ (m : Meeting). m.point) ms)
+      (c.in_ok-push_ends.ensures.ok
+      ∙ ap (λ (vs : List Point). vs ++ map (λ (e : CountedEdge). e.b) es)
+      (c.in_ok-push_starts.ensures.ok
+      ∙ ap (λ vs. plain_points whole vs ++ map (λ (e : CountedEdge). e.a) es) c.new-points.ensures.items)) in
+      are_hot_points es ms c.requires sorted
+      (subst (λ (us : List Point). HaveSameMembers us sorted) listed c.in_ok-sort_points.ensures.members)
+      c.in_ok-sort_points.ensures.ascending;
 }

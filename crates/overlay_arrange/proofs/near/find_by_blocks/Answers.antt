@@ -23,17 +23,17 @@ loop-at-init g c =
 pub returns : goal.returns
 returns g c = record {
   ok = let width = c.args.strips.now.width in
-    let extents = c.args.strips.now.edges.items in
-    let ss = plain_extents g.I.IntNumber.whole extents in
-    let of = plain_extent g.I.IntNumber.whole c.args.of in
-    let stop = c.on_by-stop.result in
-    let js = c.loop-at.near.items in
-    let count : length ss ≡ length extents = length-map extents (plain_extent g.I.IntNumber.whole) in
-    let ends : (stop ≡ length ss) ⊎ (stop ≡ c.args.of.last / width * width + width) = ⊎_elim
-    (λ (all : stop ≡ c.len.result). inl (let l = c.len.ensures in omega (arith, all, l, count))) (λ next. inr next)
-    c.on_by-stop.ensures.ends in
-    subst (λ n. IsSearchedTo ss of n js) count
-    (searched_past ss of stop (length ss) js
-    (strips_behind_apart width c.requires.some ss of c.requires.strips stop ends)
-    (searched_before ss of c.loop-at.at stop js c.loop-at-test.false c.loop-at.invariant.1));
+      let extents = c.args.strips.now.edges.items in
+      let ss = plain_extents g.I.IntNumber.whole extents in
+      let of = plain_extent g.I.IntNumber.whole c.args.of in
+      let stop = c.on_by-stop.result in
+      let js = c.loop-at.near.items in
+      let count : length ss ≡ length extents = length-map extents (plain_extent g.I.IntNumber.whole) in
+      let ends : (stop ≡ length ss) ⊎ (stop ≡ c.args.of.last / width * width + width) = ⊎_elim
+      (λ (all : stop ≡ c.len.result). inl (let l = c.len.ensures in omega (arith, all, l, count))) (λ next. inr next)
+      c.on_by-stop.ensures.ends in
+      subst (λ n. IsSearchedTo ss of n js) count
+      (searched_past ss of stop (length ss) js
+      (strips_behind_apart width c.requires.some ss of c.requires.strips stop ends)
+      (searched_before ss of c.loop-at.at stop js c.loop-at-test.false c.loop-at.invariant.1));
 }

@@ -13,9 +13,9 @@ use Rattle.overlay_arrange.proofs.near.find_near_behind.Goals as goal
 pub returns-then-end-from-lt-FEW : goal.returns-then-end-from-lt-FEW
 returns-then-end-from-lt-FEW g c = record {
   ok = on_ok_weaker c.take_run.result
-    (run_near (plain_edges g.I.IntNumber.whole g.C.EdgeCount.counts c.args.edges.now) c.args.from c.run_end-end.result
-    (plain_edge g.I.IntNumber.whole g.C.EdgeCount.counts c.args.e.now) g.I.IntNumber.limit c.requires.held
-    c.requires.one c.requires.ascending c.run_end-end.ensures c.take_run.new.near.items) c.take_run.ensures.ok;
+      (run_near (plain_edges g.I.IntNumber.whole g.C.EdgeCount.counts c.args.edges.now) c.args.from c.run_end-end.result
+      (plain_edge g.I.IntNumber.whole g.C.EdgeCount.counts c.args.e.now) g.I.IntNumber.limit c.requires.held
+      c.requires.one c.requires.ascending c.run_end-end.ensures c.take_run.new.near.items) c.take_run.ensures.ok;
 }
 
 pub find_by_blocks-requires-clause-within : goal.find_by_blocks-requires-clause-within
@@ -36,16 +36,16 @@ find_by_blocks-requires-clause-within g c =
 pub returns-else-end-from-lt-FEW : goal.returns-else-end-from-lt-FEW
 returns-else-end-from-lt-FEW g c = record {
   ok = let whole = g.I.IntNumber.whole in
-    let plain = plain_edge whole g.C.EdgeCount.counts in
-    let es = plain_edges whole g.C.EdgeCount.counts c.args.edges.now in
-    let e = plain c.args.e.now in
-    let end = c.run_end-end.result in
-    let extents = c.args.strips.now.edges.items in
-    let ss = plain_extents whole extents in
-    let js = c.find_by_blocks.new.near.items in
-    on_ok_weaker c.find_by_blocks.result
-    (λ searched. searched_near es c.args.from end e g.I.IntNumber.limit c.requires.held c.requires.one
-    c.requires.ascending c.run_end-end.ensures ss js c.requires.strips.permutation
-    (subst (λ n. IsSearchedTo ss (run_of e c.args.from end) n js) (sym (length-map extents (plain_extent whole)))
-    (subst (λ s. IsSearchedTo ss s (length extents) js) c.run_of.ensures searched))) c.find_by_blocks.ensures.ok;
+      let plain = plain_edge whole g.C.EdgeCount.counts in
+      let es = plain_edges whole g.C.EdgeCount.counts c.args.edges.now in
+      let e = plain c.args.e.now in
+      let end = c.run_end-end.result in
+      let extents = c.args.strips.now.edges.items in
+      let ss = plain_extents whole extents in
+      let js = c.find_by_blocks.new.near.items in
+      on_ok_weaker c.find_by_blocks.result
+      (λ searched. searched_near es c.args.from end e g.I.IntNumber.limit c.requires.held c.requires.one
+      c.requires.ascending c.run_end-end.ensures ss js c.requires.strips.permutation
+      (subst (λ n. IsSearchedTo ss (run_of e c.args.from end) n js) (sym (length-map extents (plain_extent whole)))
+      (subst (λ s. IsSearchedTo ss s (length extents) js) c.run_of.ensures searched))) c.find_by_blocks.ensures.ok;
 }

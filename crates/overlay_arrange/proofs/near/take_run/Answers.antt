@@ -23,6 +23,6 @@ loop-j-preserved g c =
 pub returns : goal.returns
 returns g c = record {
   ok = let same : c.loop-j.j ≡ c.args.to = (let up = c.loop-j.invariant.1 in let past = c.loop-j-test.false in
-    omega (arith, up, past)) in
-    subst (λ n. AreBetween c.args.from n c.loop-j.near.items) same c.loop-j.invariant.2;
+      omega (arith, up, past)) in
+      subst (λ n. AreBetween c.args.from n c.loop-j.near.items) same c.loop-j.invariant.2;
 }

@@ -36,7 +36,7 @@ loop-k-preserved g c =
 pub returns : goal.returns
 returns g c = record {
   ok = let same : c.loop-k.k ≡ c.args.to = (let up = c.loop-k.invariant.1 in let past = c.loop-k-test.false in
-    omega (arith, up, past)) in
-    subst (λ n. AddsPlaces (plain_extents g.I.IntNumber.whole c.args.strips.now) c.args.from n c.args.near.now.items
-    c.loop-k.near.items) same c.loop-k.invariant.2;
+      omega (arith, up, past)) in
+      subst (λ n. AddsPlaces (plain_extents g.I.IntNumber.whole c.args.strips.now) c.args.from n c.args.near.now.items
+      c.loop-k.near.items) same c.loop-k.invariant.2;
 }

@@ -15,14 +15,14 @@ place_above-high-requires-clause-upwards g c = λ j k s t past le less at_s at_t
 pub returns : goal.returns
 returns g c = record {
   ok = let whole = g.I.IntNumber.whole in
-    let e = plain_edge whole g.C.EdgeCount.counts c.args.e.now in
-    let low = c.place_not_below-low.result in
-    let high = c.place_above-high.result in
-    let ends = c.x_along-first.result in
-    on_ok_weaker c.push_places.result
-    (run_added (whole c.args.left) (whole c.args.right) (whole ends.0) (whole ends.1) e
-    (plain_extents whole c.args.strips.now) c.args.from low high c.args.to
-    c.args.near.now.items c.push_places.new.near.items ((Decides-point_lt e.a e.b).0 c.requires.one.forward).x
-    c.place_not_below-low.ensures.ordered c.place_above-high.ensures.within c.x_along-first.ensures.between
-    c.place_not_below-low.ensures.below c.place_above-high.ensures.above) c.push_places.ensures.ok;
+      let e = plain_edge whole g.C.EdgeCount.counts c.args.e.now in
+      let low = c.place_not_below-low.result in
+      let high = c.place_above-high.result in
+      let ends = c.x_along-first.result in
+      on_ok_weaker c.push_places.result
+      (run_added (whole c.args.left) (whole c.args.right) (whole ends.0) (whole ends.1) e
+      (plain_extents whole c.args.strips.now) c.args.from low high c.args.to
+      c.args.near.now.items c.push_places.new.near.items ((Decides-point_lt e.a e.b).0 c.requires.one.forward).x
+      c.place_not_below-low.ensures.ordered c.place_above-high.ensures.within c.x_along-first.ensures.between
+      c.place_not_below-low.ensures.below c.place_above-high.ensures.above) c.push_places.ensures.ok;
 }

@@ -9,12 +9,12 @@ use Rattle.overlay_arrange.proofs.settle.is_settled.Goals as goal
 pub returns : goal.returns
 returns g c = record {
   ok = let count = c.in_ok-count.count in
-    let all = length c.args.edges.now in
-    let decides = Decides-eqb count all in
-    let law = settled_where_counted (plain_edges g.I.IntNumber.whole g.C.EdgeCount.counts c.args.edges.now) count all
-    (length-map c.args.edges.now (plain_edge g.I.IntNumber.whole g.C.EdgeCount.counts)) c.requires.ascending
-    c.in_ok-count.ensures.ok c.in_ok-count.ensures.most in (
-      λ is. law.0 (decides.0 is),
-      λ settled. decides.1 (law.1 settled),
-    );
+      let all = length c.args.edges.now in
+      let decides = Decides-eqb count all in
+      let law = settled_where_counted (plain_edges g.I.IntNumber.whole g.C.EdgeCount.counts c.args.edges.now) count all
+      (length-map c.args.edges.now (plain_edge g.I.IntNumber.whole g.C.EdgeCount.counts)) c.requires.ascending
+      c.in_ok-count.ensures.ok c.in_ok-count.ensures.most in (
+        λ is. law.0 (decides.0 is),
+        λ settled. decides.1 (law.1 settled),
+      );
 }

@@ -97,11 +97,11 @@ loop-end-preserved g c =
 pub returns : goal.returns
 returns g c = record {
   ok = let whole = g.I.IntNumber.whole in
-    let vs = plain_points whole c.args.hot.now in
-    let e = plain_edge whole g.C.EdgeCount.counts c.args.e.now in
-    let ss = plain_extents whole c.args.strips.now in
-    search_done vs e c.args.width ss c.requires.strips ((Decides-point_lt e.a e.b).0 c.requires.one.forward).x
-    c.loop-end.at c.loop-end.near.items (c.goes_on.ensures.right c.loop-end-test.false) c.loop-end.invariant.1
-    (length_permutation (extents_of_points vs) ss c.requires.strips.permutation ∙ as_many_placed extent_of_point vs)
-    c.loop-end.invariant.2;
+      let vs = plain_points whole c.args.hot.now in
+      let e = plain_edge whole g.C.EdgeCount.counts c.args.e.now in
+      let ss = plain_extents whole c.args.strips.now in
+      search_done vs e c.args.width ss c.requires.strips ((Decides-point_lt e.a e.b).0 c.requires.one.forward).x
+      c.loop-end.at c.loop-end.near.items (c.goes_on.ensures.right c.loop-end-test.false) c.loop-end.invariant.1
+      (length_permutation (extents_of_points vs) ss c.requires.strips.permutation ∙ as_many_placed extent_of_point vs)
+      c.loop-end.invariant.2;
 }

@@ -31,7 +31,7 @@ loop-k-preserved g c =
 pub returns : goal.returns
 returns g c = record {
   ok = let whole = g.I.IntNumber.whole in
-    subst (λ (us : List Point). AddsMet c.args.i (plain_edge whole g.C.EdgeCount.counts c.args.e.now) us
-    (plain_meetings whole c.args.meetings.now.items) (plain_meetings whole c.loop-k.meetings.items))
-    (mapped_whole (plain_point whole) c.args.points.now c.loop-k.k c.loop-k-test.false) c.loop-k.invariant;
+      subst (λ (us : List Point). AddsMet c.args.i (plain_edge whole g.C.EdgeCount.counts c.args.e.now) us
+      (plain_meetings whole c.args.meetings.now.items) (plain_meetings whole c.loop-k.meetings.items))
+      (mapped_whole (plain_point whole) c.args.points.now c.loop-k.k c.loop-k-test.false) c.loop-k.invariant;
 }

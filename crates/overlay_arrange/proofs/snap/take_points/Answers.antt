@@ -32,6 +32,6 @@ loop-k-preserved g c =
 pub returns : goal.returns
 returns g c = record {
   ok = c.loop-k.invariant
-    ∙ mapped_whole (λ j. get_or (plain_points g.I.IntNumber.whole c.args.hot.now) j origin) c.args.ranks.now
-    c.loop-k.k c.loop-k-test.false;
+      ∙ mapped_whole (λ j. get_or (plain_points g.I.IntNumber.whole c.args.hot.now) j origin) c.args.ranks.now
+      c.loop-k.k c.loop-k-test.false;
 }

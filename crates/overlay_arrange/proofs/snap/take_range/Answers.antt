@@ -7,7 +7,7 @@ use Rattle.overlay_arrange.proofs.snap.take_range.Goals as goal
 pub returns : goal.returns
 returns g c = record {
   ok = let whole = g.I.IntNumber.whole in
-    ap (plain_points whole) (c.in_ok-extend_from_slice.ensures.items
-    ∙ ap (λ l. l ++ slice_range c.args.hot.now c.args.low c.args.high) c.clear.ensures.items)
-    ∙ mapped_range (plain_point whole) c.args.hot.now c.args.low c.args.high;
+      ap (plain_points whole) (c.in_ok-extend_from_slice.ensures.items
+      ∙ ap (λ l. l ++ slice_range c.args.hot.now c.args.low c.args.high) c.clear.ensures.items)
+      ∙ mapped_range (plain_point whole) c.args.hot.now c.args.low c.args.high;
 }

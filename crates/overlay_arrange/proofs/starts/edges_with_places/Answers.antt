@@ -34,6 +34,6 @@ loop-place-preserved g c =
 pub returns : goal.returns
 returns g c = record {
   ok = c.loop-place.invariant ∙ ap (numbered 0)
-    (mapped_whole (plain_edge g.I.IntNumber.whole g.C.EdgeCount.counts) c.args.edges.now c.loop-place.place
-    c.loop-place-test.false);
+      (mapped_whole (plain_edge g.I.IntNumber.whole g.C.EdgeCount.counts) c.args.edges.now c.loop-place.place
+      c.loop-place-test.false);
 }

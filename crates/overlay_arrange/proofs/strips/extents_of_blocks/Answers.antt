@@ -39,7 +39,7 @@ loop-i-preserved g c =
 pub returns : goal.returns
 returns g c = record {
   ok = let plain = plain_extents g.I.IntNumber.whole in
-    let l = length-map c.args.extents.now (plain_extent g.I.IntNumber.whole) in
-    all_blocks (plain c.args.extents.now) (plain c.loop-i.blocks.items) c.loop-i.i
-    (omega (arith, l, c.loop-i-test.false)) c.loop-i.invariant;
+      let l = length-map c.args.extents.now (plain_extent g.I.IntNumber.whole) in
+      all_blocks (plain c.args.extents.now) (plain c.loop-i.blocks.items) c.loop-i.i
+      (omega (arith, l, c.loop-i-test.false)) c.loop-i.invariant;
 }

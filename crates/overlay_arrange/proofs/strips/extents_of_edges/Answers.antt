@@ -26,5 +26,5 @@ loop-place-preserved g c =
 pub returns : goal.returns
 returns g c = record {
   ok = c.loop-place.invariant ∙ ap extents_of (mapped_whole (plain_edge g.I.IntNumber.whole g.C.EdgeCount.counts)
-    c.args.edges.now c.loop-place.place c.loop-place-test.false);
+      c.args.edges.now c.loop-place.place c.loop-place-test.false);
 }

@@ -26,5 +26,5 @@ loop-place-preserved g c =
 pub returns : goal.returns
 returns g c = record {
   ok = c.loop-place.invariant ∙ ap extents_of_points (mapped_whole (plain_point g.I.IntNumber.whole)
-    c.args.points.now c.loop-place.place c.loop-place-test.false);
+      c.args.points.now c.loop-place.place c.loop-place-test.false);
 }
