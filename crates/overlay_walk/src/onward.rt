@@ -19,8 +19,7 @@ pub fn onward_places<I: IntNumber, A: Allocator>(
     alloc: A,
     steps: &[Step<I>],
     places: &[usize],
-) -> Result<Vec<usize, A>, AllocError>
-{
+) -> Result<Vec<usize, A>, AllocError> {
     let mut onward = Vec::new(alloc);
     if steps.len() >= LEAST_STEPS {
         onward.resize(steps.len(), 0)?;

@@ -18,18 +18,18 @@ thinned-requires g c =
 pub returns-then-keeps_points : goal.returns-then-keeps_points
 returns-then-keeps_points g c = record {
   ok = let whole = g.I.IntNumber.whole in
-    subst (λ k. IsKeptOrThinned k (points_of (plain_steps whole c.args.walk.now))
-    (plain_points whole c.in_ok-points.points.items))
-    (sym c.if-keeps_points.true) c.in_ok-points.ensures.ok;
+      subst (λ k. IsKeptOrThinned k (points_of (plain_steps whole c.args.walk.now))
+      (plain_points whole c.in_ok-points.points.items))
+      (sym c.if-keeps_points.true) c.in_ok-points.ensures.ok;
 }
 
 pub returns : goal.returns
 returns g c = record {
   ok = let whole = g.I.IntNumber.whole in
-    let given = points_of (plain_steps whole c.args.walk.now) in
-    let same = ap (plain_points whole) c.deref.ensures.value ∙ c.in_ok-points.ensures.ok in
-    IfOk-weaker c.thinned.result (λ v. IsThinned (plain_points whole c.deref.result.now) (plain_points whole v.items)) _
-    (λ v thin. subst (λ k. IsKeptOrThinned k given (plain_points whole v.items)) (sym c.if-keeps_points.false)
-    (subst (λ ps. IsThinned ps (plain_points whole v.items)) same thin))
-    c.thinned.ensures.ok;
+      let given = points_of (plain_steps whole c.args.walk.now) in
+      let same = ap (plain_points whole) c.deref.ensures.value ∙ c.in_ok-points.ensures.ok in
+      IfOk-weaker c.thinned.result (λ v. IsThinned (plain_points whole c.deref.result.now) (plain_points whole v.items)) _
+      (λ v thin. subst (λ k. IsKeptOrThinned k given (plain_points whole v.items)) (sym c.if-keeps_points.false)
+      (subst (λ ps. IsThinned ps (plain_points whole v.items)) same thin))
+      c.thinned.ensures.ok;
 }

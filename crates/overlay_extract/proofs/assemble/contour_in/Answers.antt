@@ -18,19 +18,19 @@ thinned-requires g c =
 pub returns-then-keeps_points : goal.returns-then-keeps_points
 returns-then-keeps_points g c = record {
   ok = let whole = g.I.IntNumber.whole in
-    let given = points_of (plain_steps whole c.args.walk.now) in
-    IfOk-weaker c.points_of.result (λ v. plain_points whole v.items ≡ given) _
-    (λ v same. subst (λ k. IsKeptOrThinned k given (plain_points whole v.items)) (sym c.if-keeps_points.true) same)
-    c.points_of.ensures.ok;
+      let given = points_of (plain_steps whole c.args.walk.now) in
+      IfOk-weaker c.points_of.result (λ v. plain_points whole v.items ≡ given) _
+      (λ v same. subst (λ k. IsKeptOrThinned k given (plain_points whole v.items)) (sym c.if-keeps_points.true) same)
+      c.points_of.ensures.ok;
 }
 
 pub returns : goal.returns
 returns g c = record {
   ok = let whole = g.I.IntNumber.whole in
-    let given = points_of (plain_steps whole c.args.walk.now) in
-    let same = ap (plain_points whole) c.deref.ensures.value ∙ c.in_ok-write_points.ensures.ok in
-    IfOk-weaker c.thinned.result (λ v. IsThinned (plain_points whole c.deref.result.now) (plain_points whole v.items)) _
-    (λ v thin. subst (λ k. IsKeptOrThinned k given (plain_points whole v.items)) (sym c.if-keeps_points.false)
-    (subst (λ ps. IsThinned ps (plain_points whole v.items)) same thin))
-    c.thinned.ensures.ok;
+      let given = points_of (plain_steps whole c.args.walk.now) in
+      let same = ap (plain_points whole) c.deref.ensures.value ∙ c.in_ok-write_points.ensures.ok in
+      IfOk-weaker c.thinned.result (λ v. IsThinned (plain_points whole c.deref.result.now) (plain_points whole v.items)) _
+      (λ v thin. subst (λ k. IsKeptOrThinned k given (plain_points whole v.items)) (sym c.if-keeps_points.false)
+      (subst (λ ps. IsThinned ps (plain_points whole v.items)) same thin))
+      c.thinned.ensures.ok;
 }

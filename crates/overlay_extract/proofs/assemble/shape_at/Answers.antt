@@ -72,8 +72,8 @@ loop-i-preserved g c =
 pub returns : goal.returns
 returns g c = record {
   shape = let whole = g.I.IntNumber.whole in
-    subst (λ ps. AllZip (IsKeptOrThinned c.args.keeps_points)
-    (map points_of (map (walk_at (plain_contours whole c.args.contours.now)) ps))
-    (paths_of_shape whole c.loop-i.shape.items))
-    (take_all c.loop-i.i c.args.places.now c.loop-i-test.false) c.loop-i.invariant;
+      subst (λ ps. AllZip (IsKeptOrThinned c.args.keeps_points)
+      (map points_of (map (walk_at (plain_contours whole c.args.contours.now)) ps))
+      (paths_of_shape whole c.loop-i.shape.items))
+      (take_all c.loop-i.i c.args.places.now c.loop-i-test.false) c.loop-i.invariant;
 }

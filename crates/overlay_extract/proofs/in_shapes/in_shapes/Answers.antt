@@ -46,6 +46,6 @@ loop-number-preserved g c =
 pub returns : goal.returns
 returns g c = record {
   ok = c.loop-number.invariant
-    ∙ ap (λ ls. group_contours_from 0 (walks_at (plain_contours g.I.IntNumber.whole c.args.contours.now) ls))
-    (mapped_whole (λ (ps : _). ps.items) c.args.places.now c.loop-number.number c.loop-number-test.false);
+      ∙ ap (λ ls. group_contours_from 0 (walks_at (plain_contours g.I.IntNumber.whole c.args.contours.now) ls))
+      (mapped_whole (λ (ps : _). ps.items) c.args.places.now c.loop-number.number c.loop-number-test.false);
 }

@@ -54,8 +54,8 @@ loop-i-preserved g c =
 pub returns : goal.returns
 returns g c = record {
   pushed = let whole = g.I.IntNumber.whole in
-    c.loop-i.invariant
-    ∙ ap (λ ps. plain_contours whole c.args.ordered.now.items
-    ++ contours_of_group c.args.number (map (walk_at (plain_contours whole c.args.contours.now)) ps))
-    (take_all c.loop-i.i c.args.places.now c.loop-i-test.false);
+      c.loop-i.invariant
+      ∙ ap (λ ps. plain_contours whole c.args.ordered.now.items
+      ++ contours_of_group c.args.number (map (walk_at (plain_contours whole c.args.contours.now)) ps))
+      (take_all c.loop-i.i c.args.places.now c.loop-i-test.false);
 }

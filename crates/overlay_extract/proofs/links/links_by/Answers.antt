@@ -44,6 +44,6 @@ loop-child-preserved g c =
 pub returns : goal.returns
 returns g c = record {
   ok = c.loop-child.invariant
-    ∙ ap (links_from (plain_contours g.I.IntNumber.whole c.args.contours.now) 0)
-    (take_all c.loop-child.child c.args.holes.now c.loop-child-test.false);
+      ∙ ap (links_from (plain_contours g.I.IntNumber.whole c.args.contours.now) 0)
+      (take_all c.loop-child.child c.args.holes.now c.loop-child-test.false);
 }

@@ -14,5 +14,5 @@ loop-l-preserved g c =
 pub returns : goal.returns
 returns g c = record {
   inside = c.loop-l.invariant ∙ mapped_whole is_inside c.args.locations.now c.loop-l.l-index
-    c.loop-l-test.false;
+      c.loop-l-test.false;
 }

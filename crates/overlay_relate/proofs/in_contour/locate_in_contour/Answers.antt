@@ -25,11 +25,11 @@ locate_by_sweep-requires-clause-contour g c =
 pub returns : goal.returns
 returns g c = record {
   located = let whole = g.I.IntNumber.whole in
-    let contour = plain_points whole c.args.contour.now in
-    let es = plain_edges whole c.deref-2.result.now in
-    answers_weaker (λ (q : Point) (l : PointLocation). IsLocatedBy es (in_plane q) l)
-    (λ (q : Point) (l : PointLocation). IsLocatedIn (contour ∷ []) (in_plane q) l)
-    (λ q l at. located_by_edges contour es (ap (plain_edges whole) c.deref-2.ensures.value
-    ∙ (c.in_ok-edges.ensures).edges) (in_plane q) l at)
-    (plain_points whole c.args.points.now) c.in_ok-answers.answers.items (c.in_ok-answers.ensures).located;
+      let contour = plain_points whole c.args.contour.now in
+      let es = plain_edges whole c.deref-2.result.now in
+      answers_weaker (λ (q : Point) (l : PointLocation). IsLocatedBy es (in_plane q) l)
+      (λ (q : Point) (l : PointLocation). IsLocatedIn (contour ∷ []) (in_plane q) l)
+      (λ q l at. located_by_edges contour es (ap (plain_edges whole) c.deref-2.ensures.value
+      ∙ (c.in_ok-edges.ensures).edges) (in_plane q) l at)
+      (plain_points whole c.args.points.now) c.in_ok-answers.answers.items (c.in_ok-answers.ensures).located;
 }

@@ -57,7 +57,7 @@ loop-contour-preserved g c =
 pub returns : goal.returns
 returns g c = record {
   located = let whole = g.I.IntNumber.whole in
-    subst (λ ss. AnswersWhere (IsLocatedIn ss) (plain_points whole c.args.points.now) c.loop-contour.located.items)
-    (mapped_whole (λ x. plain_points g.I.IntNumber.whole x.items) c.args.contours.now c.loop-contour.contour-index
-    c.loop-contour-test.false) c.loop-contour.invariant;
+      subst (λ ss. AnswersWhere (IsLocatedIn ss) (plain_points whole c.args.points.now) c.loop-contour.located.items)
+      (mapped_whole (λ x. plain_points g.I.IntNumber.whole x.items) c.args.contours.now c.loop-contour.contour-index
+      c.loop-contour-test.false) c.loop-contour.invariant;
 }

@@ -57,7 +57,7 @@ loop-shape-preserved g c =
 pub returns : goal.returns
 returns g c = record {
   located = let whole = g.I.IntNumber.whole in
-    subst (λ ss. AnswersWhere (IsLocatedAmong ss) (plain_points whole c.args.points.now) c.loop-shape.located.items)
-    (mapped_whole (λ x. paths_of_shape g.I.IntNumber.whole x.items) c.args.shapes.now c.loop-shape.shape-index
-    c.loop-shape-test.false) c.loop-shape.invariant;
+      subst (λ ss. AnswersWhere (IsLocatedAmong ss) (plain_points whole c.args.points.now) c.loop-shape.located.items)
+      (mapped_whole (λ x. paths_of_shape g.I.IntNumber.whole x.items) c.args.shapes.now c.loop-shape.shape-index
+      c.loop-shape-test.false) c.loop-shape.invariant;
 }

@@ -56,9 +56,9 @@ loop-i-preserved g c =
 pub returns : goal.returns
 returns g c = record {
   ok = let whole = g.I.IntNumber.whole in
-    let qs = plain_queries whole c.args.queries.now in
-    let past : length qs ≤ c.loop-i.i = rw length-map c.loop-i-test.false in
-    all_answered (IsAnswered (points_asked qs) c.args.answers.now) Outside (plain_points whole c.args.points.now) qs
-    c.requires.queries.numbered c.loop-i.ordered.items
-    (c.loop-i.invariant.0 ∙ sym (length-map c.args.points.now (plain_point whole))) c.loop-i.i past c.loop-i.invariant.1;
+      let qs = plain_queries whole c.args.queries.now in
+      let past : length qs ≤ c.loop-i.i = rw length-map c.loop-i-test.false in
+      all_answered (IsAnswered (points_asked qs) c.args.answers.now) Outside (plain_points whole c.args.points.now) qs
+      c.requires.queries.numbered c.loop-i.ordered.items
+      (c.loop-i.invariant.0 ∙ sym (length-map c.args.points.now (plain_point whole))) c.loop-i.i past c.loop-i.invariant.1;
 }

@@ -23,6 +23,6 @@ loop-query-preserved g c =
 pub returns : goal.returns
 returns g c = record {
   ok = let whole = g.I.IntNumber.whole in
-    c.loop-query.invariant ∙ ap points_asked
-    (mapped_whole (plain_query whole) c.args.queries.now c.loop-query.query-index c.loop-query-test.false);
+      c.loop-query.invariant ∙ ap points_asked
+      (mapped_whole (plain_query whole) c.args.queries.now c.loop-query.query-index c.loop-query-test.false);
 }

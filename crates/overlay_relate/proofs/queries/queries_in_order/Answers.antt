@@ -26,6 +26,6 @@ loop-place-preserved g c =
 pub returns : goal.returns
 returns g c = record {
   ok = let whole = g.I.IntNumber.whole in
-    c.loop-place.invariant ∙ ap (numbered 0)
-    (mapped_whole (plain_point whole) c.args.points.now c.loop-place.place c.loop-place-test.false);
+      c.loop-place.invariant ∙ ap (numbered 0)
+      (mapped_whole (plain_point whole) c.args.points.now c.loop-place.place c.loop-place-test.false);
 }

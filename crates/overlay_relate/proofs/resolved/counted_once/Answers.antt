@@ -23,5 +23,5 @@ loop-e-preserved g c =
 pub returns : goal.returns
 returns g c = record {
   ok = let whole = g.I.IntNumber.whole in
-    c.loop-e.invariant ∙ mapped_whole (plain_ends whole) c.args.edges.now c.loop-e.e-index c.loop-e-test.false;
+      c.loop-e.invariant ∙ mapped_whole (plain_ends whole) c.args.edges.now c.loop-e.e-index c.loop-e-test.false;
 }

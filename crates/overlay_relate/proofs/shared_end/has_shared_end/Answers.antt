@@ -18,26 +18,26 @@ use Rattle.overlay_relate.proofs.shared_end.has_shared_end.Goals as goal
 pub returns : goal.returns
 returns g c = record {
   ok = let whole = g.I.IntNumber.whole in
-    let rule = c.args.graph.now.fill_rule in
-    let es = graph_edges c.args.graph.now in
-    let sorted = c.sort_by.new.self.items in
-    let all = flat_map border_ends (map (vector_of rule es) es) in
-    let moved : IsPermutation all (plain_ends whole sorted) =
-    subst (λ ns. IsPermutation ns (plain_ends whole sorted)) (c.in_ok-ends.ensures.ok
-    ∙ ap (flat_map border_ends) c.edges.ensures.filled)
-    (IsPermutation-map (plain_end whole) c.in_ok-ends.ends.items sorted c.in_ok-sort_by.ensures.permutation) in
-    let order : AllPairs InOrder (plain_ends whole sorted) = in_order-from_sorted whole sorted
-    (c.in_ok-sort_by.ensures.sorted (held_before whole) (held_before-order whole) (answers_always _ _ _ (λ f a r h k.
-    let answer : r ≡ point_cmp (plain_point whole a.0.now.point) (plain_point whole a.1.0.now.point) = search rules in
-    ap is_lt answer ∙ point_cmp-is_less (plain_point whole a.0.now.point) (plain_point whole a.1.0.now.point)))) in
-    let test : c.some_next_differs.result ≡ some_next_differ (plain_ends whole sorted) =
-    c.some_next_differs.ensures ∙ ap (λ ns. some_next_differ (plain_ends whole ns)) c.deref.ensures.value in (
-      λ t. shared_from_share rule es (plain_ends whole sorted)
-          (λ m at. Contains-permutation (plain_ends whole sorted) all m
-          (IsPermutation-sym all (plain_ends whole sorted) moved) at)
-          (share_from_next (plain_ends whole sorted) (sym test ∙ t)),
-      λ shared. test ∙ next_from_share (plain_ends whole sorted) order
-          (share_from_shared rule es (plain_ends whole sorted)
-          (λ m at. Contains-permutation all (plain_ends whole sorted) m moved at) shared),
-    );
+      let rule = c.args.graph.now.fill_rule in
+      let es = graph_edges c.args.graph.now in
+      let sorted = c.sort_by.new.self.items in
+      let all = flat_map border_ends (map (vector_of rule es) es) in
+      let moved : IsPermutation all (plain_ends whole sorted) =
+      subst (λ ns. IsPermutation ns (plain_ends whole sorted)) (c.in_ok-ends.ensures.ok
+      ∙ ap (flat_map border_ends) c.edges.ensures.filled)
+      (IsPermutation-map (plain_end whole) c.in_ok-ends.ends.items sorted c.in_ok-sort_by.ensures.permutation) in
+      let order : AllPairs InOrder (plain_ends whole sorted) = in_order-from_sorted whole sorted
+      (c.in_ok-sort_by.ensures.sorted (held_before whole) (held_before-order whole) (answers_always _ _ _ (λ f a r h k.
+      let answer : r ≡ point_cmp (plain_point whole a.0.now.point) (plain_point whole a.1.0.now.point) = search rules in
+      ap is_lt answer ∙ point_cmp-is_less (plain_point whole a.0.now.point) (plain_point whole a.1.0.now.point)))) in
+      let test : c.some_next_differs.result ≡ some_next_differ (plain_ends whole sorted) =
+      c.some_next_differs.ensures ∙ ap (λ ns. some_next_differ (plain_ends whole ns)) c.deref.ensures.value in (
+        λ t. shared_from_share rule es (plain_ends whole sorted)
+            (λ m at. Contains-permutation (plain_ends whole sorted) all m
+            (IsPermutation-sym all (plain_ends whole sorted) moved) at)
+            (share_from_next (plain_ends whole sorted) (sym test ∙ t)),
+        λ shared. test ∙ next_from_share (plain_ends whole sorted) order
+            (share_from_shared rule es (plain_ends whole sorted)
+            (λ m at. Contains-permutation all (plain_ends whole sorted) m moved at) shared),
+      );
 }

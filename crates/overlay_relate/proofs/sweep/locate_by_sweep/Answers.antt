@@ -207,13 +207,13 @@ loop-query-preserved g c =
 pub returns : goal.returns
 returns g c = record {
   located = let whole = g.I.IntNumber.whole in
-    let points = plain_points whole c.args.points.now in
-    let qs = plain_queries whole c.deref-query-items.result.now in
-    let asked : AreQueries points qs = subst (λ rs. AreQueries points (plain_queries whole rs))
-    (sym c.deref-query-items.ensures.value) c.in_ok-queries.ensures.queries in
-    let past : length qs ≤ c.loop-query.query-index = rw length-map c.loop-query-test.false in
-    all_answered (λ p l. IsLocatedBy (plain_edges whole c.args.edges.now) (in_plane p) l) Outside points qs
-    asked.numbered c.loop-query.answers.items
-    (c.loop-query.invariant.0 ∙ sym (length-map c.args.points.now (plain_point whole))) c.loop-query.query-index past
-    c.loop-query.invariant.5;
+      let points = plain_points whole c.args.points.now in
+      let qs = plain_queries whole c.deref-query-items.result.now in
+      let asked : AreQueries points qs = subst (λ rs. AreQueries points (plain_queries whole rs))
+      (sym c.deref-query-items.ensures.value) c.in_ok-queries.ensures.queries in
+      let past : length qs ≤ c.loop-query.query-index = rw length-map c.loop-query-test.false in
+      all_answered (λ p l. IsLocatedBy (plain_edges whole c.args.edges.now) (in_plane p) l) Outside points qs
+      asked.numbered c.loop-query.answers.items
+      (c.loop-query.invariant.0 ∙ sym (length-map c.args.points.now (plain_point whole))) c.loop-query.query-index past
+      c.loop-query.invariant.5;
 }

@@ -24,13 +24,13 @@ loop-e-preserved g c =
 pub returns : goal.returns
 returns g c = record {
   walls = let whole = g.I.IntNumber.whole in
-    let plain = plain_edge whole in record {
-      same = subst (λ es. IsPermutation es (plain_edges whole c.sort_by.new.self.items))
-          (c.loop-e.invariant ∙ ap (map wall_of)
-          (mapped_whole plain c.args.edges.now c.loop-e.e-index c.loop-e-test.false))
-          (IsPermutation-map plain c.loop-e.walls.items c.sort_by.new.self.items c.in_ok-sort_by.ensures.permutation);
-      order = in_order-from_sorted whole c.sort_by.new.self.items
-          (c.in_ok-sort_by.ensures.sorted (held_lt whole) (held_lt-order whole) (answers_always _ _ _ (λ f a r h k.
-          let answer : is_lt r ≡ edge_lt (plain a.0.now) (plain a.1.0.now) = search rules in answer)));
-    };
+      let plain = plain_edge whole in record {
+        same = subst (λ es. IsPermutation es (plain_edges whole c.sort_by.new.self.items))
+            (c.loop-e.invariant ∙ ap (map wall_of)
+            (mapped_whole plain c.args.edges.now c.loop-e.e-index c.loop-e-test.false))
+            (IsPermutation-map plain c.loop-e.walls.items c.sort_by.new.self.items c.in_ok-sort_by.ensures.permutation);
+        order = in_order-from_sorted whole c.sort_by.new.self.items
+            (c.in_ok-sort_by.ensures.sorted (held_lt whole) (held_lt-order whole) (answers_always _ _ _ (λ f a r h k.
+            let answer : is_lt r ≡ edge_lt (plain a.0.now) (plain a.1.0.now) = search rules in answer)));
+      };
 }

@@ -36,9 +36,9 @@ loop-place-preserved g c =
 pub returns : goal.returns
 returns g c = record {
   ok = let whole = g.I.IntNumber.whole in
-    let past = c.loop-place-test.false in
-    let end = c.loop-place.auto.place-end in
-    let all : c.loop-place.place ≡ length c.args.pieces.now = omega arith in
-    subst (λ n. AreNumbered whole c.args.way (plain_pieces whole c.args.pieces.now) n c.loop-place.steps.items) all
-    c.loop-place.invariant;
+      let past = c.loop-place-test.false in
+      let end = c.loop-place.auto.place-end in
+      let all : c.loop-place.place ≡ length c.args.pieces.now = omega arith in
+      subst (λ n. AreNumbered whole c.args.way (plain_pieces whole c.args.pieces.now) n c.loop-place.steps.items) all
+      c.loop-place.invariant;
 }

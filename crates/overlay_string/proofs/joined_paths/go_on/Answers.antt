@@ -32,8 +32,8 @@ loop-piece-preserved g c =
 pub returns : goal.returns
 returns g c = record {
   ok = let whole = g.I.IntNumber.whole in
-    let l = c.loop-piece in
-    comes_to_an_end c.args.way (plain_point whole c.args.from) c.args.pieces.now
-    (plain_points whole c.args.path.now.items) (plain_point whole l.end) l.pieces c.take_at.new.self
-    (plain_points whole l.path.items) l.invariant c.in_default.ensures;
+      let l = c.loop-piece in
+      comes_to_an_end c.args.way (plain_point whole c.args.from) c.args.pieces.now
+      (plain_points whole c.args.path.now.items) (plain_point whole l.end) l.pieces c.take_at.new.self
+      (plain_points whole l.path.items) l.invariant c.in_default.ensures;
 }

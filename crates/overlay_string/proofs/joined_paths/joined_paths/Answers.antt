@@ -27,7 +27,7 @@ loop-piece-preserved g c =
 pub returns : goal.returns
 returns g c = record {
   ok = let whole = g.I.IntNumber.whole in
-    let l = c.loop-piece in
-    all_joined c.args.pieces.now l.pieces c.take_first.new.self (paths_of_shape whole l.paths.items) l.invariant
-    c.in_default.ensures;
+      let l = c.loop-piece in
+      all_joined c.args.pieces.now l.pieces c.take_first.new.self (paths_of_shape whole l.paths.items) l.invariant
+      c.in_default.ensures;
 }

@@ -23,10 +23,10 @@ loop-edge-preserved g c =
 pub returns : goal.returns
 returns g c = record {
   ok = let whole = g.I.IntNumber.whole in
-    let edges = c.edges-edges.result.now in
-    let past = c.loop-edge-test.false in
-    c.loop-edge.invariant
-    ∙ ap (flat_map (pieces_by_bits whole c.args.rule)) (take_all c.loop-edge.edge-index edges (omega (arith, past)))
-    ∙ pieces_kept whole c.args.rule c.args.graph.now.fill_rule (graph_edges c.args.graph.now) edges
-    (ap edges_in c.edges-edges.ensures.carried) c.edges-edges.ensures.filled;
+      let edges = c.edges-edges.result.now in
+      let past = c.loop-edge-test.false in
+      c.loop-edge.invariant
+      ∙ ap (flat_map (pieces_by_bits whole c.args.rule)) (take_all c.loop-edge.edge-index edges (omega (arith, past)))
+      ∙ pieces_kept whole c.args.rule c.args.graph.now.fill_rule (graph_edges c.args.graph.now) edges
+      (ap edges_in c.edges-edges.ensures.carried) c.edges-edges.ensures.filled;
 }

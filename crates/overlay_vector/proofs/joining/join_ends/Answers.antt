@@ -27,22 +27,22 @@ are_joinable-requires-clause-second g c =
 pub returns-then-not-are_joinable : goal.returns-then-not-are_joinable
 returns-then-not-are_joinable g c = record {
   joined = let plain = plain_data_vector g.I.IntNumber.whole in
-    let eq = g.D.PartialEq.eq in
-    let xs = c.loop-path.path.items in
-    let k = c.len-in-loop-path.result - 1 in
-    let long : length xs ≡ k + 1 = omega (arith, c.loop-path.path.ok.0) in
-    let f = plain c.index-first.result.now in
-    let l = plain c.index-last.result.now in
-    let mid = map plain (remove (take k xs) 0) in
-    let same = last_off plain xs k c.index-last.result.now long c.index-last.ensures
-    ∙ ap (λ fs. fs ++ l ∷ []) (first_off plain xs k c.index-first.result.now long (omega (arith, c.loop-path.path.ok.0))
-    c.index-first.ensures) in
-    record {
-      becomes = c.loop-path.invariant.becomes;
-      none_left = subst (NoneLeft eq) (sym same)
-          (none_left_round eq f mid l (subst (NoneJoinable eq) same c.loop-path.invariant.inside)
-          (λ can. false≢true (c.if-not-are_joinable.ensures.1 can)));
-    };
+      let eq = g.D.PartialEq.eq in
+      let xs = c.loop-path.path.items in
+      let k = c.len-in-loop-path.result - 1 in
+      let long : length xs ≡ k + 1 = omega (arith, c.loop-path.path.ok.0) in
+      let f = plain c.index-first.result.now in
+      let l = plain c.index-last.result.now in
+      let mid = map plain (remove (take k xs) 0) in
+      let same = last_off plain xs k c.index-last.result.now long c.index-last.ensures
+      ∙ ap (λ fs. fs ++ l ∷ []) (first_off plain xs k c.index-first.result.now long (omega (arith, c.loop-path.path.ok.0))
+      c.index-first.ensures) in
+      record {
+        becomes = c.loop-path.invariant.becomes;
+        none_left = subst (NoneLeft eq) (sym same)
+            (none_left_round eq f mid l (subst (NoneJoinable eq) same c.loop-path.invariant.inside)
+            (λ can. false≢true (c.if-not-are_joinable.ensures.1 can)));
+      };
 }
 
 pub append-requires-clause-inside : goal.append-requires-clause-inside
@@ -124,10 +124,10 @@ loop-path-preserved g c =
 pub returns : goal.returns
 returns g c = record {
   joined = let plain = plain_data_vector g.I.IntNumber.whole in
-    let long = length-map c.loop-path.path.items plain in
-    record {
-      becomes = c.loop-path.invariant.becomes;
-      none_left = none_left_of_few g.D.PartialEq.eq (map plain c.loop-path.path.items)
-          (omega (arith, long, c.loop-path.path.ok.0));
-    };
+      let long = length-map c.loop-path.path.items plain in
+      record {
+        becomes = c.loop-path.invariant.becomes;
+        none_left = none_left_of_few g.D.PartialEq.eq (map plain c.loop-path.path.items)
+            (omega (arith, long, c.loop-path.path.ok.0));
+      };
 }

@@ -36,13 +36,13 @@ loop-vector-preserved g c =
 pub returns : goal.returns
 returns g c = record {
   joined = let whole = g.I.IntNumber.whole in
-    let eq = g.D.PartialEq.eq in
-    let limit = g.I.IntNumber.limit in
-    let path = plain_data_vectors whole c.loop-vector.path.items in
-    let new = plain_data_vectors whole c.join_ends.new.path.items in
-    subst (λ vs. IsJoined eq (plain_data_vectors whole vs) new)
-    (take_all c.loop-vector.vector-index c.args.vectors.now c.loop-vector-test.false)
-    (joined_further eq (plain_data_vectors whole (take c.loop-vector.vector-index c.args.vectors.now)) path new
-    (gathered_whole eq limit (plain_data_vectors whole (take c.loop-vector.vector-index c.args.vectors.now)) path
-    c.loop-vector.invariant) c.in_ok-join_ends.ensures.joined);
+      let eq = g.D.PartialEq.eq in
+      let limit = g.I.IntNumber.limit in
+      let path = plain_data_vectors whole c.loop-vector.path.items in
+      let new = plain_data_vectors whole c.join_ends.new.path.items in
+      subst (λ vs. IsJoined eq (plain_data_vectors whole vs) new)
+      (take_all c.loop-vector.vector-index c.args.vectors.now c.loop-vector-test.false)
+      (joined_further eq (plain_data_vectors whole (take c.loop-vector.vector-index c.args.vectors.now)) path new
+      (gathered_whole eq limit (plain_data_vectors whole (take c.loop-vector.vector-index c.args.vectors.now)) path
+      c.loop-vector.invariant) c.in_ok-join_ends.ensures.joined);
 }

@@ -21,7 +21,7 @@ loop-edge-preserved g c =
 pub returns : goal.returns
 returns g c = record {
   ok = let past = c.loop-edge-test.false in
-    c.loop-edge.invariant
-    ∙ ap (flat_map (vectors_by_bits g.I.IntNumber.whole c.args.rule))
-    (take_all c.loop-edge.edge-index c.args.edges.now (omega (arith, past)));
+      c.loop-edge.invariant
+      ∙ ap (flat_map (vectors_by_bits g.I.IntNumber.whole c.args.rule))
+      (take_all c.loop-edge.edge-index c.args.edges.now (omega (arith, past)));
 }

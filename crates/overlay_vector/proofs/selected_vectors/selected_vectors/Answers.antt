@@ -12,13 +12,13 @@ use Rattle.overlay_vector.proofs.selected_vectors.selected_vectors.Goals as goal
 pub returns : goal.returns
 returns g c = record {
   listed = let whole = g.I.IntNumber.whole in
-    let rule = c.args.overlay_rule in
-    let graph = c.args.graph.now in
-    let edges = c.edges.result.now in
-    let listed = listed_selected graph.fill_rule rule (graph_edges graph) whole (λ k. boolean_counts k.count) edges
-    graph.edges c.edges.ensures.carried c.edges.ensures.filled in
-    IfOk-weaker c.listed.result (λ v. plain_data_vectors whole v.items ≡ flat_map (vectors_by_bits whole rule) edges)
-    (λ v. plain_data_vectors whole v.items ≡ selected_vectors graph.fill_rule rule graph.edges)
-    (λ v is. is ∙ listed)
-    c.listed.ensures.ok;
+      let rule = c.args.overlay_rule in
+      let graph = c.args.graph.now in
+      let edges = c.edges.result.now in
+      let listed = listed_selected graph.fill_rule rule (graph_edges graph) whole (λ k. boolean_counts k.count) edges
+      graph.edges c.edges.ensures.carried c.edges.ensures.filled in
+      IfOk-weaker c.listed.result (λ v. plain_data_vectors whole v.items ≡ flat_map (vectors_by_bits whole rule) edges)
+      (λ v. plain_data_vectors whole v.items ≡ selected_vectors graph.fill_rule rule graph.edges)
+      (λ v is. is ∙ listed)
+      c.listed.ensures.ok;
 }

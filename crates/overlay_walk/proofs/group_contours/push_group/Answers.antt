@@ -27,14 +27,14 @@ loop-steps-preserved g c =
 pub returns : goal.returns
 returns g c = record {
   pushed = let whole = g.I.IntNumber.whole in
-    let old = c.args.contours.now.items in
-    let n = c.args.number in
-    let done = c.loop-steps.yielded in
-    let all : c.args.walks.items ≡ done =
-    c.loop-steps.invariant.2 ∙ ap (λ ws. done ++ ws)
-    (none_left _ (sym c.loop-steps.steps-iterator.rest.ok.0 ∙ c.in-None.ensures.steps.0)) ∙ append-nil done in
-    ap (plain_contours whole) c.loop-steps.invariant.3
-    ∙ map-append (plain_contour whole) old (as_group whole n done)
-    ∙ ap (λ cs. plain_contours whole old ++ cs) (group_plain whole n done
-    ∙ ap (λ ws. contours_of_group n (plain_walks whole ws)) (sym all));
+      let old = c.args.contours.now.items in
+      let n = c.args.number in
+      let done = c.loop-steps.yielded in
+      let all : c.args.walks.items ≡ done =
+      c.loop-steps.invariant.2 ∙ ap (λ ws. done ++ ws)
+      (none_left _ (sym c.loop-steps.steps-iterator.rest.ok.0 ∙ c.in-None.ensures.steps.0)) ∙ append-nil done in
+      ap (plain_contours whole) c.loop-steps.invariant.3
+      ∙ map-append (plain_contour whole) old (as_group whole n done)
+      ∙ ap (λ cs. plain_contours whole old ++ cs) (group_plain whole n done
+      ∙ ap (λ ws. contours_of_group n (plain_walks whole ws)) (sym all));
 }

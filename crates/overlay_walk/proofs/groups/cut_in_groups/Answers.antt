@@ -100,36 +100,36 @@ cut_again-requires-clause-long g c =
 pub returns : goal.returns
 returns g c = record {
   cut = let whole = g.I.IntNumber.whole in
-    let filled = filled_hand c.args.direction in
-    let keeps : List Step → Bool = λ w. reaches g.I.Wide.WideIntNumber.width
-    (g.I.WideUInt.UIntNumber.natural c.args.min_output_area) w in
-    let groups = c.in_ok-groups.groups.items in
-    let others = c.in_ok-others.others.items in
-    let outlines_are = outlines_plain whole filled groups c.in_ok-outline_groups.outline_groups.items
-    c.in_ok-outline_groups.ensures.outlines in
-    let holes_are = holes_plain whole filled groups c.in_ok-outline_groups.hole_steps.items
-    c.in_ok-outline_groups.ensures.holes in
-    record {
-      groups = plain_walks whole groups;
-      grouped = subst (λ h. IsCutInto (λ s. h) (plain_steps whole c.args.steps.now) (plain_walks whole groups))
-          c.filled_hand.ensures c.in_ok-groups.ensures.cut;
-      inside = plain_groups whole c.in_ok-inside.inside.items;
-      cut_inside = subst (λ h. AllZip (λ v ws. IsCutInto (λ s. h) v ws)
-          (filter (λ v. not (is_hole filled v)) (plain_walks whole groups))
-          (plain_groups whole c.in_ok-inside.inside.items))
-          c.empty_hand-empty.ensures
-          (subst (λ gs. AllZip (λ v ws. IsCutInto (λ s. plain_hand c.empty_hand-empty.result) v ws) gs
-          (plain_groups whole c.in_ok-inside.inside.items)) outlines_are
-          (cut_plain whole (λ s. plain_hand c.empty_hand-empty.result) c.in_ok-outline_groups.outline_groups.items
-          c.in_ok-inside.inside.items c.in_ok-inside.ensures.cut));
-      others = plain_walks whole others;
-      cut_others = subst (λ h. IsCutInto (λ s. h) (all_steps (filter (is_hole filled) (plain_walks whole groups)))
-          (plain_walks whole others)) c.empty_hand-empty.ensures
-          (subst (λ ss. IsCutInto (λ s. plain_hand c.empty_hand-empty.result) ss (plain_walks whole others)) holes_are
-          c.in_ok-others.ensures.cut);
-      are = c.in_ok-push_free_holes.ensures.pushed
-          ∙ ap₂ (λ cs ws. cs ++ map hole_to_bind ws) c.in_ok-contours.ensures.ok
-          (ap (plain_walks whole) c.in_ok-large_walks.ensures.ok
-          ∙ map-filter (λ (w : _). plain_steps whole w.items) keeps others);
-    };
+      let filled = filled_hand c.args.direction in
+      let keeps : List Step → Bool = λ w. reaches g.I.Wide.WideIntNumber.width
+      (g.I.WideUInt.UIntNumber.natural c.args.min_output_area) w in
+      let groups = c.in_ok-groups.groups.items in
+      let others = c.in_ok-others.others.items in
+      let outlines_are = outlines_plain whole filled groups c.in_ok-outline_groups.outline_groups.items
+      c.in_ok-outline_groups.ensures.outlines in
+      let holes_are = holes_plain whole filled groups c.in_ok-outline_groups.hole_steps.items
+      c.in_ok-outline_groups.ensures.holes in
+      record {
+        groups = plain_walks whole groups;
+        grouped = subst (λ h. IsCutInto (λ s. h) (plain_steps whole c.args.steps.now) (plain_walks whole groups))
+            c.filled_hand.ensures c.in_ok-groups.ensures.cut;
+        inside = plain_groups whole c.in_ok-inside.inside.items;
+        cut_inside = subst (λ h. AllZip (λ v ws. IsCutInto (λ s. h) v ws)
+            (filter (λ v. not (is_hole filled v)) (plain_walks whole groups))
+            (plain_groups whole c.in_ok-inside.inside.items))
+            c.empty_hand-empty.ensures
+            (subst (λ gs. AllZip (λ v ws. IsCutInto (λ s. plain_hand c.empty_hand-empty.result) v ws) gs
+            (plain_groups whole c.in_ok-inside.inside.items)) outlines_are
+            (cut_plain whole (λ s. plain_hand c.empty_hand-empty.result) c.in_ok-outline_groups.outline_groups.items
+            c.in_ok-inside.inside.items c.in_ok-inside.ensures.cut));
+        others = plain_walks whole others;
+        cut_others = subst (λ h. IsCutInto (λ s. h) (all_steps (filter (is_hole filled) (plain_walks whole groups)))
+            (plain_walks whole others)) c.empty_hand-empty.ensures
+            (subst (λ ss. IsCutInto (λ s. plain_hand c.empty_hand-empty.result) ss (plain_walks whole others)) holes_are
+            c.in_ok-others.ensures.cut);
+        are = c.in_ok-push_free_holes.ensures.pushed
+            ∙ ap₂ (λ cs ws. cs ++ map hole_to_bind ws) c.in_ok-contours.ensures.ok
+            (ap (plain_walks whole) c.in_ok-large_walks.ensures.ok
+            ∙ map-filter (λ (w : _). plain_steps whole w.items) keeps others);
+      };
 }

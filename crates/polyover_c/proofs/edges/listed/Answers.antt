@@ -20,8 +20,8 @@ loop-edge-preserved g c =
 pub returns : goal.returns
 returns g c = record {
   listed = let whole = g.I.IntNumber.whole in
-    subst (λ vs. AreListed whole vs
-    (record { coordinates = c.loop-edge.coordinates.items; fills = c.loop-edge.fills.items }))
-    (mapped_whole (plain_vector whole) c.args.edges.now c.loop-edge.edge-index c.loop-edge-test.false)
-    c.loop-edge.invariant;
+      subst (λ vs. AreListed whole vs
+      (record { coordinates = c.loop-edge.coordinates.items; fills = c.loop-edge.fills.items }))
+      (mapped_whole (plain_vector whole) c.args.edges.now c.loop-edge.edge-index c.loop-edge-test.false)
+      c.loop-edge.invariant;
 }

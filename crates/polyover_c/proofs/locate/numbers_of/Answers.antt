@@ -14,5 +14,5 @@ loop-location-preserved c =
 pub returns : goal.returns
 returns c = record {
   numbers = c.loop-location.invariant
-    ∙ mapped_whole number_of c.args.locations.now c.loop-location.location-index c.loop-location-test.false;
+      ∙ mapped_whole number_of c.args.locations.now c.loop-location.location-index c.loop-location-test.false;
 }

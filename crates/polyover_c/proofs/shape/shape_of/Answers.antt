@@ -19,8 +19,8 @@ loop-index-preserved g c =
 pub returns : goal.returns
 returns g c = record {
   shape = let whole = g.I.IntNumber.whole in
-    let paths = paths_in whole c.args.contours.now.points.items c.args.contours.now.ranges.items in
-    subst (λ ps. paths_of_shape whole c.loop-index.shape.items ≡ ps) (take_all c.loop-index.index paths
-    (subst (λ n. n ≤ c.loop-index.index) c.path_count-index-end.ensures c.loop-index-test.false))
-    c.loop-index.invariant;
+      let paths = paths_in whole c.args.contours.now.points.items c.args.contours.now.ranges.items in
+      subst (λ ps. paths_of_shape whole c.loop-index.shape.items ≡ ps) (take_all c.loop-index.index paths
+      (subst (λ n. n ≤ c.loop-index.index) c.path_count-index-end.ensures c.loop-index-test.false))
+      c.loop-index.invariant;
 }

@@ -14,13 +14,13 @@ use Rattle.i_overlay.proofs.simplifying.points_once.has_each_point_once.Goals as
 pub returns : goal.returns
 returns g c = record {
   ok = let whole = g.I.IntNumber.whole in
-    let sorted = c.sort_by.new.self.items in
-    let told = once_by_sorting whole c.in_ok-sorted.sorted.items sorted c.in_ok-sort_by.ensures.permutation
-    (c.in_ok-sort_by.ensures.sorted (held_before whole) (held_before-order whole) (answers_always _ _ _ (λ f a r h k.
-    let answer : r ≡ point_cmp (plain_point whole a.0.now) (plain_point whole a.1.0.now) = search rules in
-    ap is_lt answer ∙ point_cmp-is_less (plain_point whole a.0.now) (plain_point whole a.1.0.now)))) in
-    let test : c.all_next_differ.result ≡ all_next_differ (plain_points whole sorted) =
-    c.all_next_differ.ensures ∙ ap (λ ps. all_next_differ (plain_points whole ps)) c.deref.ensures.value in
-    subst (λ ps. IsTrue c.all_next_differ.result ↔ HasEachPointOnce (plain_points whole ps)) c.in_ok-sorted.ensures.ok
-    ((λ t. told.0 (sym test ∙ t)), (λ once. test ∙ told.1 once));
+      let sorted = c.sort_by.new.self.items in
+      let told = once_by_sorting whole c.in_ok-sorted.sorted.items sorted c.in_ok-sort_by.ensures.permutation
+      (c.in_ok-sort_by.ensures.sorted (held_before whole) (held_before-order whole) (answers_always _ _ _ (λ f a r h k.
+      let answer : r ≡ point_cmp (plain_point whole a.0.now) (plain_point whole a.1.0.now) = search rules in
+      ap is_lt answer ∙ point_cmp-is_less (plain_point whole a.0.now) (plain_point whole a.1.0.now)))) in
+      let test : c.all_next_differ.result ≡ all_next_differ (plain_points whole sorted) =
+      c.all_next_differ.ensures ∙ ap (λ ps. all_next_differ (plain_points whole ps)) c.deref.ensures.value in
+      subst (λ ps. IsTrue c.all_next_differ.result ↔ HasEachPointOnce (plain_points whole ps)) c.in_ok-sorted.ensures.ok
+      ((λ t. told.0 (sym test ∙ t)), (λ once. test ∙ told.1 once));
 }

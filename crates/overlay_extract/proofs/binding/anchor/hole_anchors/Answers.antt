@@ -58,13 +58,13 @@ loop-i-preserved g c =
 pub returns : goal.returns
 returns g c = record {
   ok = let whole = g.I.IntNumber.whole in
-    holes_sorted (map (walk_of g.I.IntNumber.whole) c.args.contours.now) c.args.known.now c.loop-i.i
-    (numbered_entries whole c.loop-i.anchors.items)
-    (numbered_entries whole c.sort_by_anchor.new.edges.items)
-    (let past = c.loop-i-test.false in let end = c.loop-i.auto.i-end in
-    omega (arith, length-map c.args.contours.now (walk_of g.I.IntNumber.whole)))
-    c.loop-i.invariant
-    (IsPermutation-map (numbered_entry whole) c.loop-i.anchors.items c.sort_by_anchor.new.edges.items
-    c.in_ok-sort_by_anchor.ensures.permutation)
-    c.in_ok-sort_by_anchor.ensures.order;
+      holes_sorted (map (walk_of g.I.IntNumber.whole) c.args.contours.now) c.args.known.now c.loop-i.i
+      (numbered_entries whole c.loop-i.anchors.items)
+      (numbered_entries whole c.sort_by_anchor.new.edges.items)
+      (let past = c.loop-i-test.false in let end = c.loop-i.auto.i-end in
+      omega (arith, length-map c.args.contours.now (walk_of g.I.IntNumber.whole)))
+      c.loop-i.invariant
+      (IsPermutation-map (numbered_entry whole) c.loop-i.anchors.items c.sort_by_anchor.new.edges.items
+      c.in_ok-sort_by_anchor.ensures.permutation)
+      c.in_ok-sort_by_anchor.ensures.order;
 }

@@ -19,12 +19,12 @@ use Rattle.overlay_extract.proofs.binding.bind.bind_contours.Goals as goal
 pub returns-then-shape_count-eq1 : goal.returns-then-shape_count-eq1
 returns-then-shape_count-eq1 g c = record {
   found = let filled = filled_hand c.args.direction in
-    let contours = plain_contours g.I.IntNumber.whole c.args.contours.now in
-    IfOk-weaker c.all_in_first.result _ (λ v. AreShapesFound filled contours v.items)
-    (λ v all. first_for_all filled contours v.items
-    (all.0 ∙ sym (length-map c.args.contours.now (plain_contour g.I.IntNumber.whole)))
-    (sym c.shape_count.ensures ∙ c.if-shape_count-eq1.true) all.1)
-    c.all_in_first.ensures.ok;
+      let contours = plain_contours g.I.IntNumber.whole c.args.contours.now in
+      IfOk-weaker c.all_in_first.result _ (λ v. AreShapesFound filled contours v.items)
+      (λ v all. first_for_all filled contours v.items
+      (all.0 ∙ sym (length-map c.args.contours.now (plain_contour g.I.IntNumber.whole)))
+      (sym c.shape_count.ensures ∙ c.if-shape_count-eq1.true) all.1)
+      c.all_in_first.ensures.ok;
 }
 
 pub find_shapes-requires-clause-long : goal.find_shapes-requires-clause-long
@@ -59,14 +59,14 @@ find_shapes-requires-clause-known g c =
 pub returns : goal.returns
 returns g c = record {
   found = let whole = g.I.IntNumber.whole in
-    let filled = filled_hand c.args.direction in
-    let contours = plain_contours whole c.args.contours.now in
-    let shapes = c.in_ok-shapes.shapes.items in
-    each_by_sweep filled contours shapes
-    (c.in_ok-shapes.ensures.counted ∙ sym (length-map c.args.contours.now (plain_contour whole)))
-    (λ one. c.if-shape_count-eq1.false (c.shape_count.ensures ∙ one))
-    (λ n. subst (λ ws. HasShapeNumber filled ws (known_in contours) shapes n)
-    (sym (walks_alike whole c.args.contours.now))
-    (subst (λ known. HasShapeNumber filled (map (walk_of whole) c.args.contours.now) known shapes n)
-    (c.deref.ensures.value ∙ c.in_ok-known.ensures.ok) (c.in_ok-shapes.ensures.numbers n)));
+      let filled = filled_hand c.args.direction in
+      let contours = plain_contours whole c.args.contours.now in
+      let shapes = c.in_ok-shapes.shapes.items in
+      each_by_sweep filled contours shapes
+      (c.in_ok-shapes.ensures.counted ∙ sym (length-map c.args.contours.now (plain_contour whole)))
+      (λ one. c.if-shape_count-eq1.false (c.shape_count.ensures ∙ one))
+      (λ n. subst (λ ws. HasShapeNumber filled ws (known_in contours) shapes n)
+      (sym (walks_alike whole c.args.contours.now))
+      (subst (λ known. HasShapeNumber filled (map (walk_of whole) c.args.contours.now) known shapes n)
+      (c.deref.ensures.value ∙ c.in_ok-known.ensures.ok) (c.in_ok-shapes.ensures.numbers n)));
 }

@@ -10,11 +10,11 @@ use Rattle.overlay_extract.proofs.binding.filled_above_edges.filled_above_edges.
 pub returns : goal.returns
 returns g c = record {
   ok = let whole = g.I.IntNumber.whole in
-    filled_sorted (filled_hand c.args.direction) (map (walk_of g.I.IntNumber.whole) c.args.contours.now)
-    (numbered_entries whole c.in_ok-edges.edges.items)
-    (numbered_entries whole c.sort_by_anchor.new.edges.items) c.in_ok-edges.ensures.edges c.in_ok-edges.ensures.from
-    c.requires.distinct
-    (IsPermutation-map (numbered_entry whole) c.in_ok-edges.edges.items c.sort_by_anchor.new.edges.items
-    c.in_ok-sort_by_anchor.ensures.permutation)
-    c.in_ok-sort_by_anchor.ensures.order;
+      filled_sorted (filled_hand c.args.direction) (map (walk_of g.I.IntNumber.whole) c.args.contours.now)
+      (numbered_entries whole c.in_ok-edges.edges.items)
+      (numbered_entries whole c.sort_by_anchor.new.edges.items) c.in_ok-edges.ensures.edges c.in_ok-edges.ensures.from
+      c.requires.distinct
+      (IsPermutation-map (numbered_entry whole) c.in_ok-edges.edges.items c.sort_by_anchor.new.edges.items
+      c.in_ok-sort_by_anchor.ensures.permutation)
+      c.in_ok-sort_by_anchor.ensures.order;
 }

@@ -49,9 +49,9 @@ loop-i-preserved g c =
 pub returns : goal.returns
 returns g c = record {
   ok = let past = c.loop-i-test.false in
-    let both = c.requires in
-    c.loop-i.invariant
-    ∙ ap₂ (λ ds gs. at_outlines ds gs) (mapped_whole (plain_contour g.I.IntNumber.whole) c.args.contours.now c.loop-i.i
-    past)
-    (take_all c.loop-i.i c.args.found.now (omega (arith, past, both)));
+      let both = c.requires in
+      c.loop-i.invariant
+      ∙ ap₂ (λ ds gs. at_outlines ds gs) (mapped_whole (plain_contour g.I.IntNumber.whole) c.args.contours.now c.loop-i.i
+      past)
+      (take_all c.loop-i.i c.args.found.now (omega (arith, past, both)));
 }

@@ -41,6 +41,6 @@ loop-i-preserved g c =
 pub returns : goal.returns
 returns g c = record {
   ok = c.loop-i.invariant
-    ∙ ap (hole_places 0) (mapped_whole (plain_contour g.I.IntNumber.whole) c.args.contours.now c.loop-i.i
-    c.loop-i-test.false);
+      ∙ ap (hole_places 0) (mapped_whole (plain_contour g.I.IntNumber.whole) c.args.contours.now c.loop-i.i
+      c.loop-i-test.false);
 }

@@ -54,16 +54,16 @@ at_outlines-requires g c = ap length c.deref-2.ensures.value ∙ c.in_ok-found.e
 pub returns : goal.returns
 returns g c = record {
   round = let whole = g.I.IntNumber.whole in
-    let filled = filled_hand c.args.direction in
-    let contours = plain_contours whole c.args.contours.now in
-    let found = c.in_ok-found.found.items in
-    let round = holes_found filled contours found
-    (c.in_ok-found.ensures.counted ∙ sym (length-map c.args.contours.now (plain_contour whole)))
-    (λ n. subst (λ ws. HasShapeNumber (other_hand filled) ws (hole_places 0 contours) found n)
-    (sym (walks_alike whole c.args.contours.now))
-    (subst (λ known. HasShapeNumber (other_hand filled) (map (walk_of whole) c.args.contours.now) known found n)
-    (c.deref.ensures.value ∙ c.in_ok-places.ensures.ok) (c.in_ok-found.ensures.numbers n))) in
-    IfOk-weaker c.at_outlines.result _ (λ v. AreHolesRound filled contours v.items)
-    (λ v is. subst (AreHolesRound filled contours) (sym (is ∙ ap (at_outlines contours) c.deref-2.ensures.value)) round)
-    c.at_outlines.ensures.ok;
+      let filled = filled_hand c.args.direction in
+      let contours = plain_contours whole c.args.contours.now in
+      let found = c.in_ok-found.found.items in
+      let round = holes_found filled contours found
+      (c.in_ok-found.ensures.counted ∙ sym (length-map c.args.contours.now (plain_contour whole)))
+      (λ n. subst (λ ws. HasShapeNumber (other_hand filled) ws (hole_places 0 contours) found n)
+      (sym (walks_alike whole c.args.contours.now))
+      (subst (λ known. HasShapeNumber (other_hand filled) (map (walk_of whole) c.args.contours.now) known found n)
+      (c.deref.ensures.value ∙ c.in_ok-places.ensures.ok) (c.in_ok-found.ensures.numbers n))) in
+      IfOk-weaker c.at_outlines.result _ (λ v. AreHolesRound filled contours v.items)
+      (λ v is. subst (AreHolesRound filled contours) (sym (is ∙ ap (at_outlines contours) c.deref-2.ensures.value)) round)
+      c.at_outlines.ensures.ok;
 }

@@ -17,12 +17,12 @@ shape_places-requires g c =
 pub returns : goal.returns
 returns g c = record {
   placed = let cs = plain_contours g.I.IntNumber.whole c.args.contours.now in
-    IfOk-weaker c.shape_places.result (λ v. ArePlaced cs c.deref.result.now (place_lists v.items))
-    (λ v. ArePlacedSomehow (filled_hand c.args.direction) cs (place_lists v.items))
-    (λ v placed. record {
-      shapes = c.in_ok-found.found.items;
-      found = c.in_ok-found.ensures.found;
-      placed = subst (λ ss. ArePlaced cs ss (place_lists v.items)) c.deref.ensures.value placed;
-    })
-    c.shape_places.ensures.placed;
+      IfOk-weaker c.shape_places.result (λ v. ArePlaced cs c.deref.result.now (place_lists v.items))
+      (λ v. ArePlacedSomehow (filled_hand c.args.direction) cs (place_lists v.items))
+      (λ v placed. record {
+        shapes = c.in_ok-found.found.items;
+        found = c.in_ok-found.ensures.found;
+        placed = subst (λ ss. ArePlaced cs ss (place_lists v.items)) c.deref.ensures.value placed;
+      })
+      c.shape_places.ensures.placed;
 }

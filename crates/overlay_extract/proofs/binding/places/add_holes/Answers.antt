@@ -66,9 +66,9 @@ loop-i-preserved g c =
 pub returns : goal.returns
 returns g c = record {
   added = let cs = plain_contours g.I.IntNumber.whole c.args.contours.now in
-    added_all c.args.holes cs c.args.found.now (place_lists c.args.places.now.items)
-    (place_lists c.loop-i.places.items) c.loop-i.i
-    (let past = c.loop-i-test.false in
-    let long = length-map c.args.contours.now (plain_contour g.I.IntNumber.whole) in omega (arith, past, long))
-    c.loop-i.invariant;
+      added_all c.args.holes cs c.args.found.now (place_lists c.args.places.now.items)
+      (place_lists c.loop-i.places.items) c.loop-i.i
+      (let past = c.loop-i-test.false in
+      let long = length-map c.args.contours.now (plain_contour g.I.IntNumber.whole) in omega (arith, past, long))
+      c.loop-i.invariant;
 }

@@ -9,13 +9,13 @@ use Rattle.overlay_extract.proofs.binding.places.push_place.Goals as goal
 pub returns-in_ok-push-in-Some : goal.returns-in_ok-push-in-Some
 returns-in_ok-push-in-Some g c = record {
   ok = let old = c.args.places.now.items in
-    let shape = c.index_mut.result.now in
-    let n = c.in-Some.number in
-    map-set (λ (s : _). s.items) old n c.push.new.self
-    ∙ ap (set (place_lists old) n)
-    (c.in_ok-push-in-Some.ensures.items
-    ∙ ap (λ ps. ps ++ c.args.place ∷ [])
-    (sym (read_mapped (λ (s : _). s.items) old n shape []
-    (subst (λ number. IfSome number (λ m. m < length old)) c.in-Some.is c.requires) c.index_mut.ensures.value)))
-    ∙ ap (λ number. with_place number c.args.place (place_lists old)) (sym c.in-Some.is);
+      let shape = c.index_mut.result.now in
+      let n = c.in-Some.number in
+      map-set (λ (s : _). s.items) old n c.push.new.self
+      ∙ ap (set (place_lists old) n)
+      (c.in_ok-push-in-Some.ensures.items
+      ∙ ap (λ ps. ps ++ c.args.place ∷ [])
+      (sym (read_mapped (λ (s : _). s.items) old n shape []
+      (subst (λ number. IfSome number (λ m. m < length old)) c.in-Some.is c.requires) c.index_mut.ensures.value)))
+      ∙ ap (λ number. with_place number c.args.place (place_lists old)) (sym c.in-Some.is);
 }

@@ -36,7 +36,7 @@ add_holes-requires-2-clause-numbered g c =
 pub returns : goal.returns
 returns g c = record {
   placed = let cs = plain_contours g.I.IntNumber.whole c.args.contours.now in
-    are_placed cs c.args.found.now c.requires (place_lists c.in_ok-places.places.items)
-    (place_lists c.add_holes.new.places.items) (place_lists c.add_holes-2.new.places.items)
-    c.in_ok-places.ensures.begun c.in_ok-add_holes.ensures.added c.in_ok-add_holes-2.ensures.added;
+      are_placed cs c.args.found.now c.requires (place_lists c.in_ok-places.places.items)
+      (place_lists c.add_holes.new.places.items) (place_lists c.add_holes-2.new.places.items)
+      c.in_ok-places.ensures.begun c.in_ok-add_holes.ensures.added c.in_ok-add_holes-2.ensures.added;
 }

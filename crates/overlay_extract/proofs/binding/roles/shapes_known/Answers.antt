@@ -14,5 +14,5 @@ loop-i-preserved g c =
 pub returns : goal.returns
 returns g c = record {
   ok = c.loop-i.invariant ∙ mapped_whole number_of c.args.contours.now c.loop-i.i c.loop-i-test.false
-    ∙ sym (numbers_alike g.I.IntNumber.whole c.args.contours.now);
+      ∙ sym (numbers_alike g.I.IntNumber.whole c.args.contours.now);
 }

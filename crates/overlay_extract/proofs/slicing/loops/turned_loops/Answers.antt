@@ -39,7 +39,7 @@ loop-i-preserved g c =
 pub returns : goal.returns
 returns g c = record {
   turned = let whole = g.I.IntNumber.whole in
-    let past = c.loop-i-test.false in
-    c.loop-i.invariant ∙ ap (map turned_loop)
-    (mapped_whole (λ (w : _). plain_steps whole w.items) c.args.loops.now c.loop-i.i (omega arith));
+      let past = c.loop-i-test.false in
+      c.loop-i.invariant ∙ ap (map turned_loop)
+      (mapped_whole (λ (w : _). plain_steps whole w.items) c.args.loops.now c.loop-i.i (omega arith));
 }

@@ -23,9 +23,9 @@ loop-place-preserved g c =
 pub returns : goal.returns
 returns g c = record {
   back = let whole = g.I.IntNumber.whole in
-    let l = c.loop-place in
-    let past = c.loop-place-test.false in
-    rw c.reverse.ensures.items
-    (map-reverse (plain_step whole) l.back.items ∙ ap reverse (l.invariant
-    ∙ ap (map reversed_step) (mapped_whole (plain_step whole) c.args.walk.now l.place (omega arith))));
+      let l = c.loop-place in
+      let past = c.loop-place-test.false in
+      rw c.reverse.ensures.items
+      (map-reverse (plain_step whole) l.back.items ∙ ap reverse (l.invariant
+      ∙ ap (map reversed_step) (mapped_whole (plain_step whole) c.args.walk.now l.place (omega arith))));
 }

@@ -21,12 +21,12 @@ new-requires g c =
 pub returns : goal.returns
 returns g c = record {
   sides = let whole = g.I.IntNumber.whole in
-    let graph = c.args.graph.now in
-    let es = graph_edges graph in
-    let are = rw c.new-steps.ensures.items at c.in_ok-push_sides.ensures.ok in
-    IfOk-weaker c.new.result (λ o. IsPermutation c.push_sides.new.steps.items o) _
-    (λ o moved. subst (λ ss. IsPermutation ss (plain_steps whole o)) (are
-    ∙ sides_from_vectors graph.fill_rule es _ c.edges-edges.ensures.filled)
-    (IsPermutation-map (plain_step whole) c.push_sides.new.steps.items o moved))
-    c.new.ensures.all;
+      let graph = c.args.graph.now in
+      let es = graph_edges graph in
+      let are = rw c.new-steps.ensures.items at c.in_ok-push_sides.ensures.ok in
+      IfOk-weaker c.new.result (λ o. IsPermutation c.push_sides.new.steps.items o) _
+      (λ o moved. subst (λ ss. IsPermutation ss (plain_steps whole o)) (are
+      ∙ sides_from_vectors graph.fill_rule es _ c.edges-edges.ensures.filled)
+      (IsPermutation-map (plain_step whole) c.push_sides.new.steps.items o moved))
+      c.new.ensures.all;
 }

@@ -27,9 +27,9 @@ cut_into_contours-requires-clause-once g c =
 pub returns : goal.returns
 returns g c = record {
   orbits = let graph = c.args.graph.now in
-    let es = graph_edges graph in
-    orbits_cut (is_filled graph.fill_rule) subj_of es
-    (balanced_arrangement g.I.IntNumber.limit es c.note_arrangement.ensures c.requires)
-    (plain_steps g.I.IntNumber.whole c.in_ok-open.open) c.in_ok-open.ensures.sides
-    (plain_walks g.I.IntNumber.whole c.in_ok-orbits.orbits.items) c.in_ok-orbits.ensures.cut;
+      let es = graph_edges graph in
+      orbits_cut (is_filled graph.fill_rule) subj_of es
+      (balanced_arrangement g.I.IntNumber.limit es c.note_arrangement.ensures c.requires)
+      (plain_steps g.I.IntNumber.whole c.in_ok-open.open) c.in_ok-open.ensures.sides
+      (plain_walks g.I.IntNumber.whole c.in_ok-orbits.orbits.items) c.in_ok-orbits.ensures.cut;
 }

@@ -45,22 +45,22 @@ assembled-requires-clause-inside g c =
 pub returns : goal.returns
 returns g c = record {
   sliced = let whole = g.I.IntNumber.whole in
-    let graph = c.args.graph.now in
-    let es = graph_edges graph in
-    let min = g.I.WideUInt.UIntNumber.natural c.args.min_output_area in
-    let direction = c.args.direction in
-    let slices = c.in_ok-slices.slices in
-    let cs = plain_contours whole slices.contours.items in
-    let are = c.in_ok-slices.ensures.slices in
-    let placed : ArePlaced cs slices.shapes.items (place_lists c.in_ok-places.places.items)
-    = rw (c.deref.ensures.value, c.deref-2.ensures.value) at c.in_ok-places.ensures.placed in
-    let shapes = c.in_ok-shapes.shapes.items in
-    let shown = rw (c.deref-3.ensures.value, c.deref-4.ensures.value) at c.in_ok-shapes.ensures.shapes in
-    subst (IsSliced g.I.Wide.WideIntNumber.width min graph.fill_rule direction es)
-    (sym (c.bring_in_direction.ensures
-    ∙ ap (map (map (in_direction direction)))
-    (same_shapes (points_of_shapes (walks_at cs (place_lists c.in_ok-places.places.items))) (plain_shapes whole shapes)
-    shown ∙ ap points_of_shapes placed.are)))
-    (sliced g.I.Wide.WideIntNumber.width min graph.fill_rule direction es
-    (balanced_arrangement g.I.IntNumber.limit es c.note_arrangement.ensures c.requires) cs slices.shapes.items are);
+      let graph = c.args.graph.now in
+      let es = graph_edges graph in
+      let min = g.I.WideUInt.UIntNumber.natural c.args.min_output_area in
+      let direction = c.args.direction in
+      let slices = c.in_ok-slices.slices in
+      let cs = plain_contours whole slices.contours.items in
+      let are = c.in_ok-slices.ensures.slices in
+      let placed : ArePlaced cs slices.shapes.items (place_lists c.in_ok-places.places.items)
+      = rw (c.deref.ensures.value, c.deref-2.ensures.value) at c.in_ok-places.ensures.placed in
+      let shapes = c.in_ok-shapes.shapes.items in
+      let shown = rw (c.deref-3.ensures.value, c.deref-4.ensures.value) at c.in_ok-shapes.ensures.shapes in
+      subst (IsSliced g.I.Wide.WideIntNumber.width min graph.fill_rule direction es)
+      (sym (c.bring_in_direction.ensures
+      ∙ ap (map (map (in_direction direction)))
+      (same_shapes (points_of_shapes (walks_at cs (place_lists c.in_ok-places.places.items))) (plain_shapes whole shapes)
+      shown ∙ ap points_of_shapes placed.are)))
+      (sliced g.I.Wide.WideIntNumber.width min graph.fill_rule direction es
+      (balanced_arrangement g.I.IntNumber.limit es c.note_arrangement.ensures c.requires) cs slices.shapes.items are);
 }

@@ -19,6 +19,6 @@ invariant_of-result g c =
 pub returns : goal.returns
 returns g c = record {
   ok = unmarked-cleared (plain_pieces g.I.IntNumber.whole c.args.pieces.items) c.new-taken.result.items
-    c.resize.new.self.items c.len.result _ c.new-taken.ensures.len c.new-taken.ensures.items
-    c.in_ok-resize.ensures.items;
+      c.resize.new.self.items c.len.result _ c.new-taken.ensures.len c.new-taken.ensures.items
+      c.in_ok-resize.ensures.items;
 }

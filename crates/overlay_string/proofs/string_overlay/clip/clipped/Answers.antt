@@ -8,5 +8,5 @@ use Rattle.overlay_string.proofs.string_overlay.clip.clipped.Goals as goal
 pub returns : goal.returns
 returns g c = record {
   paths = subst (λ ps. IfOk c.joined_paths.result (λ v. ArePathsOf ps (paths_of_shape g.I.IntNumber.whole v.items)))
-    (c.in_ok-pieces.ensures.ok ∙ c.in_ok-kept.ensures.ok) c.joined_paths.ensures.ok;
+      (c.in_ok-pieces.ensures.ok ∙ c.in_ok-kept.ensures.ok) c.joined_paths.ensures.ok;
 }
