@@ -111,7 +111,8 @@ returns-in_ok-find_near_behind g c = record {
       c.index-edges-i.is in
       let first = subst (λ ps. IsFirstFrom ps c.args.i c.first_from-k.result) c.deref.ensures.value
       c.first_from-k.ensures in
-      let near = subst (λ fs. AreNearBehind (plain_edges whole counts fs) (plain_edge whole counts c.index-edges-i.result)
+      let near = subst (λ fs. AreNearBehind (plain_edges whole counts fs) (plain_edge whole counts
+      c.index-edges-i.result)
       c.first_from-k.result c.find_near_behind-else-index-i.new.near.items) c.deref-else-index-i.ensures.value
       c.in_ok-find_near_behind.ensures.ok in
       near_of_edge es c.args.i (plain_edge whole counts e) c.put_places.new.near.items at_e

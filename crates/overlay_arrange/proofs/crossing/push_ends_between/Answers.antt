@@ -12,7 +12,8 @@ returns g c = record {
   ok = let whole = g.I.IntNumber.whole in
       let e = plain_edge whole g.C.EdgeCount.counts c.args.e.now in
       on_ok_weaker c.push_between-2.result
-      (two_added c.args.i e (is_between (ends_of e)) (plain_point whole c.args.f.now.a) (plain_point whole c.args.f.now.b)
+      (two_added c.args.i e (is_between (ends_of e)) (plain_point whole c.args.f.now.a)
+      (plain_point whole c.args.f.now.b)
       c.in_ok-push_between.ensures.ok)
       c.push_between-2.ensures.ok;
 }

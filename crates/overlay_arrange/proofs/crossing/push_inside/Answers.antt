@@ -12,7 +12,8 @@ returns-in_ok-push g c = record {
   ok = let whole = g.I.IntNumber.whole in
       point_pushed c.args.i (plain_edge whole g.C.EdgeCount.counts c.args.e.now) (plain_point whole c.args.v)
       (plain_meetings whole c.args.meetings.now.items) (plain_meetings whole c.push.new.self.items)
-      (mapped_pushed (plain_meeting whole) c.args.meetings.now.items c.push.new.self.items _ _ c.in_ok-push.ensures.items
+      (mapped_pushed (plain_meeting whole) c.args.meetings.now.items c.push.new.self.items _ _
+      c.in_ok-push.ensures.items
       refl);
 }
 

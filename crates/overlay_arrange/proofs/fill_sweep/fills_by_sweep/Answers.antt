@@ -147,7 +147,8 @@ returns g c = record {
       let sides = c.loop-i.invariant.0 ∙ sym (length-map c.args.edges.now (plain_edge whole counts)) in
       let past : length ns ≤ i = let l = length-map ss (numbered_start whole counts) in omega arith in
       told_by_function (fill_bits c.args.rule es) es fills sides
-      (λ k x y lt. all_told (λ f m. m ≡ fill_bits c.args.rule fs f) 0 es ns (numbered_shuffled es ns by.permutation) fills
+      (λ k x y lt. all_told (λ f m. m ≡ fill_bits c.args.rule fs f) 0 es ns (numbered_shuffled es ns by.permutation)
+      fills
       sides i past c.loop-i.invariant.2 k x y lt
       ∙ bits_shuffled es fs (subst (IsPermutation es) items (starts_permuted es ns by)) c.args.rule (get_or es k x));
 }

@@ -31,6 +31,7 @@ loop-k-preserved g c =
 
 pub returns : goal.returns
 returns g c = record {
-  ok = searched_before (plain_extents g.I.IntNumber.whole c.args.extents.now) (plain_extent g.I.IntNumber.whole c.args.of)
+  ok = searched_before (plain_extents g.I.IntNumber.whole c.args.extents.now) (plain_extent g.I.IntNumber.whole
+      c.args.of)
       c.loop-k.k c.args.to c.loop-k.near.items c.loop-k-test.false c.loop-k.invariant;
 }

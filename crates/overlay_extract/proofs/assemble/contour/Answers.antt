@@ -28,7 +28,8 @@ returns g c = record {
   ok = let whole = g.I.IntNumber.whole in
       let given = points_of (plain_steps whole c.args.walk.now) in
       let same = ap (plain_points whole) c.deref.ensures.value ∙ c.in_ok-points.ensures.ok in
-      IfOk-weaker c.thinned.result (λ v. IsThinned (plain_points whole c.deref.result.now) (plain_points whole v.items)) _
+      IfOk-weaker c.thinned.result (λ v. IsThinned (plain_points whole c.deref.result.now)
+      (plain_points whole v.items)) _
       (λ v thin. subst (λ k. IsKeptOrThinned k given (plain_points whole v.items)) (sym c.if-keeps_points.false)
       (subst (λ ps. IsThinned ps (plain_points whole v.items)) same thin))
       c.thinned.ensures.ok;

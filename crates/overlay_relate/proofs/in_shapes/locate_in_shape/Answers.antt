@@ -53,7 +53,8 @@ pub returns : goal.returns
 returns g c = record {
   located = let whole = g.I.IntNumber.whole in
       let points = plain_points whole c.args.points.now in
-      let R = λ (q : Point) (l : PointLocation). IsLocatedIn (paths_of_shape whole c.args.contours.now) (in_plane q) l in
+      let R = λ (q : Point) (l : PointLocation). IsLocatedIn (paths_of_shape whole c.args.contours.now) (in_plane q) l
+      in
       let asked = points_asked (plain_queries whole c.deref-3.result.now) in
       let is : plain_points whole c.deref-2.result.now ≡ asked = ap (plain_points whole) c.deref-2.ensures.value
       ∙ c.in_ok-asked.ensures.ok ∙ ap (λ ds. points_asked (plain_queries whole ds)) c.deref.ensures.value
@@ -62,5 +63,6 @@ returns g c = record {
       (subst (λ qs. AnswersEach R qs c.in_ok-located.located.items) is c.in_ok-located.ensures.located) in
       IfOk-weaker c.in_given_order.result (λ v. AnswersEach (IsAnswered asked c.deref-4.result.now) points v.items)
       (λ v. AnswersEach R points v.items)
-      (λ v placed. answers_ordered R points asked c.deref-4.result.now v.items right placed) c.in_given_order.ensures.ok;
+      (λ v placed. answers_ordered R points asked c.deref-4.result.now v.items right placed)
+      c.in_given_order.ensures.ok;
 }

@@ -62,5 +62,6 @@ returns g c = record {
       (subst (λ qs. AnswersEach R qs c.in_ok-located.located.items) is c.in_ok-located.ensures.located) in
       IfOk-weaker c.in_given_order.result (λ v. AnswersEach (IsAnswered asked c.deref-4.result.now) points v.items)
       (λ v. AnswersEach R points v.items)
-      (λ v placed. answers_ordered R points asked c.deref-4.result.now v.items right placed) c.in_given_order.ensures.ok;
+      (λ v placed. answers_ordered R points asked c.deref-4.result.now v.items right placed)
+      c.in_given_order.ensures.ok;
 }

@@ -60,5 +60,6 @@ returns g c = record {
       let past : length qs ≤ c.loop-i.i = rw length-map c.loop-i-test.false in
       all_answered (IsAnswered (points_asked qs) c.args.answers.now) Outside (plain_points whole c.args.points.now) qs
       c.requires.queries.numbered c.loop-i.ordered.items
-      (c.loop-i.invariant.0 ∙ sym (length-map c.args.points.now (plain_point whole))) c.loop-i.i past c.loop-i.invariant.1;
+      (c.loop-i.invariant.0 ∙ sym (length-map c.args.points.now (plain_point whole))) c.loop-i.i past
+      c.loop-i.invariant.1;
 }

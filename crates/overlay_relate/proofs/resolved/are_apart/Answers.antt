@@ -30,7 +30,8 @@ returns-then-ascend g c = record {
 pub returns-else-ascend : goal.returns-else-ascend
 returns-else-ascend g c = record {
   ok = let ks = edges_once g.I.IntNumber.whole c.args.edges.now in
-      let forward = long_forward g.I.IntNumber.limit (ends_once g.I.IntNumber.whole c.args.edges.now) c.requires.long in (
+      let forward = long_forward g.I.IntNumber.limit (ends_once g.I.IntNumber.whole c.args.edges.now) c.requires.long
+      in (
         λ t. absurd (false≢true t),
         λ apart. sym c.if-ascend.false ∙ c.ascend.ensures.1 (apart_ascend ks forward apart c.requires.order),
       );

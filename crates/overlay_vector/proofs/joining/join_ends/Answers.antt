@@ -35,7 +35,8 @@ returns-then-not-are_joinable g c = record {
       let l = plain c.index-last.result.now in
       let mid = map plain (remove (take k xs) 0) in
       let same = last_off plain xs k c.index-last.result.now long c.index-last.ensures
-      ∙ ap (λ fs. fs ++ l ∷ []) (first_off plain xs k c.index-first.result.now long (omega (arith, c.loop-path.path.ok.0))
+      ∙ ap (λ fs. fs ++ l ∷ []) (first_off plain xs k c.index-first.result.now long
+      (omega (arith, c.loop-path.path.ok.0))
       c.index-first.ensures) in
       record {
         becomes = c.loop-path.invariant.becomes;

@@ -39,6 +39,7 @@ returns g c = record {
       let past = c.loop-place-test.false in
       let end = c.loop-place.auto.place-end in
       let all : c.loop-place.place ≡ length c.args.steps.now = omega arith in
-      subst (λ n. HaveEdges (plain_steps whole c.args.steps.now) n (numbered_entries whole c.loop-place.edges.items)) all
+      subst (λ n. HaveEdges (plain_steps whole c.args.steps.now) n (numbered_entries whole c.loop-place.edges.items))
+      all
       c.loop-place.invariant;
 }

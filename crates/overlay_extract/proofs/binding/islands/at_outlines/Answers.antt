@@ -51,7 +51,8 @@ returns g c = record {
   ok = let past = c.loop-i-test.false in
       let both = c.requires in
       c.loop-i.invariant
-      ∙ ap₂ (λ ds gs. at_outlines ds gs) (mapped_whole (plain_contour g.I.IntNumber.whole) c.args.contours.now c.loop-i.i
+      ∙ ap₂ (λ ds gs. at_outlines ds gs) (mapped_whole (plain_contour g.I.IntNumber.whole) c.args.contours.now
+      c.loop-i.i
       past)
       (take_all c.loop-i.i c.args.found.now (omega (arith, past, both)));
 }

@@ -64,6 +64,7 @@ returns g c = record {
       (subst (λ known. HasShapeNumber (other_hand filled) (map (walk_of whole) c.args.contours.now) known found n)
       (c.deref.ensures.value ∙ c.in_ok-places.ensures.ok) (c.in_ok-found.ensures.numbers n))) in
       IfOk-weaker c.at_outlines.result _ (λ v. AreHolesRound filled contours v.items)
-      (λ v is. subst (AreHolesRound filled contours) (sym (is ∙ ap (at_outlines contours) c.deref-2.ensures.value)) round)
+      (λ v is. subst (AreHolesRound filled contours) (sym (is ∙ ap (at_outlines contours) c.deref-2.ensures.value))
+      round)
       c.at_outlines.ensures.ok;
 }

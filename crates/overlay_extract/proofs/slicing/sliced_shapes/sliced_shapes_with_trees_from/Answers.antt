@@ -59,7 +59,8 @@ returns g c = record {
       subst (IsSliced g.I.Wide.WideIntNumber.width min graph.fill_rule direction es)
       (sym (c.bring_in_direction.ensures
       ∙ ap (map (map (in_direction direction)))
-      (same_shapes (points_of_shapes (walks_at cs (place_lists c.in_ok-places.places.items))) (plain_shapes whole shapes)
+      (same_shapes (points_of_shapes (walks_at cs (place_lists c.in_ok-places.places.items)))
+      (plain_shapes whole shapes)
       shown ∙ ap points_of_shapes placed.are)))
       (sliced g.I.Wide.WideIntNumber.width min graph.fill_rule direction es
       (balanced_arrangement g.I.IntNumber.limit es c.note_arrangement.ensures c.requires) cs slices.shapes.items are);

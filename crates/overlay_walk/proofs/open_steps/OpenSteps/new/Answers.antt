@@ -37,7 +37,8 @@ invariant_of-result g c =
 pub returns : goal.returns
 returns g c = record {
   all = subst (IsPermutation c.args.steps.items)
-      (sym (unmarked-cleared c.sort_steps.new.steps.items c.new-taken.result.items c.resize.new.self.items c.len.result _
+      (sym (unmarked-cleared c.sort_steps.new.steps.items c.new-taken.result.items c.resize.new.self.items
+      c.len.result _
       c.new-taken.ensures.len c.new-taken.ensures.items c.in_ok-resize.ensures.items))
       c.sort_steps.ensures.permutation;
 }
