@@ -65,7 +65,7 @@ fn graph_of<I: OverlayInt + From<i16>>(
     add_all(rt, &mut content, row.clip, kind, ShapeType::Clip)?;
     content.arrange(Solver::ABSOLUTE, &mut ())?;
     assert!(rt; is_balanced(alloc, content.edges())?);
-    content.graph(row.fill)
+    Ok(content.graph(row.fill)?)
 }
 
 /// Tests whether the row's shapes are extracted with trees alone, and with lists alone.
