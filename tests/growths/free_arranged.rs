@@ -79,7 +79,10 @@ fn check_edges<I: Width>(trial: &Trial<'_, impl Abort>) -> Result<(), Fail> {
             "overlay_arrange::is_balanced",
             || Ok(is_balanced(memory, edges)?),
         )?,
-        trial.refuse_call("overlay_arrange::is_settled", || Ok(is_settled(memory, edges)?))?,
+        trial.refuse_call(
+            "overlay_arrange::is_settled",
+            || Ok(is_settled(memory, edges)?),
+        )?,
     ];
     assert!(trial.rt; told == [true, true]);
     for tree_from in [0, usize::MAX] {

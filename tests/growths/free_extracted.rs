@@ -317,7 +317,11 @@ fn check_slices<I: Width>(trial: &Trial<'_, impl Abort>) -> Result<(), Fail> {
     let least: I::WideUInt = options.min_output_area;
     let orbits = trial.refuse_call("overlay_extract::side_orbits", || Ok(side_orbits(&graph)?))?;
     let counts = [
-        count_of(trial, "overlay_extract::tours", || Ok(tours(memory, &orbits)?))?,
+        count_of(
+            trial,
+            "overlay_extract::tours",
+            || Ok(tours(memory, &orbits)?),
+        )?,
         count_of(
             trial,
             "overlay_extract::filled_loops",
@@ -382,7 +386,14 @@ fn check_vectors<I: Width>(trial: &Trial<'_, impl Abort>) -> Result<(), Fail> {
         let shapes = lends(
             trial,
             "overlay_vector::vector_shapes_with_trees_from",
-            |it| Ok(vector_shapes_with_trees_from(&graph, SUBJECT, options, it, &mut (), tree_from)?),
+            |it| Ok(vector_shapes_with_trees_from(
+                &graph,
+                SUBJECT,
+                options,
+                it,
+                &mut (),
+                tree_from,
+            )?),
         )?;
         assert!(trial.rt; shapes.len() == 3);
     }
