@@ -102,7 +102,7 @@ impl<I: OverlayInt, A: Allocator + Clone> Overlay<I, A> {
         self.core.arrange(self.solver, &mut ())?;
         let listed = self.list(fill_rule);
         self.core.set_failed(listed.is_err());
-        Ok(listed?)
+        listed
     }
 
     /// Splits the edges where they meet, as `build_separate_vectors` does, and gives the contours
@@ -147,7 +147,7 @@ impl<I: OverlayInt, A: Allocator + Clone> Overlay<I, A> {
         self.core.arrange(self.solver, &mut ())?;
         let shapes = self.extract(overlay_rule, fill_rule);
         self.core.set_failed(shapes.is_err());
-        Ok(shapes?)
+        shapes
     }
 
     /// Splits the edges where they meet, as `build_separate_vectors` does, and writes the contours round
@@ -181,14 +181,15 @@ impl<I: OverlayInt, A: Allocator + Clone> Overlay<I, A> {
     }
 
     // The arranged edges with their filled sides.
-    fn list(&self, fill_rule: FillRule) -> Result<Vec<DataVectorEdge<I, ()>, A>, AllocError>
+    fn list(&self, fill_rule: FillRule) -> Result<Vec<DataVectorEdge<I, ()>, A>, OverlayError>
         requires usable { self.now.failed ≡ false }
         requires ascending { IsAscending self.now.edges }
         requires settled { IsSettled self.now.edges }
         ensures listed { IfOk result (λ v.
             map (plain_vector I.whole) v.items ≡ map (vector_of fill_rule self.now.edges) self.now.edges) }
+        ensures err { IsOkUnless result OverlayError.Memory }
     {
-        self.graph_filled_by(fill_rule)?.separate_vectors()
+        Ok(self.graph_filled_by(fill_rule)?.separate_vectors()?)
     }
 
     // The shapes round the region of the arranged edges. The buffer is there afterwards.
@@ -196,7 +197,7 @@ impl<I: OverlayInt, A: Allocator + Clone> Overlay<I, A> {
         &mut self,
         overlay_rule: OverlayRule,
         fill_rule: FillRule,
-    ) -> Result<IntShapes<I, A>, AllocError>
+    ) -> Result<IntShapes<I, A>, OverlayError>
         requires usable { self.old.failed ≡ false }
         requires ascending { IsAscending self.old.edges }
         requires settled { IsSettled self.old.edges }
@@ -205,6 +206,7 @@ impl<I: OverlayInt, A: Allocator + Clone> Overlay<I, A> {
             self.old.edges (plain_shapes I.whole v.items)) }
         ensures kept { self.new ≡ record self.old { boolean_buffer = self.new.boolean_buffer } }
         ensures buffer { OnOk result (self.new.boolean_buffer ≡ Some tt) }
+        ensures err { IsOkUnless result OverlayError.Memory }
     {
         let graph = self.graph_filled_by(fill_rule)?;
         let mut buffer = BooleanExtractionBuffer::taken_from(
@@ -213,7 +215,7 @@ impl<I: OverlayInt, A: Allocator + Clone> Overlay<I, A> {
         )?;
         let shapes = extract_shapes(&graph, overlay_rule, self.options, &mut buffer);
         self.boolean_buffer = Some(buffer);
-        shapes
+        Ok(shapes?)
     }
 
     // The contours round the region of the arranged edges, written into the output, which is empty at

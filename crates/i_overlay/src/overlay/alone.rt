@@ -48,7 +48,7 @@ impl<I: OverlayInt, A: Allocator + Clone> Overlay<I, A> {
         self.hold_alone(resource)?;
         let shapes = self.extract(OverlayRule::Subject, fill_rule);
         self.core.set_failed(shapes.is_err());
-        Ok(shapes?)
+        shapes
     }
 
     /// Holds the paths of the resource alone, arranged.

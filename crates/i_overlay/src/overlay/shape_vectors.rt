@@ -1,6 +1,6 @@
 //! The region of an overlay as shapes of edges with their filled sides.
 
-ghost use Rattle.std.specs.Prelude.{◌≡◌, false, Some, IfOk, OnOk};
+ghost use Rattle.std.specs.Prelude.{◌≡◌, false, Some, IfOk, OnOk, IsOkUnless};
 ghost use Rattle.overlay_geom.specs.Settled.{IsSettled};
 ghost use Rattle.overlay_arrange.specs.Content.{IsAscending};
 ghost use Rattle.overlay_extract.specs.Results.{asked};
@@ -16,7 +16,7 @@ use overlay_geom::integer::OverlayInt;
 use overlay_vector::path::VectorShape;
 use overlay_vector::vector_shapes::vector_shapes;
 use overlay_walk::buffer::BooleanExtractionBuffer;
-use std::alloc::{AllocError, Allocator};
+use std::alloc::Allocator;
 
 impl<I: OverlayInt, A: Allocator + Clone> Overlay<I, A> {
     /// Splits the edges where they meet, as `build_separate_vectors` does, and gives the contours round the
@@ -42,7 +42,7 @@ impl<I: OverlayInt, A: Allocator + Clone> Overlay<I, A> {
         self.core.arrange(self.solver, &mut ())?;
         let shapes = self.extract_shape_vectors(fill_rule, overlay_rule);
         self.core.set_failed(shapes.is_err());
-        Ok(shapes?)
+        shapes
     }
 
     // The shapes round the region of the arranged edges, as edges. The buffer is there afterwards.
@@ -50,7 +50,7 @@ impl<I: OverlayInt, A: Allocator + Clone> Overlay<I, A> {
         &mut self,
         fill_rule: FillRule,
         overlay_rule: OverlayRule,
-    ) -> Result<Vec<VectorShape<I, A>, A>, AllocError>
+    ) -> Result<Vec<VectorShape<I, A>, A>, OverlayError>
         requires usable { self.old.failed ≡ false }
         requires ascending { IsAscending self.old.edges }
         requires settled { IsSettled self.old.edges }
@@ -59,6 +59,7 @@ impl<I: OverlayInt, A: Allocator + Clone> Overlay<I, A> {
             self.old.edges (plain_vector_shapes I.whole v.items)) }
         ensures kept { self.new ≡ record self.old { boolean_buffer = self.new.boolean_buffer } }
         ensures buffer { OnOk result (self.new.boolean_buffer ≡ Some tt) }
+        ensures err { IsOkUnless result OverlayError.Memory }
     {
         let graph = self.graph_filled_by(fill_rule)?;
         let mut buffer = BooleanExtractionBuffer::taken_from(
@@ -67,6 +68,6 @@ impl<I: OverlayInt, A: Allocator + Clone> Overlay<I, A> {
         )?;
         let shapes = vector_shapes(&graph, overlay_rule, self.options, &mut buffer, &mut ());
         self.boolean_buffer = Some(buffer);
-        shapes
+        Ok(shapes?)
     }
 }

@@ -40,9 +40,7 @@ returns-clause-ok g c =
     (subst (λ ds. IsPermutation (plain_edges whole ds) (ends_once whole c.in_ok-sorted.sorted.items))
     c.deref.ensures.value c.in_ok-sorted.ensures.same)) in
     let is : es ≡ edges_of contour = c.in_ok-edges.ensures.edges in
-    IfOk-weaker c.are_apart.result (λ b. IsTrue b ↔ AreApart (ends_once whole c.deref-2.result.now))
-    (λ b. IsTrue b ↔ IsResolved contour)
-    (λ b told. (
+    let told = c.in_ok-are_apart.ensures.ok in (
       λ t. subst AreApart is (alike.0 (told.0 t)),
       λ resolved. told.1 (alike.1 (subst AreApart (sym is) resolved)),
-    )) c.are_apart.ensures.ok
+    )

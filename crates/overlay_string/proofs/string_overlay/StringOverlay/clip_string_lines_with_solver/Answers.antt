@@ -1,10 +1,9 @@
 -- The edges are arranged, and their graph has the pieces.
-use Rattle.std.proofs.Common.{inr, sym, subst}
-use Rattle.std.proofs.lemmas.Result.{IfOk-weaker, IfErr-weaker}
+use Rattle.std.proofs.Common.{sym, subst}
 use Rattle.overlay_geom.specs.Paths.{paths_of_shape}
 use Rattle.overlay_geom.specs.Settled.{IsSettled}
 use Rattle.overlay_plane.specs.Carried.{edges_in}
-use Rattle.overlay_arrange.specs.Arranged.{IsArranged, MayRefuseSplitting}
+use Rattle.overlay_arrange.specs.Arranged.{IsArranged}
 use Rattle.overlay_arrange.specs.Graphs.{Graph, graph_edges}
 use Rattle.overlay_arrange.specs.declared.string_count.ShapeCountString.{ShapeCountString}
 use Rattle.overlay_string.specs.ClipPaths.{ArePathsOf}
@@ -21,21 +20,14 @@ returns-clause-clipped g c =
     let whole = g.I.IntNumber.whole in
     let rule = c.args.clip_rule in
     let arrangement = edges_in c.arrange.new.self.edges in
-    IfOk-weaker c.clipped.result _ _
-    (λ v are. record {
+    let paths = paths_of_shape whole c.in_ok-clipped.field-0.items in
+    record {
       arrangement = arrangement;
       arranged = subst (λ b. IsArranged c.args.solver b.edges arrangement) c.self.view_is
           c.in_ok-arrange.ensures.query.arranged;
       forward = λ k d lt. (c.in_ok-arrange.ensures.query.content.held k d lt).forward;
-      paths_of = subst (λ es. ArePathsOf (clip_pieces c.args.fill_rule rule (edges_in es))
-          (paths_of_shape whole v.items))
+      paths_of = subst (λ es. ArePathsOf (clip_pieces c.args.fill_rule rule (edges_in es)) paths)
           c.content.ensures.edges
-          (subst (λ (h : Graph ShapeCountString). ArePathsOf (clip_pieces h.fill_rule rule (graph_edges h))
-          (paths_of_shape whole v.items)) c.in_ok-graph.ensures.ok are);
-    })
-    c.clipped.ensures.paths
-
-pub returns-clause-err : goal.returns-clause-err
-returns-clause-err g c =
-    IfErr-weaker c.clipped.result _ _
-    (λ e is. inr (subst (MayRefuseSplitting c.args.solver c.args.self.edges) (sym is) tt)) c.clipped.ensures.err
+          (subst (λ (h : Graph ShapeCountString). ArePathsOf (clip_pieces h.fill_rule rule (graph_edges h)) paths)
+          c.in_ok-graph.ensures.ok c.in_ok-clipped.ensures.paths);
+    }
