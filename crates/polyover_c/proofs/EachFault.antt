@@ -4,6 +4,7 @@ use Rattle.std.specs.Int.{Width}
 use Rattle.i_overlay.specs.OneShot.{MayRefusePaths}
 use Rattle.overlay_builder.specs.GivenPaths.{paths_for}
 use Rattle.overlay_arrange.specs.declared.options.ShapeType.TheVariants.{Subject}
+use Rattle.overlay_relate.specs.Prepared.{MayRefusePreparing}
 use Rattle.overlay_geom.specs.declared.error.OverlayError.{OverlayError}
 use Rattle.i_overlay.specs.Alone.{MayRefuseAlone}
 use Rattle.overlay_string.specs.OneShot.{MayRefusePaths as MayRefuseStrings}
@@ -19,6 +20,7 @@ use Rattle.polyover_c.specs.Linked.{AreFlatLinked, ArePutLinked}
 use Rattle.polyover_c.specs.Listed.{AreEdgesIn, AreEdgesPut}
 use Rattle.polyover_c.specs.Located.{LocatingEnds, CanBeLocated, CanNotBeLocated, Places}
 use Rattle.polyover_c.specs.Overlays.{IsOverlay}
+use Rattle.polyover_c.specs.Prepared.{ArePartsOf, no_parts}
 use Rattle.polyover_c.specs.Put.{EndsInto}
 use Rattle.polyover_c.specs.Reading.{AreContours, HaveOwnFault}
 use Rattle.polyover_c.specs.Refusals.{AreBothRefused, AreQueryNumbers, IsUnknownQuery}
@@ -195,16 +197,31 @@ module _ {I : Type 0} (whole : I → ℤ) (limit : ℕ) where
 -- ---- the laws
 
 module _ {I U : Type 0} (whole : I → ℤ) (limit : ℕ) (width : Width) (natural : U → ℕ) where
-  -- what is told of one list of contours
-  given_apart : (fill : ℕ) (options : OptionNumbers U) (given : Contours I) →
-      FaultsAreApart (IsUnknown 0 fill options) (AreKnown 0 fill options) (IsFaulty whole limit given)
-      (AreGiven whole limit given)
-  given_apart fill options given = record {
-    one_unknown = one_unknown 0 fill options;
-    not_known = not_known 0 fill options;
+  -- what is told of one list of contours, after numbers
+  given_apart : (unknown : Status → Type 0) (known : Type 0) → ((s t : Status) → unknown s → unknown t → s ≡ t) →
+      ((s : Status) → unknown s → ¬ known) → (given : Contours I) →
+      FaultsAreApart unknown known (IsFaulty whole limit given) (AreGiven whole limit given)
+  given_apart unknown known one not given = record {
+    one_unknown = one;
+    not_known = not;
     one_own = one_fault whole limit given.coordinates given.ends;
     not_given = λ f own are. no_fault whole limit given.coordinates given.ends are f own;
   }
+
+  -- after the numbers of options
+  with_options : (fill : ℕ) (options : OptionNumbers U) (given : Contours I) →
+      FaultsAreApart (IsUnknown 0 fill options) (AreKnown 0 fill options) (IsFaulty whole limit given)
+      (AreGiven whole limit given)
+  with_options fill options = given_apart (IsUnknown 0 fill options) (AreKnown 0 fill options)
+      (one_unknown 0 fill options) (not_known 0 fill options)
+
+  -- and after those of a query
+  in_query : (fill solver : ℕ) (given : Contours I) →
+      FaultsAreApart (IsUnknownQuery fill solver) (AreQueryNumbers fill solver) (IsFaulty whole limit given)
+      (AreGiven whole limit given)
+  in_query fill solver = given_apart (IsUnknownQuery fill solver) (AreQueryNumbers fill solver)
+      (one_of_two fill (2 ≤ solver) (solver < 2) (few_or_many solver))
+      (not_both fill (2 ≤ solver) (solver < 2) (few_or_many solver))
 
   -- that it may be refused is told where it is given
   abbrev MayAlone : OptionNumbers U → Contours I → OverlayError → Type 0
@@ -226,7 +243,7 @@ module _ {I U : Type 0} (whole : I → ℤ) (limit : ℕ) (width : Width) (natur
         (λ f is. (is.answer.known, (is.answer.subject_given, is.answer.clip_given)))
         (λ f old new s put. put_late _ _ _ new s put);
     simplified = λ fill options given. one_end (IsUnknown 0 fill options) (AreKnown 0 fill options)
-        (IsFaulty whole limit given) (AreGiven whole limit given) (given_apart fill options given)
+        (IsFaulty whole limit given) (AreGiven whole limit given) (with_options fill options given)
         (MayAlone options given) (λ e m. m.0)
         (IsFlat (IsSimplification whole limit width natural fill options given) whole) ArePut
         (λ f is. (is.answer.known, is.answer.are_given)) (λ f old new s put. put_late _ _ _ new s put);
@@ -278,7 +295,7 @@ module _ {I U : Type 0} (whole : I → ℤ) (limit : ℕ) (width : Width) (natur
         (AreFlatLinked (IsLinkedOverlay whole limit width natural rule fill options subject clip) whole) linked_arrays
         (λ f is. (is.answer.known, (is.answer.subject_given, is.answer.clip_given)));
     simplified = λ fill options given. one_held (IsUnknown 0 fill options) (AreKnown 0 fill options)
-        (IsFaulty whole limit given) (AreGiven whole limit given) (given_apart fill options given)
+        (IsFaulty whole limit given) (AreGiven whole limit given) (with_options fill options given)
         (MayAlone options given) (λ e m. m.0)
         (IsFlat (IsSimplification whole limit width natural fill options given) whole) shape_arrays
         (λ f is. (is.answer.known, is.answer.are_given));
@@ -303,4 +320,11 @@ module _ {I U : Type 0} (whole : I → ℤ) (limit : ℕ) (width : Width) (natur
         (MayRefusePaths (solver_of solver) (paths_given whole subject clip))
         (AreEdgesIn whole limit fill solver subject clip) edge_arrays
         (λ f is. (is.known, (is.subject_given, is.clip_given)));
+    prepared = λ fill solver given parts others. one_telling (IsUnknownQuery fill solver)
+        (AreQueryNumbers fill solver) (IsFaulty whole limit given) (AreGiven whole limit given)
+        (in_query fill solver given)
+        (λ e. AreGiven whole limit given
+        × MayRefusePreparing (solver_of solver) (paths_for Subject (paths_of whole given)) e) (λ e m. m.0)
+        (ArePartsOf whole limit fill solver given parts) (parts ≡ no_parts)
+        (ArePartsOf whole limit fill solver given others) (others ≡ no_parts) (λ are. (are.known, are.are_given));
   }

@@ -11,6 +11,7 @@ use Rattle.polyover_c.specs.Holding.{EdgesAreHeld}
 use Rattle.polyover_c.specs.Listed.{ListingEnds}
 use Rattle.polyover_c.specs.Located.{LocatingEnds}
 use Rattle.polyover_c.specs.Overlays.{OverlayEnds}
+use Rattle.polyover_c.specs.Prepared.{PreparingEnds}
 use Rattle.polyover_c.specs.Related.{RelatingEnds}
 use Rattle.polyover_c.specs.Simplified.{SimplifyingEnds}
 use Rattle.polyover_c.specs.Sliced.{SlicingEnds}
@@ -68,3 +69,5 @@ pub record ResultsTellOneFault {I U : Type 0} (whole : I → ℤ) (limit : ℕ) 
         HandsOneFault (ClipsAreHeld whole limit fill options shape lines)
     pub listed : (fill solver : ℕ) (subject clip : Contours I) →
         HandsOneFault (EdgesAreHeld whole limit fill solver subject clip)
+    pub prepared : (fill solver : ℕ) (given : Contours I) →
+        HandsOneFault (PreparingEnds whole limit fill solver given)
