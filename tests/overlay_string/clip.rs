@@ -1,6 +1,6 @@
 //! Strings clipped by a shape, on worked rows, at each coordinate type.
 
-use crate::rules::{INSIDE, OUTSIDE, WITH_BOUNDARY};
+use crate::rules::{IN_AND_OUT, INSIDE, JOINED, OUTSIDE, PARTED, SQUARE, WITH_BOUNDARY};
 use overlay_arrange::fill_rule::FillRule;
 use overlay_geom::integer::OverlayInt;
 use overlay_geom::path::IntPath;
@@ -10,9 +10,6 @@ use small_points::contours::{Points, assert_in_range, contour_of, shape_of};
 use std::alloc::Global;
 use std::process::Abort;
 use std::test::Fail;
-
-// A square of 20 round the origin.
-const SQUARE: Points<'static> = &[(-10, -10), (-10, 10), (10, 10), (10, -10)];
 
 // The paths that are left of strings, clipped by a contour.
 fn clipped<I: OverlayInt + From<i16>>(
@@ -85,23 +82,8 @@ fn lines<I: OverlayInt + PartialEq + From<i16>>(
 
 // A path in and out of the square.
 fn path<I: OverlayInt + PartialEq + From<i16>>(rt: &impl Abort, alloc: Global) -> Result<(), Fail> {
-    let path: Points<'_> = &[
-        (-20, 10),
-        (-20, 0),
-        (0, 0),
-        (0, 10),
-        (5, 10),
-        (20, -5),
-        (5, -5),
-        (0, -10),
-        (-5, -5),
-        (-15, -15),
-    ];
-    let below: Points<'_> = &[(10, -5), (5, -5), (0, -10), (-5, -5), (-10, -10)];
-    let wanted: &[Points<'_>] = &[below, &[(-10, 0), (0, 0), (0, 10)], &[(5, 10), (10, 5)]];
-    check::<I>(rt, alloc, SQUARE, &[path], INSIDE, wanted)?;
-    let above: Points<'_> = &[(-10, 0), (0, 0), (0, 10), (5, 10), (10, 5)];
-    check::<I>(rt, alloc, SQUARE, &[path], WITH_BOUNDARY, &[below, above])
+    check::<I>(rt, alloc, SQUARE, &[IN_AND_OUT], INSIDE, PARTED)?;
+    check::<I>(rt, alloc, SQUARE, &[IN_AND_OUT], WITH_BOUNDARY, JOINED)
 }
 
 // Lines that meet in one point inside: the first edge in order goes on.

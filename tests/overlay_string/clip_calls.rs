@@ -1,7 +1,9 @@
 //! Strings clipped in one call, on the rows of each call, at each coordinate type.
 
 use crate::points::line_of;
-use crate::rules::{INSIDE, NOT_WITHIN, OUTSIDE, WITH_BOUNDARY};
+use crate::rules::{
+    IN_AND_OUT, INSIDE, JOINED, NOT_WITHIN, OUTSIDE, PARTED, SQUARE, WITH_BOUNDARY,
+};
 use overlay_arrange::fill_rule::FillRule;
 use overlay_geom::integer::OverlayInt;
 use overlay_geom::path::{IntLine, IntPath};
@@ -15,9 +17,7 @@ use std::alloc::Global;
 use std::process::Abort;
 use std::test::Fail;
 
-// A square of 20 round the origin, and lines through its middle and along its left side.
-const SQUARE: Points<'static> = &[(-10, -10), (-10, 10), (10, 10), (10, -10)];
-
+// Lines through the middle of the square and along its left side.
 const MIDDLE: Points<'static> = &[(0, -15), (0, 15)];
 
 const SIDE: Points<'static> = &[(-10, -15), (-10, 15)];
@@ -31,23 +31,6 @@ const UPRIGHT: Points<'static> = &[(0, -1), (0, 2)];
 const TRAPEZIUM: Points<'static> = &[(-2, -2), (2, -2), (3, 0), (-3, 0)];
 
 const BOWL: Points<'static> = &[(-4, 1), (-2, -2), (2, -2), (4, 1)];
-
-// A path in and out of the square.
-const IN_AND_OUT: Points<'static> = &[
-    (-20, 10),
-    (-20, 0),
-    (0, 0),
-    (0, 10),
-    (5, 10),
-    (20, -5),
-    (5, -5),
-    (0, -10),
-    (-5, -5),
-    (-15, -15),
-];
-
-// The part of the path below, in the square.
-const BELOW: Points<'static> = &[(10, -5), (5, -5), (0, -10), (-5, -5), (-10, -10)];
 
 // The parts of a line that are left.
 fn by_line<I: OverlayInt + From<i16>>(
@@ -257,12 +240,10 @@ fn paths<I: OverlayInt + PartialEq + From<i16>>(
 ) -> Result<(), Fail> {
     let through: Points<'_> = &[(0, -15), (0, 0), (0, 15)];
     let by_three: &[Points<'_>] = &[&[(0, -10), (0, 0), (0, 10)]];
-    let parted: &[Points<'_>] = &[BELOW, &[(-10, 0), (0, 0), (0, 10)], &[(5, 10), (10, 5)]];
-    let joined: &[Points<'_>] = &[BELOW, &[(-10, 0), (0, 0), (0, 10), (5, 10), (10, 5)]];
     let bottom: &[Points<'_>] = &[&[(-2, -2), (2, -2)]];
     assert!(rt; leaves_of_path::<I>(rt, alloc, SQUARE, through, INSIDE, by_three)?);
-    assert!(rt; leaves_of_path::<I>(rt, alloc, SQUARE, IN_AND_OUT, INSIDE, parted)?);
-    assert!(rt; leaves_of_path::<I>(rt, alloc, SQUARE, IN_AND_OUT, WITH_BOUNDARY, joined)?);
+    assert!(rt; leaves_of_path::<I>(rt, alloc, SQUARE, IN_AND_OUT, INSIDE, PARTED)?);
+    assert!(rt; leaves_of_path::<I>(rt, alloc, SQUARE, IN_AND_OUT, WITH_BOUNDARY, JOINED)?);
     assert!(rt; leaves_of_path::<I>(rt, alloc, TRAPEZIUM, BOWL, INSIDE, &[])?);
     assert!(rt; leaves_of_path::<I>(rt, alloc, TRAPEZIUM, BOWL, WITH_BOUNDARY, bottom)?);
     Ok(())
