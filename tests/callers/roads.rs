@@ -7,6 +7,7 @@ use overlay_geom::error::OverlayError;
 use overlay_geom::integer::OverlayInt;
 use overlay_vector::edge_overlay::EdgeOverlay;
 use overlay_vector::input_edge::InputEdge;
+use small_points::contours::is_round;
 use std::alloc::Global;
 use std::process::Abort;
 use std::test::Fail;
@@ -68,24 +69,6 @@ fn way_round_both<I: OverlayInt + From<i16>>() -> [DataVectorEdge<I, Road>; 6] {
         along((6, 4), (4, 4), 9),
         along((4, 4), (0, 4), 3),
     ]
-}
-
-// Returns whether the closed contour is the wanted, wherever it begins.
-fn is_round<I: OverlayInt + PartialEq>(
-    path: &[DataVectorEdge<I, Road>],
-    wanted: &[DataVectorEdge<I, Road>],
-) -> bool {
-    if path.len() != wanted.len() {
-        return false;
-    }
-    for start in 0..path.len() {
-        if path[start..] == wanted[..path.len() - start]
-            && path[..start] == wanted[path.len() - start..]
-        {
-            return true;
-        }
-    }
-    path.is_empty()
 }
 
 // Tests whether that way alone is found, with its roads.

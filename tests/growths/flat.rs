@@ -2,7 +2,7 @@
 
 use crate::figures::{Width, flat_squares, lone_squares, square_at};
 use crate::overlay_queries::{is_empty, overlapping};
-use crate::refusals::{Memory, Trial};
+use crate::refusals::{Answer, Memory, Trial};
 use i_overlay::fill_rule::FillRule;
 use i_overlay::i_float::int::point::IntPoint;
 use i_overlay::i_shape::flat::buffer::{FlatContoursBuffer, FlatShapesBuffer};
@@ -28,7 +28,7 @@ fn check_contours<I: Width>(trial: &Trial<'_, impl Abort>) -> Result<(), Fail> {
             buffer.add_contour(&more)?;
             Ok(buffer)
         },
-        |it| {
+        |it| -> Answer<()> {
             for _ in 0..9 {
                 it.add_contour(&more)?;
             }

@@ -77,34 +77,31 @@ fn check_edges<I: Width>(trial: &Trial<'_, impl Abort>) -> Result<(), Fail> {
     let told = [
         trial.refuse_call(
             "overlay_arrange::is_balanced",
-            || Ok(is_balanced(memory, edges)?),
+            || is_balanced(memory, edges),
         )?,
-        trial.refuse_call(
-            "overlay_arrange::is_settled",
-            || Ok(is_settled(memory, edges)?),
-        )?,
+        trial.refuse_call("overlay_arrange::is_settled", || is_settled(memory, edges))?,
     ];
     assert!(trial.rt; told == [true, true]);
     for tree_from in [0, usize::MAX] {
         let fills = trial.refuse_call("overlay_arrange::fills_with_trees_from", || {
-            Ok(fills_with_trees_from(memory, edges, RULE, tree_from)?)
+            fills_with_trees_from(memory, edges, RULE, tree_from)
         })?;
         assert!(trial.rt; &fills[..4] == &[2, 1, 2, 1][..] && fills.len() == 4 * PATHS);
         let again = trial.refuse_call("overlay_arrange::fills_of_balanced", || {
-            Ok(fills_of_balanced(memory, edges, RULE, tree_from)?)
+            fills_of_balanced(memory, edges, RULE, tree_from)
         })?;
         assert!(trial.rt; again == fills);
     }
     trial.refuse_each(
         "overlay_arrange::order_by_numbers",
         || places_down(memory),
-        |it| Ok(order_by_numbers(it, PATHS, |place| *place)?),
+        |it| order_by_numbers(it, PATHS, |place| *place),
         |it| Ok(it[..] == places_down(memory)?[..]),
     )?;
     trial.refuse_each(
         "overlay_arrange::order_by_leaders",
         || places_in_turn(memory),
-        |it| Ok(order_by_leaders(it, 2, |p, q| p.cmp(q))?),
+        |it| order_by_leaders(it, 2, |p, q| p.cmp(q)),
         |it| Ok(it[..] == places_in_turn(memory)?[..]),
     )
 }
@@ -127,10 +124,10 @@ fn check_paths<I: Width>(trial: &Trial<'_, impl Abort>) -> Result<(), Fail> {
         )?;
     }
     let points = trial.refuse_call("overlay_builder::gathered", || {
-        Ok(gathered(memory, more.iter().copied())?)
+        gathered(memory, more.iter().copied())
     })?;
     assert!(trial.rt; &points[..] == &more[..]);
-    let points = trial.refuse_call("overlay_geom::copied", || Ok(copied(memory, &more)?))?;
+    let points = trial.refuse_call("overlay_geom::copied", || copied(memory, &more))?;
     assert!(trial.rt; &points[..] == &more[..]);
     let longer: [IntPoint<I>; 5] = [
         point(0, 0),
@@ -139,7 +136,7 @@ fn check_paths<I: Width>(trial: &Trial<'_, impl Abort>) -> Result<(), Fail> {
         point(2, 2),
         point(0, 2),
     ];
-    let points = trial.refuse_call("overlay_geom::thinned", || Ok(thinned(memory, &longer)?))?;
+    let points = trial.refuse_call("overlay_geom::thinned", || thinned(memory, &longer))?;
     assert!(trial.rt; &points[..] == &more[..]);
     Ok(())
 }
@@ -166,13 +163,13 @@ fn check_points<I: Width>(trial: &Trial<'_, impl Abort>) -> Result<(), Fail> {
     for tree_from in [0, usize::MAX] {
         let located = [
             trial.refuse_call("overlay_relate::locate_in_contour", || {
-                Ok(locate_in_contour(memory, &contour, &points, tree_from)?)
+                locate_in_contour(memory, &contour, &points, tree_from)
             })?,
             trial.refuse_call("overlay_relate::locate_in_shape", || {
-                Ok(locate_in_shape(memory, &shape, &points, tree_from)?)
+                locate_in_shape(memory, &shape, &points, tree_from)
             })?,
             trial.refuse_call("overlay_relate::locate_in_shapes", || {
-                Ok(locate_in_shapes(memory, &shapes, &points, tree_from)?)
+                locate_in_shapes(memory, &shapes, &points, tree_from)
             })?,
         ];
         for each in &located {
@@ -191,7 +188,7 @@ fn check_simplifying<I: Width>(trial: &Trial<'_, impl Abort>) -> Result<(), Fail
     let (memory, contour) = (trial.memory, square::<I>(0, 2));
     for outcome in [Outcome::AsGiven, Outcome::Reversed] {
         let shapes = trial.refuse_call("i_overlay::shapes_left", || {
-            Ok(shapes_left(memory, &contour, outcome)?)
+            shapes_left(memory, &contour, outcome)
         })?;
         assert!(trial.rt; shapes.len() == 1);
     }

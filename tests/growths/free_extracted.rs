@@ -48,6 +48,7 @@ use overlay_walk::open_steps::OpenSteps;
 use overlay_walk::selected_steps::push_selected;
 use overlay_walk::selected_walks::{selected_contours, selected_walks};
 use overlay_walk::step::Step;
+use std::alloc::AllocError;
 use std::process::Abort;
 use std::test::Fail;
 
@@ -60,8 +61,6 @@ const LIMITS: [usize; 2] = [0, usize::MAX];
 
 // A square with a hole and an island in it, and a small square: three shapes of four contours.
 const SQUARES: [(i16, i16); 4] = [(0, 20), (2, 18), (4, 16), (30, 34)];
-
-type Walks<'m, I> = Vec<Vec<Step<I>, Memory<'m>>, Memory<'m>>;
 
 type Contours<'m, I> = Vec<Contour<I, Memory<'m>>, Memory<'m>>;
 
@@ -88,11 +87,13 @@ fn plain_graph<I: Width>(memory: Memory<'_>) -> Answer<Plain<'_, I>> {
 }
 
 // Refuses the growths of a function that is lent room, and gives its answer.
-fn lends<'m, I: Width, T: Drop, C: Fn(&mut Buffer<'m, I>) -> Answer<T> + Drop>(
-    trial: &Trial<'m, impl Abort>,
-    name: &str,
-    call: C,
-) -> Result<T, Fail> {
+fn lends<
+    'm,
+    I: Width,
+    T: Drop,
+    E: Into<OverlayError> + Drop,
+    C: Fn(&mut Buffer<'m, I>) -> Result<T, E> + Drop,
+>(trial: &Trial<'m, impl Abort>, name: &str, call: C) -> Result<T, Fail> {
     let memory = trial.memory;
     let new = || Ok(BooleanExtractionBuffer::default(memory));
     trial.refuse_each(name, new, &call, |it| Ok(call(it).is_ok()))
@@ -106,12 +107,13 @@ fn steps<'m, I: Width>(graph: &Plain<'m, I>) -> Answer<Vec<Step<I>, Memory<'m>>>
 }
 
 // How many walks, or contours, of all selected steps a function gives.
-fn cuts<'m, I: Width, T: Drop, C: Fn(&mut OpenSteps<I, Memory<'m>>) -> Answer<T> + Drop>(
-    trial: &Trial<'m, impl Abort>,
-    graph: &Plain<'m, I>,
-    name: &str,
-    call: C,
-) -> Result<T, Fail> {
+fn cuts<
+    'm,
+    I: Width,
+    T: Drop,
+    E: Into<OverlayError> + Drop,
+    C: Fn(&mut OpenSteps<I, Memory<'m>>) -> Result<T, E> + Drop,
+>(trial: &Trial<'m, impl Abort>, graph: &Plain<'m, I>, name: &str, call: C) -> Result<T, Fail> {
     let new = || Ok(OpenSteps::new(steps(graph)?)?);
     trial.refuse_each(name, new, call, |_| Ok(true))
 }
@@ -121,29 +123,28 @@ fn check_walks<I: Width>(trial: &Trial<'_, impl Abort>) -> Result<(), Fail> {
     let (graph, options) = (plain_graph::<I>(memory)?, IntOverlayOptions::default());
     let found = trial.refuse_call("overlay_walk::push_selected", || {
         let mut steps = Vec::new(memory);
-        push_selected(&mut steps, graph.edges(), SUBJECT, DIRECTION)?;
-        Ok(steps)
+        push_selected(&mut steps, graph.edges(), SUBJECT, DIRECTION).map(|_| steps)
     })?;
     assert!(trial.rt; found.len() == 16);
     for ogc in [false, true] {
         let options = IntOverlayOptions { ogc, ..options };
         let kept = lends(trial, "overlay_walk::kept_contours", |it| {
-            Ok(kept_contours(&graph, SUBJECT, options, it)?)
+            kept_contours(&graph, SUBJECT, options, it)
         })?;
         assert!(trial.rt; kept.len() == 4);
     }
     let walks = lends(trial, "overlay_walk::selected_walks", |it| {
-        Ok(selected_walks(&graph, SUBJECT, DIRECTION, it)?)
+        selected_walks(&graph, SUBJECT, DIRECTION, it)
     })?;
     let contours = lends(trial, "overlay_walk::selected_contours", |it| {
-        Ok(selected_contours(&graph, SUBJECT, DIRECTION, options.min_output_area, it)?)
+        selected_contours(&graph, SUBJECT, DIRECTION, options.min_output_area, it)
     })?;
     assert!(trial.rt; walks.len() == 4 && contours.len() == 4);
     let walks = cuts(trial, &graph, "overlay_walk::cut_into_contours", |it| {
-        Ok(cut_into_contours(memory, it, HandRule::OutlineOrHole(DIRECTION))?)
+        cut_into_contours(memory, it, HandRule::OutlineOrHole(DIRECTION))
     })?;
     let contours = cuts(trial, &graph, "overlay_walk::cut_in_groups", |it| {
-        Ok(cut_in_groups(memory, it, DIRECTION, options.min_output_area)?)
+        cut_in_groups(memory, it, DIRECTION, options.min_output_area)
     })?;
     assert!(trial.rt; walks.len() == 4 && contours.len() == 4);
     let new = || {
@@ -153,19 +154,15 @@ fn check_walks<I: Width>(trial: &Trial<'_, impl Abort>) -> Result<(), Fail> {
     let large = trial.refuse_each(
         "overlay_walk::large_walks",
         new,
-        |it| Ok(large_walks(memory, taken::<I>(it)?, options.min_output_area)?),
+        |it| large_walks(
+            memory,
+            it.take().ok_or(AllocError)?,
+            options.min_output_area,
+        ),
         |_| Ok(true),
     )?;
     assert!(trial.rt; large.len() == 4);
     Ok(())
-}
-
-// The walks that are handed over.
-fn taken<'m, I: Width>(it: &mut Option<Walks<'m, I>>) -> Answer<Walks<'m, I>> {
-    match it.take() {
-        Some(walks) => Ok(walks),
-        None => Err(OverlayError::Failed),
-    }
 }
 
 #[test]
@@ -197,10 +194,10 @@ fn check_binding<I: Width>(trial: &Trial<'_, impl Abort>) -> Result<(), Fail> {
     let contours = kept(&graph)?;
     let known = known(memory, &contours)?;
     let anchors = trial.refuse_call("overlay_extract::hole_anchors", || {
-        Ok(hole_anchors(memory, &contours, &known)?)
+        hole_anchors(memory, &contours, &known)
     })?;
     let places = trial.refuse_call("overlay_extract::hole_places", || {
-        Ok(hole_places(memory, &contours)?)
+        hole_places(memory, &contours)
     })?;
     assert!(trial.rt; anchors.len() == 1 && places.len() == 4);
     for tree_from in LIMITS {
@@ -208,7 +205,7 @@ fn check_binding<I: Width>(trial: &Trial<'_, impl Abort>) -> Result<(), Fail> {
         let found = trial.refuse_each(
             "overlay_extract::bind_contours",
             new,
-            |it| Ok(bind_contours(memory, it, &contours, DIRECTION)?),
+            |it| bind_contours(memory, it, &contours, DIRECTION),
             |_| Ok(true),
         )?;
         assert!(trial.rt; found.len() == 4);
@@ -219,12 +216,12 @@ fn check_binding<I: Width>(trial: &Trial<'_, impl Abort>) -> Result<(), Fail> {
         let round = trial.refuse_each(
             "overlay_extract::holes_round",
             || Ok(scan_for_islands(memory, &contours, tree_from)),
-            |it| Ok(holes_round(memory, it, &contours, DIRECTION)?),
+            |it| holes_round(memory, it, &contours, DIRECTION),
             |_| Ok(true),
         )?;
         assert!(trial.rt; round.len() == 3);
         let places = trial.refuse_call("overlay_extract::shape_places", || {
-            Ok(shape_places(memory, &contours, &found)?)
+            shape_places(memory, &contours, &found)
         })?;
         assert!(trial.rt; places.len() == 3 && places[0].len() == 2);
     }
@@ -242,16 +239,16 @@ fn check_shapes<I: Width>(trial: &Trial<'_, impl Abort>) -> Result<(), Fail> {
     let contours = kept(&graph)?;
     for tree_from in LIMITS {
         let placed = lends(trial, "overlay_extract::placed_contours", |it| {
-            Ok(placed_contours(&graph, SUBJECT, options, it, tree_from)?)
+            placed_contours(&graph, SUBJECT, options, it, tree_from)
         })?;
         let places = trial.refuse_call("overlay_extract::bound_places", || {
-            Ok(bound_places(&graph, &contours, DIRECTION, tree_from)?)
+            bound_places(&graph, &contours, DIRECTION, tree_from)
         })?;
         assert!(trial.rt; placed.places.len() == 3 && places.len() == 3);
         let shapes = lends(
             trial,
             "overlay_extract::extract_shapes_with_trees_from",
-            |it| Ok(extract_shapes_with_trees_from(&graph, SUBJECT, options, it, tree_from)?),
+            |it| extract_shapes_with_trees_from(&graph, SUBJECT, options, it, tree_from),
         )?;
         let linked = lends(
             trial,
@@ -263,7 +260,7 @@ fn check_shapes<I: Width>(trial: &Trial<'_, impl Abort>) -> Result<(), Fail> {
         assert!(trial.rt; shapes.len() == 3 && linked.links.len() == 1);
     }
     let shapes = lends(trial, "overlay_extract::extract_shapes", |it| {
-        Ok(extract_shapes(&graph, SUBJECT, options, it)?)
+        extract_shapes(&graph, SUBJECT, options, it)
     })?;
     let linked = lends(trial, "overlay_extract::extract_shape_hierarchy", |it| {
         extract_shape_hierarchy(&graph, SUBJECT, options, it)
@@ -272,10 +269,10 @@ fn check_shapes<I: Width>(trial: &Trial<'_, impl Abort>) -> Result<(), Fail> {
     let places = bound_places(&graph, &contours, DIRECTION, 0)?;
     for keeps_points in [false, true] {
         let again = trial.refuse_call("overlay_extract::assembled", || {
-            Ok(assembled(memory, &contours, &places, keeps_points)?)
+            assembled(memory, &contours, &places, keeps_points)
         })?;
         let first = trial.refuse_call("overlay_extract::contour", || {
-            Ok(contour(memory, &contours[0].steps, keeps_points)?)
+            contour(memory, &contours[0].steps, keeps_points)
         })?;
         assert!(trial.rt; again == shapes && first == shapes[0][0]);
     }
@@ -315,42 +312,38 @@ fn check_slices<I: Width>(trial: &Trial<'_, impl Abort>) -> Result<(), Fail> {
     let memory = trial.memory;
     let (graph, options) = (plain_graph::<I>(memory)?, IntOverlayOptions::default());
     let least: I::WideUInt = options.min_output_area;
-    let orbits = trial.refuse_call("overlay_extract::side_orbits", || Ok(side_orbits(&graph)?))?;
+    let orbits = trial.refuse_call("overlay_extract::side_orbits", || side_orbits(&graph))?;
     let counts = [
-        count_of(
-            trial,
-            "overlay_extract::tours",
-            || Ok(tours(memory, &orbits)?),
-        )?,
+        count_of(trial, "overlay_extract::tours", || tours(memory, &orbits))?,
         count_of(
             trial,
             "overlay_extract::filled_loops",
-            || Ok(filled_loops(&graph)?),
+            || filled_loops(&graph),
         )?,
         count_of(trial, "overlay_extract::cut_loops", || {
-            Ok(cut_loops(memory, &orbits[0])?)
+            cut_loops(memory, &orbits[0])
         })?,
     ];
     assert!(trial.rt; orbits.len() == 4 && counts == [4, 4, 1]);
     let contours = trial.refuse_each(
         "overlay_extract::contours_of_loops",
         || Ok(Some(filled_loops(&graph)?)),
-        |it| Ok(contours_of_loops(memory, taken::<I>(it)?)?),
+        |it| contours_of_loops(memory, it.take().ok_or(AllocError)?),
         |_| Ok(true),
     )?;
     let found = trial.refuse_call("overlay_extract::slice_contours", || {
-        Ok(slice_contours(&graph, least)?)
+        slice_contours(&graph, least)
     })?;
     let shapes = trial.refuse_call("overlay_extract::sliced_shapes", || {
-        Ok(sliced_shapes(&graph, DIRECTION, least)?)
+        sliced_shapes(&graph, DIRECTION, least)
     })?;
     assert!(trial.rt; contours.len() == 4 && found.contours.len() == 4 && shapes.len() == 3);
     for tree_from in LIMITS {
         let found = trial.refuse_call("overlay_extract::slice_contours_with_trees_from", || {
-            Ok(slice_contours_with_trees_from(&graph, least, tree_from)?)
+            slice_contours_with_trees_from(&graph, least, tree_from)
         })?;
         let again = trial.refuse_call("overlay_extract::sliced_shapes_with_trees_from", || {
-            Ok(sliced_shapes_with_trees_from(&graph, DIRECTION, least, tree_from)?)
+            sliced_shapes_with_trees_from(&graph, DIRECTION, least, tree_from)
         })?;
         assert!(trial.rt; found.contours.len() == 4 && again == shapes);
     }
@@ -371,29 +364,22 @@ fn check_vectors<I: Width>(trial: &Trial<'_, impl Abort>) -> Result<(), Fail> {
         count_of(
             trial,
             "overlay_vector::graph_vectors",
-            || Ok(graph_vectors(&graph)?),
+            || graph_vectors(&graph),
         )?,
         count_of(trial, "overlay_vector::selected_vectors", || {
-            Ok(selected_vectors(&graph, SUBJECT)?)
+            selected_vectors(&graph, SUBJECT)
         })?,
     ];
     assert!(trial.rt; counts == [16, 16]);
     let shapes = lends(trial, "overlay_vector::vector_shapes", |it| {
-        Ok(vector_shapes(&graph, SUBJECT, options, it, &mut ())?)
+        vector_shapes(&graph, SUBJECT, options, it, &mut ())
     })?;
     assert!(trial.rt; shapes.len() == 3);
     for tree_from in LIMITS {
         let shapes = lends(
             trial,
             "overlay_vector::vector_shapes_with_trees_from",
-            |it| Ok(vector_shapes_with_trees_from(
-                &graph,
-                SUBJECT,
-                options,
-                it,
-                &mut (),
-                tree_from,
-            )?),
+            |it| vector_shapes_with_trees_from(&graph, SUBJECT, options, it, &mut (), tree_from),
         )?;
         assert!(trial.rt; shapes.len() == 3);
     }

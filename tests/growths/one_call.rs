@@ -18,6 +18,7 @@ use i_overlay::solver::Solver;
 use i_overlay::string::clip::{ClipRule, IntClip};
 use i_overlay::string::slice::IntSlice;
 use i_overlay::vector::edge::{DataVectorEdge, DataVectorPath, ToPath};
+use overlay_geom::error::OverlayError;
 use overlay_string::tiles::grid::{Grid, grid_fits};
 use overlay_string::tiles::lines::grid_lines;
 use overlay_string::tiles::places::grid_places;
@@ -85,11 +86,12 @@ fn overlays_in_one_call(rt: HostRuntime) -> Result<(), Fail> {
 }
 
 // Number of paths or shapes that a call gives, with its growths refused in turn.
-pub(crate) fn count_of<T: Drop, A: Allocator, C: Fn() -> Answer<Vec<T, A>> + Drop>(
-    trial: &Trial<'_, impl Abort>,
-    name: &str,
-    call: C,
-) -> Result<usize, Fail> {
+pub(crate) fn count_of<
+    T: Drop,
+    A: Allocator,
+    E: Into<OverlayError> + Drop,
+    C: Fn() -> Result<Vec<T, A>, E> + Drop,
+>(trial: &Trial<'_, impl Abort>, name: &str, call: C) -> Result<usize, Fail> {
     Ok(trial.refuse_call(name, call)?.len())
 }
 
@@ -255,12 +257,12 @@ fn check_grid<I: Width>(trial: &Trial<'_, impl Abort>) -> Result<(), Fail> {
     };
     let counts = [
         count_of(trial, "overlay_string::grid_places", || {
-            Ok(grid_places(memory, I::from(3), span)?)
+            grid_places(memory, I::from(3), span)
         })?,
         trial
             .refuse_call(
                 "overlay_string::grid_lines",
-                || Ok(grid_lines(memory, &shape, grid)?),
+                || grid_lines(memory, &shape, grid),
             )?
             .len(),
         count_of(trial, "overlay_string::slice_by_grid", || {

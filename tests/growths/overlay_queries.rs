@@ -82,13 +82,14 @@ fn mend<I: Width>(it: &mut Overlay<I, Memory<'_>>) -> Answer<()> {
     it.add_contour(&square(17, 24), ShapeType::Clip)
 }
 
-// Refuses the growths of a query.
-fn refuses<
+/// Refuses the growths of a query, after which `mend` puts what `overlapping` has in the place of what is held.
+pub(crate) fn refuses_query<
     'm,
     I: Width,
     T: PartialEq + Drop,
     Q: Fn(&mut Overlay<I, Memory<'m>>) -> Answer<T> + Drop,
->(trial: &Trial<'m, impl Abort>, name: &str, query: Q) -> Result<(), Fail> {
+    M: Fn(&mut Overlay<I, Memory<'m>>) -> Answer<()> + Drop,
+>(trial: &Trial<'m, impl Abort>, name: &str, query: Q, mend: M) -> Result<(), Fail> {
     let memory = trial.memory;
     let given = figures_of::<I>(memory)?;
     trial.answers_or_fails(
@@ -96,8 +97,18 @@ fn refuses<
         || overlapping(memory),
         query,
         |it| has_failed(it, &given),
-        |it| mend(it),
+        mend,
     )
+}
+
+// Refuses the growths of a query that leaves the builder failed until it is cleared.
+fn refuses<
+    'm,
+    I: Width,
+    T: PartialEq + Drop,
+    Q: Fn(&mut Overlay<I, Memory<'m>>) -> Answer<T> + Drop,
+>(trial: &Trial<'m, impl Abort>, name: &str, query: Q) -> Result<(), Fail> {
+    refuses_query(trial, name, query, |it| mend(it))
 }
 
 fn check_queries<I: Width>(trial: &Trial<'_, impl Abort>) -> Result<(), Fail> {

@@ -1,7 +1,7 @@
 //! The calls of `Overlay` that simplify: they mend the builder before they add.
 
-use crate::figures::{PATHS, Width, flat_squares, lone_squares, square_at, squares};
-use crate::overlay_queries::{figures_of, has_failed, is_empty, overlapping};
+use crate::figures::{Width, flat_squares, square_at};
+use crate::overlay_queries::{figures_of, has_failed, is_empty, overlapping, refuses_query};
 use crate::refusals::{Answer, Memory, PLENTY, Trial};
 use crate::seen::Seen;
 use i_overlay::fill_rule::FillRule;
@@ -27,15 +27,7 @@ fn refuses<
     T: PartialEq + Drop,
     Q: Fn(&mut Overlay<I, Memory<'m>>) -> Answer<T> + Drop,
 >(trial: &Trial<'m, impl Abort>, name: &str, query: Q) -> Result<(), Fail> {
-    let memory = trial.memory;
-    let given = figures_of::<I>(memory)?;
-    trial.answers_or_fails(
-        name,
-        || overlapping(memory),
-        query,
-        |it| has_failed(it, &given),
-        |_| Ok(()),
-    )
+    refuses_query(trial, name, query, |_| Ok(()))
 }
 
 fn check_simplify<I: Width>(trial: &Trial<'_, impl Abort>) -> Result<(), Fail> {

@@ -32,8 +32,9 @@ impl<'a, R: Abort> Trial<'a, R> {
     pub(crate) fn refuse_each<
         S: Drop,
         T: Drop,
+        E: Into<OverlayError> + Drop,
         P: Fn() -> Answer<S> + Drop,
-        C: Fn(&mut S) -> Answer<T> + Drop,
+        C: Fn(&mut S) -> Result<T, E> + Drop,
         K: Fn(&mut S) -> Answer<bool> + Drop,
     >(&self, name: &str, prepare: P, call: C, is_kept: K) -> Result<T, Fail> {
         for granted in 0..PLENTY {
@@ -55,6 +56,7 @@ impl<'a, R: Abort> Trial<'a, R> {
                     return Ok(answer);
                 }
                 Err(error) => {
+                    let error: OverlayError = error.into();
                     assert!(self.rt; error == OverlayError::Memory, "{name}: after {granted}");
                 }
             }
@@ -68,24 +70,27 @@ impl<'a, R: Abort> Trial<'a, R> {
     }
 
     // Number of requests of a call where each is granted.
-    fn requests_of<S: Drop, T: Drop, C: Fn(&mut S) -> Answer<T> + Drop>(
-        &self,
-        mut state: S,
-        call: &C,
-    ) -> Answer<u64> {
+    fn requests_of<
+        S: Drop,
+        T: Drop,
+        E: Into<OverlayError> + Drop,
+        C: Fn(&mut S) -> Result<T, E> + Drop,
+    >(&self, mut state: S, call: &C) -> Answer<u64> {
         self.memory.grant(PLENTY);
-        call(&mut state)?;
+        if let Err(error) = call(&mut state) {
+            return Err(error.into());
+        }
         let left = self.memory.left();
         self.memory.grant(PLENTY);
         Ok(PLENTY - left)
     }
 
     /// Refuses each growth of a call that changes nothing.
-    pub(crate) fn refuse_call<T: Drop, C: Fn() -> Answer<T> + Drop>(
-        &self,
-        name: &str,
-        call: C,
-    ) -> Result<T, Fail> {
+    pub(crate) fn refuse_call<
+        T: Drop,
+        E: Into<OverlayError> + Drop,
+        C: Fn() -> Result<T, E> + Drop,
+    >(&self, name: &str, call: C) -> Result<T, Fail> {
         self.refuse_each(name, || Ok(()), |_| call(), |_| Ok(true))
     }
 
@@ -98,13 +103,16 @@ impl<'a, R: Abort> Trial<'a, R> {
     }
 
     /// Makes a call that may answer a refusal, and takes no memory: it is answered while none is granted.
-    pub(crate) fn needs_none<T: Drop, C: FnOnce() -> Answer<T> + Drop>(
-        &self,
-        name: &str,
-        call: C,
-    ) -> Result<T, Fail> {
+    pub(crate) fn needs_none<
+        T: Drop,
+        E: Into<OverlayError> + Drop,
+        C: FnOnce() -> Result<T, E> + Drop,
+    >(&self, name: &str, call: C) -> Result<T, Fail> {
         let answer = self.without_memory(call);
         assert!(self.rt; answer.is_ok(), "{name}: refused");
-        Ok(answer?)
+        answer.map_err(|error| {
+            let error: OverlayError = error.into();
+            error.into()
+        })
     }
 }

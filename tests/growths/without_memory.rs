@@ -39,7 +39,7 @@ fn check_defaults<I: Width>(trial: &Trial<'_, impl Abort>) -> Result<(), Fail> {
     let mut slot = Some(trial.without_memory(|| BooleanExtractionBuffer::<I, _>::default(memory)));
     for _ in 0..2 {
         trial.needs_none("BooleanExtractionBuffer::taken_from", || {
-            Ok(BooleanExtractionBuffer::taken_from(&mut slot, &memory)?)
+            BooleanExtractionBuffer::taken_from(&mut slot, &memory)
         })?;
         assert!(trial.rt; slot.is_none());
     }

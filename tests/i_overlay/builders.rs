@@ -1,6 +1,5 @@
 //! Calls on builders that promise nothing, or little: tests look at what comes of them.
 
-use crate::contours::assert_in_range;
 use i_overlay::fill_rule::FillRule;
 use i_overlay::overlay::{IntOverlayOptions, Overlay, ShapeType};
 use i_overlay::solver::Solver;
@@ -9,6 +8,7 @@ use overlay_geom::error::OverlayError;
 use overlay_geom::integer::OverlayInt;
 use overlay_geom::point::{IntPoint, in_range};
 use overlay_geom::resource::IntShapeResource;
+use small_points::contours::assert_in_range;
 use std::alloc::Allocator;
 use std::process::Abort;
 

@@ -1,6 +1,5 @@
 //! The calls that the original keeps under old names, each at every coordinate type.
 
-use crate::contours::{Points, assert_in_range, contour_of, shape_of, shapes_of};
 use i_overlay::fill_rule::FillRule;
 use i_overlay::i_shape::flat::buffer::FlatContoursBuffer;
 use i_overlay::overlay::{IntOverlayOptions, Overlay, ShapeType};
@@ -10,6 +9,7 @@ use overlay_geom::error::OverlayError;
 use overlay_geom::integer::OverlayInt;
 use overlay_geom::point::in_range;
 use overlay_geom::resource::borrowed::{BorrowedContours, BorrowedShapes};
+use small_points::contours::{Points, assert_in_range, contour_of, shape_of, shapes_of};
 use std::alloc::Global;
 use std::process::Abort;
 use std::test::Fail;

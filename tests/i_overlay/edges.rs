@@ -1,13 +1,14 @@
 //! The edges that a builder gives, at each coordinate type and at the ends of its range.
 
 use crate::builders::{add, check_answered, check_edges, check_fills, edge, edge_count, empty};
-use crate::contours::{OF_SQUARE, Points, SQUARE, add_contours, builder_of};
+use crate::contours::{OF_SQUARE, SQUARE, add_contours, builder_of};
 use crate::squares::{square, square_edges};
 use i_overlay::fill_rule::FillRule;
 use i_overlay::i_float::int::point::IntPoint;
 use i_overlay::overlay::{IntOverlayOptions, Overlay, ShapeType};
 use overlay_geom::error::OverlayError;
 use overlay_geom::integer::OverlayInt;
+use small_points::contours::Points;
 use std::alloc::Global;
 use std::process::Abort;
 use std::test::Fail;

@@ -4,12 +4,13 @@ use crate::builders::{
     add, check_answered, check_fills, edge_count, is_refused, reinit_with_subj,
     reinit_with_subj_and_clip,
 };
-use crate::contours::{OF_SQUARE, Points, SQUARE, builder_of, contour_of};
+use crate::contours::{OF_SQUARE, SQUARE, builder_of};
 use i_overlay::fill_rule::FillRule;
 use i_overlay::i_float::int::point::IntPoint;
 use i_overlay::overlay::{Overlay, ShapeType};
 use overlay_geom::error::OverlayError;
 use overlay_geom::path::PathRef;
+use small_points::contours::{Points, contour_of};
 use std::alloc::Global;
 use std::cell::Cell;
 use std::process::Abort;

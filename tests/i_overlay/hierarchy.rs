@@ -1,7 +1,7 @@
 //! Shapes in holes of other shapes, at each coordinate type and in both output directions.
 
 use crate::alone::rows_are_alone;
-use crate::contours::{Points, add_contours, shapes_of};
+use crate::contours::add_contours;
 use crate::rows::{Row, builder_of};
 use crate::trees::gives_hierarchy;
 use i_overlay::extract::BooleanExtractionBuffer;
@@ -12,6 +12,7 @@ use i_overlay::overlay_rule::OverlayRule;
 use i_overlay::solver::Solver;
 use overlay_geom::error::OverlayError;
 use overlay_geom::integer::OverlayInt;
+use small_points::contours::{Points, shapes_of};
 use std::alloc::Global;
 use std::process::Abort;
 use std::test::Fail;
@@ -201,7 +202,7 @@ pub(crate) fn check<I: OverlayInt + PartialEq + From<i16>>(
     let mut overlay = builder_of::<I>(rt, alloc, &linked.row, options)?;
     let hierarchy = overlay.overlay_hierarchy(linked.row.rule, linked.row.fill)?;
     assert!(rt; shows(alloc, &hierarchy, linked)?);
-    assert!(rt; rows_are_alone(alloc, linked.row.wanted, turn_of(options.output_direction))?);
+    assert!(rt; rows_are_alone::<I>(alloc, linked.row.wanted, turn_of(options.output_direction))?);
     let mut snapped = builder_of::<I>(rt, alloc, &linked.row, options)?;
     snapped.solver = Solver::SNAPPED;
     assert!(rt; snapped.overlay_hierarchy(linked.row.rule, linked.row.fill)? == hierarchy);

@@ -1,12 +1,12 @@
 //! Many shapes with holes, side by side and in each other, at each coordinate type.
 
-use crate::contours::Points;
 use crate::hierarchy::{Linked, check as check_links};
 use crate::rows::{Row, check};
 use i_overlay::fill_rule::FillRule;
 use i_overlay::overlay::IntOverlayOptions;
 use i_overlay::overlay_rule::OverlayRule;
 use overlay_geom::integer::OverlayInt;
+use small_points::contours::Points;
 use std::alloc::Global;
 use std::process::Abort;
 use std::test::Fail;
@@ -91,7 +91,7 @@ fn in_one_another(alloc: Global) -> Result<Vec<Square, Global>, Fail> {
     let mut squares = Vec::new(alloc);
     for j in 0..35u8 {
         let low = 2 * i16::from(j);
-        let high = 200 - low;
+        let high = 146 - low;
         squares.push(outline((low, low), (high, high)))?;
         squares.push(hole((low + 1, low + 1), (high - 1, high - 1)))?;
     }

@@ -1,9 +1,9 @@
 //! Contours below a minimum area are left out, at each coordinate type.
 
-use crate::contours::Points;
 use crate::rows::{Row, check_minimum};
 use i_overlay::fill_rule::FillRule;
 use i_overlay::overlay_rule::OverlayRule;
+use small_points::contours::Points;
 use std::test::Fail;
 
 // The intersection of two squares at a corner: an area of 4.

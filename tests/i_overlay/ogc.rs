@@ -1,9 +1,9 @@
 //! Contours that visit no point twice, at each coordinate type and in both output directions.
 
-use crate::contours::Points;
 use crate::rows::{Row, check, check_clockwise, check_ogc, check_ogc_clockwise};
 use i_overlay::fill_rule::FillRule;
 use i_overlay::overlay_rule::OverlayRule;
+use small_points::contours::Points;
 use std::test::Fail;
 
 // A hole that touches its outline.

@@ -1,11 +1,11 @@
 //! One call on two squares that overlap in a corner, at each coordinate type.
 
-use crate::contours::{assert_in_range, contour_of, shape_of, shapes_of};
 use i_overlay::fill_rule::FillRule;
 use i_overlay::overlay_rule::OverlayRule;
 use i_overlay::single::SingleIntOverlay;
 use overlay_geom::error::OverlayError;
 use overlay_geom::integer::OverlayInt;
+use small_points::contours::{assert_in_range, contour_of, shape_of, shapes_of};
 use std::alloc::Global;
 use std::process::Abort;
 use std::test::Fail;

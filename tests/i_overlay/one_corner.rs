@@ -1,9 +1,9 @@
 //! Two holes that touch their outline, and each other, in one corner, beside other shapes, at each coordinate type.
 
-use crate::contours::Points;
 use crate::rows::{Row, check_clockwise, check_ogc, check_ogc_clockwise, check_wide};
 use i_overlay::fill_rule::FillRule;
 use i_overlay::overlay_rule::OverlayRule;
+use small_points::contours::Points;
 use std::test::Fail;
 
 // A square, the outline with its holes, and a bar below it.

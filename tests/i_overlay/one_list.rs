@@ -1,36 +1,17 @@
 //! Contours in a flat list, at each coordinate type.
 
-use crate::contours::{Points, contour_of};
-use crate::rows::{Row, builder_of};
+use crate::rows::builder_of;
+use crate::shapes::TOUCHING_HOLE;
 use i_overlay::fill_rule::FillRule;
 use i_overlay::overlay::{IntOverlayOptions, Overlay};
 use i_overlay::overlay_rule::OverlayRule;
 use overlay_geom::error::OverlayError;
 use overlay_geom::flat::contours::FlatContoursBuffer;
 use overlay_geom::integer::OverlayInt;
+use small_points::contours::{Points, contour_of};
 use std::alloc::Global;
 use std::process::Abort;
 use std::test::Fail;
-
-// A square with a hole that touches its left side.
-const TOUCHING: Row<'static> = Row {
-    subj: &[&[(0, 0), (6, 0), (6, 6), (0, 6)], &[(0, 3), (2, 4), (2, 2)]],
-    clip: &[],
-    rule: OverlayRule::Subject,
-    fill: FillRule::EvenOdd,
-    wanted: &[],
-};
-
-const ONE_CONTOUR: Points<'static> = &[
-    (0, 3),
-    (0, 0),
-    (6, 0),
-    (6, 6),
-    (0, 6),
-    (0, 3),
-    (2, 4),
-    (2, 2),
-];
 
 // Checks that the buffer holds a single contour, with these points.
 fn check_one<I: OverlayInt + PartialEq + From<i16>>(
@@ -56,11 +37,11 @@ fn check_into<I: OverlayInt + PartialEq + From<i16>>(
     let mut overlay: Overlay<I, Global> = builder_of(
         rt,
         alloc,
-        &TOUCHING,
+        &TOUCHING_HOLE,
         IntOverlayOptions::default(),
     )?;
     overlay.overlay_into(OverlayRule::Subject, FillRule::EvenOdd, &mut output)?;
-    check_one(rt, alloc, &output, ONE_CONTOUR)
+    check_one(rt, alloc, &output, TOUCHING_HOLE.wanted[0][0])
 }
 
 #[test]

@@ -4,13 +4,14 @@ use crate::builders::{
     add_points, add_source, check_answered, check_fills, from_subj, from_subj_and_clip,
     from_subj_and_clip_custom, from_subj_custom, reinit_with_subj, reinit_with_subj_and_clip,
 };
-use crate::contours::{OF_SQUARE, Points, SQUARE, contour_of, shape_of};
+use crate::contours::{OF_SQUARE, SQUARE};
 use i_overlay::fill_rule::FillRule;
 use i_overlay::overlay::{IntOverlayOptions, Overlay, ShapeType};
 use i_overlay::solver::Solver;
 use overlay_geom::error::OverlayError;
 use overlay_geom::integer::OverlayInt;
 use overlay_geom::path::PathRef;
+use small_points::contours::{Points, contour_of, shape_of};
 use std::alloc::Global;
 use std::process::Abort;
 use std::test::Fail;

@@ -1,9 +1,9 @@
 //! Relations of two resources, in one call each, at each coordinate type.
 
-use crate::contours::{assert_in_range, contour_of, shape_of};
 use i_overlay::relate::IntRelate;
 use overlay_geom::error::OverlayError;
 use overlay_geom::integer::OverlayInt;
+use small_points::contours::{assert_in_range, contour_of, shape_of};
 use std::alloc::Global;
 use std::process::Abort;
 use std::test::Fail;

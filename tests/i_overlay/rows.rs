@@ -2,7 +2,7 @@
 
 use crate::alone::rows_are_alone;
 use crate::builders::check_fills;
-use crate::contours::{Points, add_contours, shapes_of};
+use crate::contours::add_contours;
 use crate::trees::gives_shapes;
 use i_overlay::fill_rule::FillRule;
 use i_overlay::overlay::{ContourDirection, IntOverlayOptions, Overlay, ShapeType};
@@ -10,6 +10,7 @@ use i_overlay::overlay_rule::OverlayRule;
 use i_overlay::solver::Solver;
 use overlay_geom::error::OverlayError;
 use overlay_geom::integer::OverlayInt;
+use small_points::contours::{Points, shapes_of};
 use std::alloc::Global;
 use std::process::Abort;
 use std::test::Fail;
@@ -78,7 +79,7 @@ pub(crate) fn check<I: OverlayInt + PartialEq + From<i16>>(
     row: &Row<'_>,
 ) -> Result<(), Fail> {
     assert!(rt; holds::<I>(rt, alloc, row, IntOverlayOptions::default())?);
-    assert!(rt; rows_are_alone(alloc, row.wanted, 1)?);
+    assert!(rt; rows_are_alone::<I>(alloc, row.wanted, 1)?);
     Ok(())
 }
 
@@ -100,7 +101,7 @@ pub(crate) fn check_clockwise<I: OverlayInt + PartialEq + From<i16>>(
         ..IntOverlayOptions::default()
     };
     assert!(rt; holds::<I>(rt, alloc, row, clockwise)?);
-    assert!(rt; rows_are_alone(alloc, row.wanted, -1)?);
+    assert!(rt; rows_are_alone::<I>(alloc, row.wanted, -1)?);
     Ok(())
 }
 
@@ -111,7 +112,7 @@ pub(crate) fn check_kept<I: OverlayInt + PartialEq + From<i16>>(
     row: &Row<'_>,
 ) -> Result<(), Fail> {
     assert!(rt; holds::<I>(rt, alloc, row, IntOverlayOptions::keep_all_points())?);
-    assert!(rt; rows_are_alone(alloc, row.wanted, 1)?);
+    assert!(rt; rows_are_alone::<I>(alloc, row.wanted, 1)?);
     Ok(())
 }
 
@@ -122,7 +123,7 @@ pub(crate) fn check_ogc<I: OverlayInt + PartialEq + From<i16>>(
     row: &Row<'_>,
 ) -> Result<(), Fail> {
     assert!(rt; holds::<I>(rt, alloc, row, IntOverlayOptions::ogc())?);
-    assert!(rt; rows_are_alone(alloc, row.wanted, 1)?);
+    assert!(rt; rows_are_alone::<I>(alloc, row.wanted, 1)?);
     Ok(())
 }
 
@@ -137,7 +138,7 @@ pub(crate) fn check_ogc_clockwise<I: OverlayInt + PartialEq + From<i16>>(
         ..IntOverlayOptions::ogc()
     };
     assert!(rt; holds::<I>(rt, alloc, row, clockwise)?);
-    assert!(rt; rows_are_alone(alloc, row.wanted, -1)?);
+    assert!(rt; rows_are_alone::<I>(alloc, row.wanted, -1)?);
     Ok(())
 }
 

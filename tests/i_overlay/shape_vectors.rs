@@ -1,6 +1,5 @@
 //! Overlays as shapes of edges with their filled sides, at each coordinate type.
 
-use crate::contours::{Points, contour_of};
 use crate::rows::{Row, builder_of};
 use i_overlay::extract::BooleanExtractionBuffer;
 use i_overlay::fill_rule::FillRule;
@@ -10,6 +9,7 @@ use i_overlay::overlay_rule::OverlayRule;
 use i_overlay::vector::edge::{DataVectorEdge, SUBJ_LEFT, ToPath, VectorShape};
 use overlay_geom::error::OverlayError;
 use overlay_geom::integer::OverlayInt;
+use small_points::contours::{Points, contour_of};
 use std::alloc::Global;
 use std::process::Abort;
 use std::test::Fail;

@@ -1,9 +1,9 @@
 //! The shapes of overlays, at each coordinate type.
 
-use crate::contours::Points;
 use crate::rows::{Row, check, check_clockwise, check_kept, check_wide};
 use i_overlay::fill_rule::FillRule;
 use i_overlay::overlay_rule::OverlayRule;
+use small_points::contours::Points;
 use std::test::Fail;
 
 // Two squares that overlap in a corner.
@@ -143,7 +143,8 @@ fn rounded_crossing(rt: HostRuntime) -> Result<(), Fail> {
     check_wide(&rt, rt.alloc(), &ROUNDED_CROSSING)
 }
 
-const TOUCHING_HOLE: Row<'static> = Row {
+// A square with a hole that touches its left side.
+pub(crate) const TOUCHING_HOLE: Row<'static> = Row {
     subj: &[&[(0, 0), (6, 0), (6, 6), (0, 6)], &[(0, 3), (2, 4), (2, 2)]],
     clip: &[],
     rule: OverlayRule::Subject,

@@ -1,7 +1,7 @@
 //! Simplified sources, shapes and flat buffers, at each coordinate type.
 
 use crate::builders::edge_count;
-use crate::contours::{Points, add_contours, assert_in_range, shape_of, shapes_of};
+use crate::contours::add_contours;
 use i_overlay::fill_rule::FillRule;
 use i_overlay::overlay::{ContourDirection, IntOverlayOptions, Overlay, ShapeType};
 use i_overlay::simplify::Simplify;
@@ -10,6 +10,7 @@ use overlay_geom::error::OverlayError;
 use overlay_geom::flat::contours::FlatContoursBuffer;
 use overlay_geom::integer::OverlayInt;
 use overlay_geom::resource::borrowed::{BorrowedContours, BorrowedShapes};
+use small_points::contours::{Points, assert_in_range, shape_of, shapes_of};
 use std::alloc::Global;
 use std::process::Abort;
 use std::test::Fail;

@@ -1,12 +1,12 @@
 //! Simplification of contours, at each coordinate type.
 
-use crate::contours::{Points, contour_of, shapes_of};
 use i_overlay::fill_rule::FillRule;
 use i_overlay::overlay::{IntOverlayOptions, Overlay};
 use i_overlay::solver::Solver;
 use overlay_geom::error::OverlayError;
 use overlay_geom::integer::OverlayInt;
 use overlay_geom::point::in_range;
+use small_points::contours::{Points, contour_of, shapes_of};
 use std::alloc::Global;
 use std::process::Abort;
 use std::test::Fail;

@@ -1,8 +1,6 @@
 //! Contours that rounds do not settle, and that snap rounding does, at each coordinate type.
 
-use crate::contours::{assert_in_range, contour_of};
 use i_overlay::fill_rule::FillRule;
-use i_overlay::i_float::int::point::IntPoint;
 use i_overlay::overlay::{IntOverlayOptions, Overlay};
 use i_overlay::overlay_rule::OverlayRule;
 use i_overlay::relate::PredicateOverlay;
@@ -10,6 +8,7 @@ use i_overlay::solver::Solver;
 use overlay_geom::error::OverlayError;
 use overlay_geom::integer::OverlayInt;
 use overlay_geom::path::IntShapes;
+use small_points::contours::{assert_in_range, contour_of};
 use std::alloc::Global;
 use std::process::Abort;
 use std::test::Fail;

@@ -1,6 +1,5 @@
 //! Extractions of a row with live edges in trees alone, and in lists alone.
 
-use crate::contours::{Points, contour_of, shapes_of};
 use crate::rows::Row;
 use i_overlay::extract::BooleanExtractionBuffer;
 use i_overlay::hierarchy::FlatShapeHierarchy;
@@ -17,6 +16,7 @@ use overlay_geom::error::OverlayError;
 use overlay_geom::integer::OverlayInt;
 use overlay_geom::point::{IntPoint, in_range};
 use overlay_geom::solver::Solver;
+use small_points::contours::{Points, contour_of, shapes_of};
 use std::alloc::Global;
 use std::process::Abort;
 

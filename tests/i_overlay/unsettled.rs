@@ -1,7 +1,6 @@
 //! Each call by rounds on needles that rounds do not settle, at each coordinate type: the refusal says so, and not that
 //! memory was refused.
 
-use crate::contours::{assert_in_range, contour_of, shape_of, shapes_of};
 use crate::snapped::{AROUND_BOTH, FIRST, SECOND, needles};
 use i_overlay::fill_rule::FillRule;
 use i_overlay::i_shape::flat::buffer::FlatContoursBuffer;
@@ -13,6 +12,7 @@ use i_overlay::single::SingleIntOverlay;
 use i_overlay::solver::Solver;
 use overlay_geom::error::OverlayError;
 use overlay_geom::integer::OverlayInt;
+use small_points::contours::{assert_in_range, contour_of, shape_of, shapes_of};
 use std::alloc::Global;
 use std::process::Abort;
 use std::test::Fail;

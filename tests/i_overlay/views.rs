@@ -1,7 +1,6 @@
 //! Views of a builder: made once, asked again and for other rules, at each coordinate type.
 
 use crate::builders::{add, edge_count};
-use crate::contours::{Points, contour_of, shapes_of};
 use crate::rows::{Row, builder_of};
 use i_overlay::extract::BooleanExtractionBuffer;
 use i_overlay::fill_rule::FillRule;
@@ -11,6 +10,7 @@ use i_overlay::overlay_rule::OverlayRule;
 use overlay_geom::error::OverlayError;
 use overlay_geom::flat::contours::FlatContoursBuffer;
 use overlay_geom::integer::OverlayInt;
+use small_points::contours::{Points, contour_of, shapes_of};
 use std::alloc::Global;
 use std::process::Abort;
 use std::test::Fail;

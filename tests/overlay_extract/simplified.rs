@@ -13,19 +13,15 @@ use overlay_builder::path::{PathKind, add_path};
 use overlay_extract::extract::extract_shapes_with_trees_from;
 use overlay_geom::error::OverlayError;
 use overlay_geom::integer::OverlayInt;
-use overlay_geom::path::{IntContour, IntShapes};
-use overlay_geom::point::{IntPoint, in_range};
 use overlay_geom::solver::Solver;
 use overlay_walk::buffer::BooleanExtractionBuffer;
+use small_points::contours::{Points, assert_in_range, contour_of, shapes_of};
 use std::alloc::Global;
 use std::process::Abort;
 use std::test::Fail;
 
 // The limits at which a tree, and a list, is taken whatever the number of shapes.
 const LIMITS: [usize; 2] = [0, usize::MAX];
-
-// Points by their coordinates, small enough for each coordinate type.
-type Points<'a> = &'a [(i16, i16)];
 
 // A square that runs clockwise, and as it is walked.
 const CLOCKWISE: Points<'static> = &[(0, 0), (0, 10), (10, 10), (10, 0)];
@@ -47,32 +43,6 @@ const SMALL: Points<'static> = &[(0, 0), (2, 0), (2, 2), (0, 2)];
 
 const SMALL_WALKED: Points<'static> = &[(0, 2), (0, 0), (2, 0), (2, 2)];
 
-// The contour with these points.
-fn contour_of<I: OverlayInt + From<i16>>(
-    alloc: Global,
-    points: Points<'_>,
-) -> Result<IntContour<I, Global>, OverlayError> {
-    let mut contour = Vec::new(alloc);
-    for point in points {
-        contour.push(IntPoint::new(I::from(point.0), I::from(point.1)))?;
-    }
-    Ok(contour)
-}
-
-// One shape of this contour, or none of no points.
-fn shapes_of<I: OverlayInt + From<i16>>(
-    alloc: Global,
-    points: Points<'_>,
-) -> Result<IntShapes<I, Global>, OverlayError> {
-    let mut shapes = Vec::new(alloc);
-    if !points.is_empty() {
-        let mut shape = Vec::new(alloc);
-        shape.push(contour_of(alloc, points)?)?;
-        shapes.push(shape)?;
-    }
-    Ok(shapes)
-}
-
 // The graph of the contour as the subject, without collinear points, once it is arranged.
 fn graph_of<I: OverlayInt + From<i16>>(
     rt: &impl Abort,
@@ -81,7 +51,7 @@ fn graph_of<I: OverlayInt + From<i16>>(
     fill_rule: FillRule,
 ) -> Result<Graph<I, ShapeCountBoolean, Global>, OverlayError> {
     let contour = contour_of(alloc, points)?;
-    assert!(rt; in_range(&contour));
+    assert_in_range(rt, &contour);
     let mut content = Content::with_capacity(alloc, 0)?;
     add_path(
         &mut content,
@@ -103,7 +73,13 @@ fn check<I: OverlayInt + PartialEq + From<i16>>(
     options: IntOverlayOptions<I::WideUInt>,
     wanted: Points<'_>,
 ) -> Result<(), OverlayError> {
-    let wanted = shapes_of::<I>(alloc, wanted)?;
+    let contour = [wanted];
+    let shape: &[Points<'_>] = &contour;
+    let wanted = if wanted.is_empty() {
+        Vec::new(alloc)
+    } else {
+        shapes_of::<I>(alloc, &[shape])?
+    };
     let graph = graph_of::<I>(rt, alloc, points, fill_rule)?;
     let mut buffer = BooleanExtractionBuffer::default(alloc);
     for tree_from in LIMITS {

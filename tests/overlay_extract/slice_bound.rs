@@ -1,6 +1,6 @@
 //! The contours of slices that reach a minimum area, and the shapes of the holes among them, at each coordinate type.
 
-use crate::slice_graphs::{Points, graph_of, shapes_of};
+use crate::slice_graphs::{INNER, OUTER_AND_INNER, SQUARE, graph_of};
 use overlay_arrange::options::ContourDirection;
 use overlay_extract::slicing::sliced_shapes::sliced_shapes;
 use overlay_extract::slicing::slices::{
@@ -8,15 +8,12 @@ use overlay_extract::slicing::slices::{
 };
 use overlay_geom::number::IntNumber;
 use overlay_walk::contour::Role;
+use small_points::contours::{Points, shapes_of};
 use std::alloc::Global;
 use std::process::Abort;
 use std::test::Fail;
 
-// A square of 20 round the origin, a square of 10 in it as a closed string, and a square of 2 in that.
-const SQUARE: Points<'static> = &[(-10, 10), (-10, -10), (10, -10), (10, 10)];
-
-const INNER: Points<'static> = &[(-5, -5), (-5, 5), (5, 5), (5, -5), (-5, -5)];
-
+// A square of 2 in the inner square, as a closed string.
 const INMOST: Points<'static> = &[(-1, -1), (-1, 1), (1, 1), (1, -1), (-1, -1)];
 
 // Returns whether the contours have these roles, and the holes among them these shapes.
@@ -72,14 +69,8 @@ fn minimum<I: IntNumber + PartialEq + From<i16>>(
     let graph = graph_of::<I>(rt, alloc, &[SQUARE], &[INNER, INMOST])?;
     assert!(rt; slice_contours(&graph, four)?.contours.len() == 5);
     let direction = ContourDirection::CounterClockwise;
-    let wanted: [&[Points<'static>]; 2] = [
-        &[
-            &[(10, -10), (10, 10), (-10, 10), (-10, -10)],
-            &[(-5, -5), (-5, 5), (5, 5), (5, -5)],
-        ],
-        &[&[(5, -5), (5, 5), (-5, 5), (-5, -5)]],
-    ];
-    assert!(rt; sliced_shapes(&graph, direction, five)? == shapes_of::<I>(alloc, &wanted)?);
+    let wanted = shapes_of::<I>(alloc, OUTER_AND_INNER)?;
+    assert!(rt; sliced_shapes(&graph, direction, five)? == wanted);
     assert!(rt; sliced_shapes(&graph, direction, four)?.len() == 3);
     Ok(())
 }

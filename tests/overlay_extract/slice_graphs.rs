@@ -8,14 +8,25 @@ use overlay_arrange::graph::Graph;
 use overlay_arrange::string_count::{STRING_AGAINST, STRING_ALONG, ShapeCountString};
 use overlay_geom::error::OverlayError;
 use overlay_geom::number::IntNumber;
-use overlay_geom::path::{IntShape, IntShapes};
 use overlay_geom::point::IntPoint;
 use overlay_geom::solver::Solver;
+use small_points::contours::{Points, point_of};
 use std::alloc::Global;
 use std::process::Abort;
 
-/// Points by their coordinates, small enough for each coordinate type.
-pub(crate) type Points<'a> = &'a [(i16, i16)];
+/// A square of 20 round the origin, and a square of 10 in it as a closed string.
+pub(crate) const SQUARE: Points<'static> = &[(-10, 10), (-10, -10), (10, -10), (10, 10)];
+
+pub(crate) const INNER: Points<'static> = &[(-5, -5), (-5, 5), (5, 5), (5, -5), (-5, -5)];
+
+/// The shapes into which the string cuts the square: a square with a hole, and an island in that.
+pub(crate) const OUTER_AND_INNER: &[&[Points<'static>]] = &[
+    &[
+        &[(10, -10), (10, 10), (-10, 10), (-10, -10)],
+        &[(-5, -5), (-5, 5), (5, 5), (5, -5)],
+    ],
+    &[&[(5, -5), (5, 5), (-5, 5), (-5, -5)]],
+];
 
 /// The counts of a step that leads from its edge's smaller end to the larger, and of a step back.
 #[derive(Clone, Copy)]
@@ -41,11 +52,6 @@ const OF_STRING: Counts = Counts {
         clip: STRING_AGAINST,
     },
 };
-
-/// The point with these coordinates.
-pub(crate) fn point_of<I: IntNumber + From<i16>>(point: (i16, i16)) -> IntPoint<I> {
-    IntPoint::new(I::from(point.0), I::from(point.1))
-}
 
 // Adds the edge, which leads from its smaller to its larger end in the coordinate range.
 fn push_edge<I: IntNumber>(
@@ -110,32 +116,4 @@ pub(crate) fn graph_of<I: IntNumber + From<i16>>(
     content.arrange(Solver::ABSOLUTE, &mut ())?;
     assert!(rt; is_balanced(alloc, content.edges())?);
     Ok(content.graph(FillRule::NonZero)?)
-}
-
-// The shape with these contours.
-fn shape_of<I: IntNumber + From<i16>>(
-    alloc: Global,
-    contours: &[Points<'_>],
-) -> Result<IntShape<I, Global>, OverlayError> {
-    let mut shape = Vec::new(alloc);
-    for points in contours {
-        let mut contour = Vec::new(alloc);
-        for point in *points {
-            contour.push(point_of(*point))?;
-        }
-        shape.push(contour)?;
-    }
-    Ok(shape)
-}
-
-/// Several shapes.
-pub(crate) fn shapes_of<I: IntNumber + From<i16>>(
-    alloc: Global,
-    shapes: &[&[Points<'_>]],
-) -> Result<IntShapes<I, Global>, OverlayError> {
-    let mut all = Vec::new(alloc);
-    for contours in shapes {
-        all.push(shape_of(alloc, contours)?)?;
-    }
-    Ok(all)
 }

@@ -1,16 +1,15 @@
 //! Shapes sliced along strings, on worked rows, at each coordinate type.
 
-use crate::slice_graphs::{Points, graph_of, shapes_of};
+use crate::slice_graphs::{INNER, OUTER_AND_INNER, SQUARE, graph_of};
 use overlay_arrange::options::ContourDirection;
 use overlay_extract::slicing::sliced_shapes::{sliced_shapes, sliced_shapes_with_trees_from};
 use overlay_geom::number::{IntNumber, UIntNumber};
+use small_points::contours::{Points, shapes_of};
 use std::alloc::Global;
 use std::process::Abort;
 use std::test::Fail;
 
-// A square of 20 round the origin, and the line through its middle.
-const SQUARE: Points<'static> = &[(-10, 10), (-10, -10), (10, -10), (10, 10)];
-
+// The line through the middle of the square.
 const MIDDLE: Points<'static> = &[(-20, 0), (20, 0)];
 
 // Its halves, counterclockwise.
@@ -53,19 +52,7 @@ fn lines<I: IntNumber + PartialEq + From<i16>>(rt: &impl Abort, alloc: Global) -
 
 // A closed string cuts an island out, round which a hole is left.
 fn hole<I: IntNumber + PartialEq + From<i16>>(rt: &impl Abort, alloc: Global) -> Result<(), Fail> {
-    check::<I>(
-        rt,
-        alloc,
-        &[SQUARE],
-        &[&[(-5, -5), (-5, 5), (5, 5), (5, -5), (-5, -5)]],
-        &[
-            &[
-                &[(10, -10), (10, 10), (-10, 10), (-10, -10)],
-                &[(-5, -5), (-5, 5), (5, 5), (5, -5)],
-            ],
-            &[&[(5, -5), (5, 5), (-5, 5), (-5, -5)]],
-        ],
-    )
+    check::<I>(rt, alloc, &[SQUARE], &[INNER], OUTER_AND_INNER)
 }
 
 // Without a shape there are no slices.

@@ -38,9 +38,9 @@ const EQUAL: [bool; 6] = [true, true, false, false, true, true];
 
 type Built<I> = PredicateOverlay<I, Global>;
 
-// Answers of the six predicates, in the order intersects, interiors_intersect, touches, point_intersects, within,
-// covers.
-fn asked<I: OverlayInt>(overlay: &mut Built<I>) -> Result<[bool; 6], OverlayError> {
+/// Answers of the six predicates, in the order intersects, interiors_intersect, touches, point_intersects, within,
+/// covers.
+pub(crate) fn asked<I: OverlayInt>(overlay: &mut Built<I>) -> Result<[bool; 6], OverlayError> {
     Ok([
         overlay.intersects()?,
         overlay.interiors_intersect()?,

@@ -1,5 +1,6 @@
 //! The predicates on worked rows, at each coordinate type.
 
+use crate::again::asked;
 use crate::asked::{assert_shape, points};
 use overlay_arrange::fill_rule::FillRule;
 use overlay_geom::integer::OverlayInt;
@@ -38,14 +39,7 @@ fn answers<I: OverlayInt + From<i16>>(
     assert_shape(rt, &subj);
     assert_shape(rt, &clip);
     let mut overlay = PredicateOverlay::from_subj_and_clip(alloc, &subj, &clip)?;
-    Ok([
-        overlay.intersects()?,
-        overlay.interiors_intersect()?,
-        overlay.touches()?,
-        overlay.point_intersects()?,
-        overlay.within()?,
-        overlay.covers()?,
-    ])
+    Ok(asked(&mut overlay)?)
 }
 
 fn rows<I: OverlayInt + From<i16>>(rt: &impl Abort, alloc: Global) -> Result<(), Fail> {

@@ -1,6 +1,6 @@
 //! Each call that makes a builder for strings, or adds to it, at each coordinate type.
 
-use crate::points::{SQUARE, assert_in_range, line_of, path_of, paths_of};
+use crate::points::{SQUARE, line_of};
 use overlay_geom::error::OverlayError;
 use overlay_geom::integer::OverlayInt;
 use overlay_geom::path::{IntLine, IntShapes};
@@ -8,6 +8,7 @@ use overlay_geom::point::{IntPoint, in_range};
 use overlay_geom::resource::borrowed::{BorrowedContours, BorrowedShapes};
 use overlay_string::lines::BorrowedLines;
 use overlay_string::string_overlay::{IntOverlayOptions, StringOverlay};
+use small_points::contours::{assert_in_range, contour_of, shape_of};
 use std::alloc::Global;
 use std::process::Abort;
 use std::test::Fail;
@@ -26,13 +27,13 @@ fn is_empty_with<I: OverlayInt>(alloc: Global) -> Result<bool, Fail> {
 
 // Tests whether those of a builder with a shape are.
 fn has_shape<I: OverlayInt + From<i16>>(rt: &impl Abort, alloc: Global) -> Result<bool, Fail> {
-    let shape = paths_of::<I>(alloc, &[SQUARE])?;
+    let shape = shape_of::<I>(alloc, &[SQUARE])?;
     assert_in_range(rt, &shape);
     Ok(!StringOverlay::from_shape(alloc, &shape)?.options.ogc)
 }
 
 fn has_shape_with<I: OverlayInt + From<i16>>(rt: &impl Abort, alloc: Global) -> Result<bool, Fail> {
-    let shape = paths_of::<I>(alloc, &[SQUARE])?;
+    let shape = shape_of::<I>(alloc, &[SQUARE])?;
     assert_in_range(rt, &shape);
     let overlay = StringOverlay::from_shape_custom(alloc, &shape, IntOverlayOptions::ogc())?;
     Ok(overlay.options.ogc)
@@ -40,8 +41,8 @@ fn has_shape_with<I: OverlayInt + From<i16>>(rt: &impl Abort, alloc: Global) -> 
 
 // Tests whether a builder with a shape and a string has the default options.
 fn has_both<I: OverlayInt + From<i16>>(rt: &impl Abort, alloc: Global) -> Result<bool, Fail> {
-    let shape = paths_of::<I>(alloc, &[SQUARE])?;
-    let string = path_of::<I>(alloc, &[(-1, 2), (5, 2)])?;
+    let shape = shape_of::<I>(alloc, &[SQUARE])?;
+    let string = contour_of::<I>(alloc, &[(-1, 2), (5, 2)])?;
     assert_in_range(rt, &shape);
     assert_in_range(rt, &string);
     let overlay = StringOverlay::from_shape_and_string(alloc, &shape, &string)?;
@@ -49,8 +50,8 @@ fn has_both<I: OverlayInt + From<i16>>(rt: &impl Abort, alloc: Global) -> Result
 }
 
 fn has_both_with<I: OverlayInt + From<i16>>(rt: &impl Abort, alloc: Global) -> Result<bool, Fail> {
-    let shape = paths_of::<I>(alloc, &[SQUARE])?;
-    let string = path_of::<I>(alloc, &[(-1, 2), (5, 2)])?;
+    let shape = shape_of::<I>(alloc, &[SQUARE])?;
+    let string = contour_of::<I>(alloc, &[(-1, 2), (5, 2)])?;
     assert_in_range(rt, &shape);
     assert_in_range(rt, &string);
     let options = IntOverlayOptions::ogc();
@@ -82,10 +83,10 @@ fn add_points<I: OverlayInt>(
 // Each adder of the shape is granted.
 fn shapes<I: OverlayInt + From<i16>>(rt: &impl Abort, alloc: Global) -> Result<(), Fail> {
     let mut overlay: StringOverlay<I, Global> = StringOverlay::new(alloc, 0)?;
-    let shape = paths_of::<I>(alloc, &[SQUARE])?;
+    let shape = shape_of::<I>(alloc, &[SQUARE])?;
     assert_in_range(rt, &shape);
     overlay.add_shape_source(&shape)?;
-    let contour = path_of::<I>(alloc, SQUARE)?;
+    let contour = contour_of::<I>(alloc, SQUARE)?;
     assert!(rt; in_range(&contour));
     overlay.add_shape_contour(&contour)?;
     add_points(rt, &mut overlay, &contour)?;
@@ -108,7 +109,7 @@ fn lines<I: OverlayInt + From<i16>>(rt: &impl Abort, alloc: Global) -> Result<()
 // Each adder of a path is granted.
 fn strings<I: OverlayInt + From<i16>>(rt: &impl Abort, alloc: Global) -> Result<(), Fail> {
     let mut overlay: StringOverlay<I, Global> = StringOverlay::new(alloc, 0)?;
-    let path = path_of::<I>(alloc, &[(0, 0), (3, 1), (2, 2)])?;
+    let path = contour_of::<I>(alloc, &[(0, 0), (3, 1), (2, 2)])?;
     assert!(rt; in_range(&path));
     overlay.add_string_path(&path)?;
     overlay.add_string_contour(&path)?;
@@ -118,7 +119,7 @@ fn strings<I: OverlayInt + From<i16>>(rt: &impl Abort, alloc: Global) -> Result<
 // Each adder of a resource is granted.
 fn sources<I: OverlayInt + From<i16>>(rt: &impl Abort, alloc: Global) -> Result<(), Fail> {
     let mut overlay: StringOverlay<I, Global> = StringOverlay::new(alloc, 0)?;
-    let paths = paths_of::<I>(alloc, &[SQUARE, &[(0, 0), (3, 1)]])?;
+    let paths = shape_of::<I>(alloc, &[SQUARE, &[(0, 0), (3, 1)]])?;
     assert_in_range(rt, &paths);
     overlay.add_string_source(&paths)?;
     overlay.add_string_contour_source(&paths)?;
@@ -128,7 +129,7 @@ fn sources<I: OverlayInt + From<i16>>(rt: &impl Abort, alloc: Global) -> Result<
 // Each deprecated adder of contours and of paths is granted.
 fn lists<I: OverlayInt + From<i16>>(rt: &impl Abort, alloc: Global) -> Result<(), Fail> {
     let mut overlay: StringOverlay<I, Global> = StringOverlay::new(alloc, 0)?;
-    let paths = paths_of::<I>(alloc, &[SQUARE, &[(0, 0), (3, 1)]])?;
+    let paths = shape_of::<I>(alloc, &[SQUARE, &[(0, 0), (3, 1)]])?;
     assert_in_range(rt, &BorrowedContours { contours: &paths });
     overlay.add_shape_contours(&paths)?;
     overlay.add_string_paths(&paths)?;
@@ -140,7 +141,7 @@ fn lists<I: OverlayInt + From<i16>>(rt: &impl Abort, alloc: Global) -> Result<()
 fn lists_of_shapes<I: OverlayInt + From<i16>>(rt: &impl Abort, alloc: Global) -> Result<(), Fail> {
     let mut overlay: StringOverlay<I, Global> = StringOverlay::new(alloc, 0)?;
     let mut shapes: IntShapes<I, Global> = Vec::new(alloc);
-    shapes.push(paths_of::<I>(alloc, &[SQUARE, &[(0, 0), (3, 1)]])?)?;
+    shapes.push(shape_of::<I>(alloc, &[SQUARE, &[(0, 0), (3, 1)]])?)?;
     let borrowed = BorrowedShapes { shapes: &shapes };
     assert_in_range(rt, &borrowed);
     overlay.add_shapes(borrowed.shapes)?;
@@ -149,7 +150,7 @@ fn lists_of_shapes<I: OverlayInt + From<i16>>(rt: &impl Abort, alloc: Global) ->
 
 // Tests whether a builder that is made from a contour has the default options.
 fn has_contour<I: OverlayInt + From<i16>>(rt: &impl Abort, alloc: Global) -> Result<bool, Fail> {
-    let contour = path_of::<I>(alloc, SQUARE)?;
+    let contour = contour_of::<I>(alloc, SQUARE)?;
     assert!(rt; in_range(&contour));
     Ok(
         !StringOverlay::with_shape_contour(alloc, &contour)?
@@ -160,7 +161,7 @@ fn has_contour<I: OverlayInt + From<i16>>(rt: &impl Abort, alloc: Global) -> Res
 
 // Tests whether a builder made from several contours has the default options.
 fn has_contours<I: OverlayInt + From<i16>>(rt: &impl Abort, alloc: Global) -> Result<bool, Fail> {
-    let shape = paths_of::<I>(alloc, &[SQUARE])?;
+    let shape = shape_of::<I>(alloc, &[SQUARE])?;
     assert_in_range(rt, &BorrowedContours { contours: &shape });
     Ok(
         !StringOverlay::with_shape_contours(alloc, &shape)?
@@ -171,7 +172,7 @@ fn has_contours<I: OverlayInt + From<i16>>(rt: &impl Abort, alloc: Global) -> Re
 
 // Tests whether a builder made from a shape has the default options.
 fn has_one_shape<I: OverlayInt + From<i16>>(rt: &impl Abort, alloc: Global) -> Result<bool, Fail> {
-    let shape = paths_of::<I>(alloc, &[SQUARE])?;
+    let shape = shape_of::<I>(alloc, &[SQUARE])?;
     assert_in_range(rt, &BorrowedContours { contours: &shape });
     Ok(!StringOverlay::with_shape(alloc, &shape)?.options.ogc)
 }
@@ -179,7 +180,7 @@ fn has_one_shape<I: OverlayInt + From<i16>>(rt: &impl Abort, alloc: Global) -> R
 // Tests whether a builder made from several shapes has the default options.
 fn has_shapes<I: OverlayInt + From<i16>>(rt: &impl Abort, alloc: Global) -> Result<bool, Fail> {
     let mut shapes: IntShapes<I, Global> = Vec::new(alloc);
-    shapes.push(paths_of::<I>(alloc, &[SQUARE])?)?;
+    shapes.push(shape_of::<I>(alloc, &[SQUARE])?)?;
     let borrowed = BorrowedShapes { shapes: &shapes };
     assert_in_range(rt, &borrowed);
     Ok(

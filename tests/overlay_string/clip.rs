@@ -1,32 +1,15 @@
 //! Strings clipped by a shape, on worked rows, at each coordinate type.
 
-use crate::points::{Points, assert_in_range, path_of, paths_of};
+use crate::rules::{IN_AND_OUT, INSIDE, JOINED, OUTSIDE, PARTED, SQUARE, WITH_BOUNDARY};
 use overlay_arrange::fill_rule::FillRule;
 use overlay_geom::integer::OverlayInt;
 use overlay_geom::path::IntPath;
 use overlay_string::clip_rule::ClipRule;
 use overlay_string::string_overlay::StringOverlay;
+use small_points::contours::{Points, assert_in_range, contour_of, shape_of};
 use std::alloc::Global;
 use std::process::Abort;
 use std::test::Fail;
-
-// A square of 20 round the origin.
-const SQUARE: Points<'static> = &[(-10, -10), (-10, 10), (10, 10), (10, -10)];
-
-const INSIDE: ClipRule = ClipRule {
-    invert: false,
-    boundary_included: false,
-};
-
-const OUTSIDE: ClipRule = ClipRule {
-    invert: true,
-    boundary_included: false,
-};
-
-const WITH_BOUNDARY: ClipRule = ClipRule {
-    invert: false,
-    boundary_included: true,
-};
 
 // The paths that are left of strings, clipped by a contour.
 fn clipped<I: OverlayInt + From<i16>>(
@@ -36,8 +19,8 @@ fn clipped<I: OverlayInt + From<i16>>(
     strings: &[Points<'_>],
     rule: ClipRule,
 ) -> Result<Vec<IntPath<I, Global>, Global>, Fail> {
-    let shape = path_of::<I>(alloc, contour)?;
-    let strings = paths_of::<I>(alloc, strings)?;
+    let shape = contour_of::<I>(alloc, contour)?;
+    let strings = shape_of::<I>(alloc, strings)?;
     assert_in_range(rt, &shape);
     assert_in_range(rt, &strings);
     let overlay = StringOverlay::from_shape_and_string(alloc, &shape, &strings)?;
@@ -54,7 +37,7 @@ fn check<I: OverlayInt + PartialEq + From<i16>>(
     wanted: &[Points<'_>],
 ) -> Result<(), Fail> {
     let paths = clipped::<I>(rt, alloc, contour, strings, rule)?;
-    let wanted = paths_of::<I>(alloc, wanted)?;
+    let wanted = shape_of::<I>(alloc, wanted)?;
     assert!(rt; paths == wanted);
     Ok(())
 }
@@ -99,23 +82,8 @@ fn lines<I: OverlayInt + PartialEq + From<i16>>(
 
 // A path in and out of the square.
 fn path<I: OverlayInt + PartialEq + From<i16>>(rt: &impl Abort, alloc: Global) -> Result<(), Fail> {
-    let path: Points<'_> = &[
-        (-20, 10),
-        (-20, 0),
-        (0, 0),
-        (0, 10),
-        (5, 10),
-        (20, -5),
-        (5, -5),
-        (0, -10),
-        (-5, -5),
-        (-15, -15),
-    ];
-    let below: Points<'_> = &[(10, -5), (5, -5), (0, -10), (-5, -5), (-10, -10)];
-    let wanted: &[Points<'_>] = &[below, &[(-10, 0), (0, 0), (0, 10)], &[(5, 10), (10, 5)]];
-    check::<I>(rt, alloc, SQUARE, &[path], INSIDE, wanted)?;
-    let above: Points<'_> = &[(-10, 0), (0, 0), (0, 10), (5, 10), (10, 5)];
-    check::<I>(rt, alloc, SQUARE, &[path], WITH_BOUNDARY, &[below, above])
+    check::<I>(rt, alloc, SQUARE, &[IN_AND_OUT], INSIDE, PARTED)?;
+    check::<I>(rt, alloc, SQUARE, &[IN_AND_OUT], WITH_BOUNDARY, JOINED)
 }
 
 // Lines that meet in one point inside: the first edge in order goes on.

@@ -1,6 +1,9 @@
 //! Strings clipped in one call, on the rows of each call, at each coordinate type.
 
-use crate::points::{Points, assert_in_range, line_of, path_of, paths_of};
+use crate::points::line_of;
+use crate::rules::{
+    IN_AND_OUT, INSIDE, JOINED, NOT_WITHIN, OUTSIDE, PARTED, SQUARE, WITH_BOUNDARY,
+};
 use overlay_arrange::fill_rule::FillRule;
 use overlay_geom::integer::OverlayInt;
 use overlay_geom::path::{IntLine, IntPath};
@@ -9,13 +12,12 @@ use overlay_geom::resource::borrowed::BorrowedContours;
 use overlay_string::clip::IntClip;
 use overlay_string::clip_rule::ClipRule;
 use overlay_string::lines::BorrowedLines;
+use small_points::contours::{Points, assert_in_range, contour_of, shape_of};
 use std::alloc::Global;
 use std::process::Abort;
 use std::test::Fail;
 
-// A square of 20 round the origin, and lines through its middle and along its left side.
-const SQUARE: Points<'static> = &[(-10, -10), (-10, 10), (10, 10), (10, -10)];
-
+// Lines through the middle of the square and along its left side.
 const MIDDLE: Points<'static> = &[(0, -15), (0, 15)];
 
 const SIDE: Points<'static> = &[(-10, -15), (-10, 15)];
@@ -30,44 +32,6 @@ const TRAPEZIUM: Points<'static> = &[(-2, -2), (2, -2), (3, 0), (-3, 0)];
 
 const BOWL: Points<'static> = &[(-4, 1), (-2, -2), (2, -2), (4, 1)];
 
-// A path in and out of the square.
-const IN_AND_OUT: Points<'static> = &[
-    (-20, 10),
-    (-20, 0),
-    (0, 0),
-    (0, 10),
-    (5, 10),
-    (20, -5),
-    (5, -5),
-    (0, -10),
-    (-5, -5),
-    (-15, -15),
-];
-
-// The part of the path below, in the square.
-const BELOW: Points<'static> = &[(10, -5), (5, -5), (0, -10), (-5, -5), (-10, -10)];
-
-// The clip rules, by whether they keep what is outside, and whether the boundary.
-const INSIDE: ClipRule = ClipRule {
-    invert: false,
-    boundary_included: false,
-};
-
-const OUTSIDE: ClipRule = ClipRule {
-    invert: true,
-    boundary_included: false,
-};
-
-const WITH_BOUNDARY: ClipRule = ClipRule {
-    invert: false,
-    boundary_included: true,
-};
-
-const NOT_WITHIN: ClipRule = ClipRule {
-    invert: true,
-    boundary_included: true,
-};
-
 // The parts of a line that are left.
 fn by_line<I: OverlayInt + From<i16>>(
     rt: &impl Abort,
@@ -77,7 +41,7 @@ fn by_line<I: OverlayInt + From<i16>>(
     rule: ClipRule,
 ) -> Result<Vec<IntPath<I, Global>, Global>, Fail> {
     assert!(rt; line.len() == 2);
-    let shape = path_of::<I>(alloc, contour)?;
+    let shape = contour_of::<I>(alloc, contour)?;
     assert_in_range(rt, &shape);
     let line: IntLine<I> = line_of(line[0], line[1]);
     assert!(rt; in_range(&line));
@@ -91,7 +55,7 @@ fn by_lines<I: OverlayInt + From<i16>>(
     contour: Points<'_>,
     lines: &[IntLine<I>],
 ) -> Result<Vec<IntPath<I, Global>, Global>, Fail> {
-    let shape = path_of::<I>(alloc, contour)?;
+    let shape = contour_of::<I>(alloc, contour)?;
     assert_in_range(rt, &shape);
     let borrowed = BorrowedLines { lines };
     assert_in_range(rt, &borrowed);
@@ -106,9 +70,9 @@ fn by_path<I: OverlayInt + From<i16>>(
     path: Points<'_>,
     rule: ClipRule,
 ) -> Result<Vec<IntPath<I, Global>, Global>, Fail> {
-    let shape = path_of::<I>(alloc, contour)?;
+    let shape = contour_of::<I>(alloc, contour)?;
     assert_in_range(rt, &shape);
-    let path = path_of::<I>(alloc, path)?;
+    let path = contour_of::<I>(alloc, path)?;
     assert!(rt; in_range(&path));
     Ok(shape.clip_path(alloc, &path, FillRule::NonZero, rule)?)
 }
@@ -119,9 +83,9 @@ fn by_paths<I: OverlayInt + From<i16>>(
     alloc: Global,
     paths: &[Points<'_>],
 ) -> Result<Vec<IntPath<I, Global>, Global>, Fail> {
-    let shape = path_of::<I>(alloc, SQUARE)?;
+    let shape = contour_of::<I>(alloc, SQUARE)?;
     assert_in_range(rt, &shape);
-    let paths = paths_of::<I>(alloc, paths)?;
+    let paths = shape_of::<I>(alloc, paths)?;
     let borrowed = BorrowedContours { contours: &paths };
     assert_in_range(rt, &borrowed);
     Ok(shape.clip_paths(alloc, borrowed.contours, FillRule::NonZero, INSIDE)?)
@@ -133,9 +97,9 @@ fn by_source<I: OverlayInt + From<i16>>(
     alloc: Global,
     paths: &[Points<'_>],
 ) -> Result<Vec<IntPath<I, Global>, Global>, Fail> {
-    let shape = path_of::<I>(alloc, SQUARE)?;
+    let shape = contour_of::<I>(alloc, SQUARE)?;
     assert_in_range(rt, &shape);
-    let paths = paths_of::<I>(alloc, paths)?;
+    let paths = shape_of::<I>(alloc, paths)?;
     assert_in_range(rt, &paths);
     Ok(shape.clip_source(alloc, &paths, FillRule::NonZero, INSIDE)?)
 }
@@ -150,7 +114,7 @@ fn leaves<I: OverlayInt + PartialEq + From<i16>>(
     wanted: &[Points<'_>],
 ) -> Result<bool, Fail> {
     let paths = by_line::<I>(rt, alloc, contour, line, rule)?;
-    Ok(paths == paths_of(alloc, wanted)?)
+    Ok(paths == shape_of(alloc, wanted)?)
 }
 
 // Tests whether these are left of a path.
@@ -163,7 +127,7 @@ fn leaves_of_path<I: OverlayInt + PartialEq + From<i16>>(
     wanted: &[Points<'_>],
 ) -> Result<bool, Fail> {
     let paths = by_path::<I>(rt, alloc, contour, path, rule)?;
-    Ok(paths == paths_of(alloc, wanted)?)
+    Ok(paths == shape_of(alloc, wanted)?)
 }
 
 // Tests whether the first edge in order goes on where lines meet in one point.
@@ -178,7 +142,7 @@ fn forks<I: OverlayInt + PartialEq + From<i16>>(
     ];
     let paths = by_lines::<I>(rt, alloc, SQUARE, &lines)?;
     let wanted: &[Points<'_>] = &[&[(-5, 0), (0, 0), (5, -5)], &[(0, 0), (5, 5)]];
-    Ok(paths == paths_of(alloc, wanted)?)
+    Ok(paths == shape_of(alloc, wanted)?)
 }
 
 // Tests whether a line that is given in both directions is passed in both.
@@ -188,7 +152,7 @@ fn turns_back<I: OverlayInt + PartialEq + From<i16>>(
 ) -> Result<bool, Fail> {
     let lines = [line_of((0, -15), (0, 15)), line_of((0, 15), (0, -15))];
     let paths = by_lines::<I>(rt, alloc, SQUARE, &lines)?;
-    Ok(paths == paths_of(alloc, &[&[(0, -10), (0, 10), (0, -10)]])?)
+    Ok(paths == shape_of(alloc, &[&[(0, -10), (0, 10), (0, -10)]])?)
 }
 
 // Tests whether part of a path in a list is left, and nothing of a path at a distance.
@@ -197,7 +161,7 @@ fn leaves_of_paths<I: OverlayInt + PartialEq + From<i16>>(
     alloc: Global,
 ) -> Result<bool, Fail> {
     let paths = by_paths::<I>(rt, alloc, &[MIDDLE, &[(20, 0), (30, 0)]])?;
-    Ok(paths == paths_of(alloc, &[&[(0, -10), (0, 10)]])?)
+    Ok(paths == shape_of(alloc, &[&[(0, -10), (0, 10)]])?)
 }
 
 // Tests whether the same is left of them as a resource.
@@ -206,7 +170,7 @@ fn leaves_of_source<I: OverlayInt + PartialEq + From<i16>>(
     alloc: Global,
 ) -> Result<bool, Fail> {
     let paths = by_source::<I>(rt, alloc, &[MIDDLE, &[(20, 0), (30, 0)]])?;
-    Ok(paths == paths_of(alloc, &[&[(0, -10), (0, 10)]])?)
+    Ok(paths == shape_of(alloc, &[&[(0, -10), (0, 10)]])?)
 }
 
 // Tests whether a line outside is left at both ends.
@@ -276,12 +240,10 @@ fn paths<I: OverlayInt + PartialEq + From<i16>>(
 ) -> Result<(), Fail> {
     let through: Points<'_> = &[(0, -15), (0, 0), (0, 15)];
     let by_three: &[Points<'_>] = &[&[(0, -10), (0, 0), (0, 10)]];
-    let parted: &[Points<'_>] = &[BELOW, &[(-10, 0), (0, 0), (0, 10)], &[(5, 10), (10, 5)]];
-    let joined: &[Points<'_>] = &[BELOW, &[(-10, 0), (0, 0), (0, 10), (5, 10), (10, 5)]];
     let bottom: &[Points<'_>] = &[&[(-2, -2), (2, -2)]];
     assert!(rt; leaves_of_path::<I>(rt, alloc, SQUARE, through, INSIDE, by_three)?);
-    assert!(rt; leaves_of_path::<I>(rt, alloc, SQUARE, IN_AND_OUT, INSIDE, parted)?);
-    assert!(rt; leaves_of_path::<I>(rt, alloc, SQUARE, IN_AND_OUT, WITH_BOUNDARY, joined)?);
+    assert!(rt; leaves_of_path::<I>(rt, alloc, SQUARE, IN_AND_OUT, INSIDE, PARTED)?);
+    assert!(rt; leaves_of_path::<I>(rt, alloc, SQUARE, IN_AND_OUT, WITH_BOUNDARY, JOINED)?);
     assert!(rt; leaves_of_path::<I>(rt, alloc, TRAPEZIUM, BOWL, INSIDE, &[])?);
     assert!(rt; leaves_of_path::<I>(rt, alloc, TRAPEZIUM, BOWL, WITH_BOUNDARY, bottom)?);
     Ok(())

@@ -5,6 +5,7 @@ mod clip;
 mod clip_calls;
 mod fits;
 mod points;
+mod rules;
 mod slice;
 mod solvers;
 mod tile_points;

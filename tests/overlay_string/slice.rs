@@ -1,8 +1,6 @@
 //! Shapes sliced along strings in one call, on worked rows, at each coordinate type.
 
-use crate::points::{
-    NARROW, Points, SQUARE, WIDE, are_shapes, assert_in_range, line_of, path_of, paths_of,
-};
+use crate::points::{NARROW, SQUARE, WIDE, are_shapes, line_of};
 use overlay_arrange::fill_rule::FillRule;
 use overlay_geom::integer::OverlayInt;
 use overlay_geom::path::{IntLine, IntShapes};
@@ -10,6 +8,7 @@ use overlay_geom::point::in_range;
 use overlay_geom::resource::borrowed::BorrowedContours;
 use overlay_string::lines::BorrowedLines;
 use overlay_string::slice::IntSlice;
+use small_points::contours::{Points, assert_in_range, contour_of, shape_of};
 use std::alloc::Global;
 use std::process::Abort;
 use std::test::Fail;
@@ -43,7 +42,7 @@ fn by_line<I: OverlayInt + From<i16>>(
     fill_rule: FillRule,
 ) -> Result<IntShapes<I, Global>, Fail> {
     assert!(rt; line.len() == 2);
-    let shape = paths_of::<I>(alloc, contours)?;
+    let shape = shape_of::<I>(alloc, contours)?;
     assert_in_range(rt, &shape);
     let line: IntLine<I> = line_of(line[0], line[1]);
     assert!(rt; in_range(&line));
@@ -57,7 +56,7 @@ fn by_lines<I: OverlayInt + From<i16>>(
     contours: &[Points<'_>],
     lines: [IntLine<I>; 2],
 ) -> Result<IntShapes<I, Global>, Fail> {
-    let shape = paths_of::<I>(alloc, contours)?;
+    let shape = shape_of::<I>(alloc, contours)?;
     assert_in_range(rt, &shape);
     let borrowed = BorrowedLines { lines: &lines };
     assert_in_range(rt, &borrowed);
@@ -71,9 +70,9 @@ fn by_path<I: OverlayInt + From<i16>>(
     contour: Points<'_>,
     path: Points<'_>,
 ) -> Result<IntShapes<I, Global>, Fail> {
-    let shape = path_of::<I>(alloc, contour)?;
+    let shape = contour_of::<I>(alloc, contour)?;
     assert_in_range(rt, &shape);
-    let path = path_of::<I>(alloc, path)?;
+    let path = contour_of::<I>(alloc, path)?;
     assert!(rt; in_range(&path));
     Ok(shape.slice_by_path(alloc, &path, FillRule::NonZero)?)
 }
@@ -85,9 +84,9 @@ fn by_paths<I: OverlayInt + From<i16>>(
     contour: Points<'_>,
     paths: &[Points<'_>],
 ) -> Result<IntShapes<I, Global>, Fail> {
-    let shape = path_of::<I>(alloc, contour)?;
+    let shape = contour_of::<I>(alloc, contour)?;
     assert_in_range(rt, &shape);
-    let paths = paths_of::<I>(alloc, paths)?;
+    let paths = shape_of::<I>(alloc, paths)?;
     let borrowed = BorrowedContours { contours: &paths };
     assert_in_range(rt, &borrowed);
     Ok(shape.slice_by_paths(alloc, borrowed.contours, FillRule::NonZero)?)
@@ -100,9 +99,9 @@ fn by_source<I: OverlayInt + From<i16>>(
     contour: Points<'_>,
     paths: &[Points<'_>],
 ) -> Result<IntShapes<I, Global>, Fail> {
-    let shape = path_of::<I>(alloc, contour)?;
+    let shape = contour_of::<I>(alloc, contour)?;
     assert_in_range(rt, &shape);
-    let paths = paths_of::<I>(alloc, paths)?;
+    let paths = shape_of::<I>(alloc, paths)?;
     assert_in_range(rt, &paths);
     Ok(shape.slice_by_source(alloc, &paths, FillRule::NonZero)?)
 }

@@ -1,7 +1,7 @@
 //! A needle with a line along its long sides, which rounds do not settle, and snap rounding does. It tests each single
 //! call, with and without a solver, and the builder's calls, at each coordinate type.
 
-use crate::points::{Points, are_shapes, assert_in_range, line_of, path_of, paths_of};
+use crate::points::{are_shapes, line_of};
 use overlay_arrange::fill_rule::FillRule;
 use overlay_builder::solver::Solver;
 use overlay_geom::error::OverlayError;
@@ -15,6 +15,7 @@ use overlay_string::lines::BorrowedLines;
 use overlay_string::slice::IntSlice;
 use overlay_string::string_overlay::StringOverlay;
 use overlay_string::string_rule::StringRule;
+use small_points::contours::{Points, assert_in_range, contour_of, shape_of};
 use std::alloc::Global;
 use std::process::Abort;
 use std::test::Fail;
@@ -54,7 +55,7 @@ fn needle<I: OverlayInt + From<i16>>(
     rt: &impl Abort,
     alloc: Global,
 ) -> Result<IntPath<I, Global>, OverlayError> {
-    let needle = path_of::<I>(alloc, NEEDLE)?;
+    let needle = contour_of::<I>(alloc, NEEDLE)?;
     assert_in_range(rt, &needle);
     Ok(needle)
 }
@@ -81,7 +82,7 @@ fn is_clipped<I: OverlayInt + PartialEq + From<i16>>(
     if !rule.boundary_included {
         return Ok(paths.is_empty());
     }
-    let shared = path_of::<I>(alloc, SHARED)?;
+    let shared = contour_of::<I>(alloc, SHARED)?;
     Ok(paths.len() == 1 && paths[0].as_slice() == shared.as_slice())
 }
 
@@ -126,13 +127,13 @@ fn clips_paths<I: OverlayInt + PartialEq + From<i16>>(
     rule: ClipRule,
 ) -> Result<(), Fail> {
     let shape = needle::<I>(rt, alloc)?;
-    let path = path_of::<I>(alloc, LINE)?;
+    let path = contour_of::<I>(alloc, LINE)?;
     assert!(rt; in_range(&path));
     let refused = shape.clip_path(alloc, &path, RULE, rule);
     assert!(rt; is_not_settled(refused));
     let snapped = shape.clip_path_with_solver(alloc, &path, RULE, rule, Solver::SNAPPED);
     assert!(rt; is_clipped(alloc, snapped, rule)?);
-    let paths = paths_of::<I>(alloc, &[LINE])?;
+    let paths = shape_of::<I>(alloc, &[LINE])?;
     let borrowed = BorrowedContours { contours: &paths };
     assert_in_range(rt, &borrowed);
     let refused = shape.clip_paths(alloc, borrowed.contours, RULE, rule);
@@ -188,12 +189,12 @@ fn slices_by_paths<I: OverlayInt + PartialEq + From<i16>>(
     alloc: Global,
 ) -> Result<(), Fail> {
     let shape = needle::<I>(rt, alloc)?;
-    let path = path_of::<I>(alloc, LINE)?;
+    let path = contour_of::<I>(alloc, LINE)?;
     assert!(rt; in_range(&path));
     assert!(rt; is_not_settled(shape.slice_by_path(alloc, &path, RULE)));
     let snapped = shape.slice_by_path_with_solver(alloc, &path, RULE, Solver::SNAPPED);
     assert!(rt; is_sliced(alloc, snapped)?);
-    let paths = paths_of::<I>(alloc, &[LINE])?;
+    let paths = shape_of::<I>(alloc, &[LINE])?;
     let borrowed = BorrowedContours { contours: &paths };
     assert_in_range(rt, &borrowed);
     assert!(rt; is_not_settled(shape.slice_by_paths(alloc, borrowed.contours, RULE)));
@@ -211,7 +212,7 @@ fn builder<I: OverlayInt + From<i16>>(
     alloc: Global,
 ) -> Result<StringOverlay<I, Global>, OverlayError> {
     let shape = needle::<I>(rt, alloc)?;
-    let string = path_of::<I>(alloc, LINE)?;
+    let string = contour_of::<I>(alloc, LINE)?;
     assert_in_range(rt, &string);
     StringOverlay::from_shape_and_string(alloc, &shape, &string)
 }

@@ -1,6 +1,6 @@
 //! Views of a shape and strings, and the shapes that are extracted from them, at each coordinate type.
 
-use crate::points::{NARROW, Points, WIDE, are_shapes, path_of};
+use crate::points::{NARROW, WIDE, are_shapes};
 use overlay_arrange::fill_rule::FillRule;
 use overlay_arrange::options::ContourDirection;
 use overlay_builder::solver::Solver;
@@ -10,6 +10,7 @@ use overlay_geom::point::in_range;
 use overlay_string::string_graph::StringGraph;
 use overlay_string::string_overlay::{IntOverlayOptions, StringOverlay};
 use overlay_string::string_rule::StringRule;
+use small_points::contours::{Points, contour_of};
 use std::alloc::Global;
 use std::process::Abort;
 use std::test::Fail;
@@ -38,7 +39,7 @@ fn add_shape<I: OverlayInt + From<i16>>(
     overlay: &mut StringOverlay<I, Global>,
     contour: Points<'_>,
 ) -> Result<(), OverlayError> {
-    let contour = path_of::<I>(alloc, contour)?;
+    let contour = contour_of::<I>(alloc, contour)?;
     assert!(rt; in_range(&contour));
     overlay.add_shape_contour(&contour)
 }
@@ -50,7 +51,7 @@ fn add_string<I: OverlayInt + From<i16>>(
     overlay: &mut StringOverlay<I, Global>,
     contour: Points<'_>,
 ) -> Result<(), OverlayError> {
-    let contour = path_of::<I>(alloc, contour)?;
+    let contour = contour_of::<I>(alloc, contour)?;
     assert!(rt; in_range(&contour));
     overlay.add_string_contour(&contour)
 }

@@ -128,21 +128,3 @@ pub(crate) fn ends_in<I: OverlayInt, D: OverlayEdgeData>(
     }
     Ok(ends)
 }
-
-/// Returns whether the closed contour is the wanted, wherever it begins.
-pub(crate) fn is_round<I: OverlayInt + PartialEq, D: Copy + PartialEq>(
-    path: &[DataVectorEdge<I, D>],
-    wanted: &[DataVectorEdge<I, D>],
-) -> bool {
-    if path.len() != wanted.len() {
-        return false;
-    }
-    for start in 0..path.len() {
-        if path[start..] == wanted[..path.len() - start]
-            && path[..start] == wanted[path.len() - start..]
-        {
-            return true;
-        }
-    }
-    path.is_empty()
-}

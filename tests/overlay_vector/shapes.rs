@@ -1,7 +1,7 @@
 //! Rows of coloured edges, and the shapes that an overlay makes of them.
 
 use crate::colour::Colour;
-use crate::edges::{Place, add_way, is_round, vector_of};
+use crate::edges::{Place, add_way, vector_of};
 use overlay_arrange::fill_rule::FillRule;
 use overlay_arrange::overlay_rule::OverlayRule;
 use overlay_arrange::vector::{DataVectorEdge, SideFill};
@@ -9,6 +9,7 @@ use overlay_geom::error::OverlayError;
 use overlay_geom::integer::OverlayInt;
 use overlay_vector::edge_overlay::{EdgeOverlay, IntOverlayOptions, ShapeType};
 use overlay_vector::path::{DataVectorPath, DataVectorShape};
+use small_points::contours::is_round;
 use std::alloc::Global;
 use std::process::Abort;
 

@@ -1,6 +1,6 @@
 //! Readers and writers that fail.
 
-use crate::runs::check_reader;
+use crate::runs::{check_reader, first_given};
 use polyover_engine::engine::run;
 use polyover_engine::exit::Exit;
 use std::alloc::Allocator;
@@ -21,15 +21,9 @@ impl Read for FailingReader<'_> {
             return Err(ErrorKind::Other.into());
         }
         self.reads -= 1;
-        let Some((first, rest)) = self.bytes.split_first() else {
-            return Ok(0);
-        };
-        let Some(place) = buf.first_mut() else {
-            return Ok(0);
-        };
-        *place = *first;
+        let (given, rest) = first_given(self.bytes, buf);
         self.bytes = rest;
-        Ok(1)
+        Ok(given)
     }
 }
 
@@ -81,15 +75,9 @@ impl Read for InterruptedReader<'_> {
         if self.is_interrupted {
             return Err(ErrorKind::Interrupted.into());
         }
-        let Some((first, rest)) = self.bytes.split_first() else {
-            return Ok(0);
-        };
-        let Some(place) = buf.first_mut() else {
-            return Ok(0);
-        };
-        *place = *first;
+        let (given, rest) = first_given(self.bytes, buf);
         self.bytes = rest;
-        Ok(1)
+        Ok(given)
     }
 }
 

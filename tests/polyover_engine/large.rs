@@ -1,5 +1,6 @@
 //! Large inputs, and readers and writers of one byte a call that are interrupted now and then.
 
+use crate::runs::first_given;
 use polyover_engine::engine::run;
 use polyover_engine::exit::Exit;
 use std::alloc::Allocator;
@@ -20,15 +21,9 @@ impl Read for SlowReader<'_> {
         if self.calls % 3 == 0 {
             return Err(ErrorKind::Interrupted.into());
         }
-        let Some((first, rest)) = self.bytes.split_first() else {
-            return Ok(0);
-        };
-        let Some(place) = buf.first_mut() else {
-            return Ok(0);
-        };
-        *place = *first;
+        let (given, rest) = first_given(self.bytes, buf);
         self.bytes = rest;
-        Ok(1)
+        Ok(given)
     }
 }
 
