@@ -13,7 +13,7 @@ pub mod hand;
 pub mod kept_contours;
 mod leftmost;
 pub mod nearest;
-mod next;
+pub mod next;
 pub mod numbered_edge;
 mod onward;
 mod open_places;
