@@ -1,4 +1,4 @@
-//! The order of anchors.
+//! The order of edges by their starts, lowest first.
 
 ghost use Rattle.std.specs.Prelude.{◌≡◌, OnOk};
 ghost use Rattle.std.specs.List.Sorted.{IsPermutation};
@@ -15,18 +15,19 @@ use std::alloc::{AllocError, Allocator};
 use std::cmp::Ordering;
 
 /// Sorts the edges by their smaller ends, and edges from one point by slope, lowest first.
-pub fn sort_by_anchor<I: IntNumber, A: Allocator>(
+pub fn sort_by_start<I: IntNumber, A: Allocator>(
     edges: &mut Vec<NumberedEdge<I>, A>,
 ) -> Result<(), AllocError>
     ensures permutation { IsPermutation edges.old.items edges.new.items }
     ensures order { OnOk result (IsByStart (numbered_entries I.whole edges.new.items)) }
 {
-    edges.sort_by(|e, f| compare_anchors(e, f))?;
+    edges.sort_by(|e, f| compare_starts(e, f))?;
     Ok(())
 }
 
-/// Compares two anchors by their smaller ends, then by slope: `Less` exactly where the first comes before the second.
-pub fn compare_anchors<I: IntNumber>(e: &NumberedEdge<I>, f: &NumberedEdge<I>) -> Ordering
+/// Compares two edges by their smaller ends, then by slope: `Less` exactly where the first is anchored before the
+/// second.
+pub fn compare_starts<I: IntNumber>(e: &NumberedEdge<I>, f: &NumberedEdge<I>) -> Ordering
     ensures { is_lt result ≡ is_anchored_before (numbered_entry I.whole e.now).edge
         (numbered_entry I.whole f.now).edge }
 {

@@ -1,10 +1,10 @@
-//! The order of edges by their starts.
+//! The order of edges by their starts, top first.
 
 ghost use Rattle.std.specs.Prelude.{◌≡◌, OnOk};
 ghost use Rattle.std.specs.List.Sorted.{IsPermutation};
 ghost use Rattle.std.specs.Ordering.{is_lt};
-ghost use Rattle.overlay_walk.specs.Places.{starts_before};
-ghost use Rattle.overlay_walk.specs.Starts.{AreInStartOrder};
+ghost use Rattle.overlay_walk.specs.Places.{comes_top_first};
+ghost use Rattle.overlay_walk.specs.Starts.{AreTopFirst};
 ghost use Rattle.overlay_walk.specs.WalkEdges.{numbered_entry, numbered_entries};
 
 use crate::numbered_edge::NumberedEdge;
@@ -15,20 +15,20 @@ use std::alloc::{AllocError, Allocator};
 use std::cmp::Ordering;
 
 /// Sorts the edges by their smaller ends, and edges from one point by slope, highest first.
-pub fn sort_by_start<I: IntNumber, A: Allocator>(
+pub fn sort_top_first<I: IntNumber, A: Allocator>(
     edges: &mut Vec<NumberedEdge<I>, A>,
 ) -> Result<(), AllocError>
     ensures permutation { IsPermutation edges.old.items edges.new.items }
-    ensures order { OnOk result (AreInStartOrder (numbered_entries I.whole edges.new.items)) }
+    ensures order { OnOk result (AreTopFirst (numbered_entries I.whole edges.new.items)) }
 {
-    edges.sort_by(|e, f| compare_starts(e, f))?;
+    edges.sort_by(|e, f| compare_top_first(e, f))?;
     Ok(())
 }
 
 /// Compares two edges by their starts: `Less` exactly where e starts in a smaller point than f, or in the same point
 /// and leads to the left of it.
-pub fn compare_starts<I: IntNumber>(e: &NumberedEdge<I>, f: &NumberedEdge<I>) -> Ordering
-    ensures { is_lt result ≡ starts_before (numbered_entry I.whole e.now).edge (numbered_entry I.whole f.now).edge }
+pub fn compare_top_first<I: IntNumber>(e: &NumberedEdge<I>, f: &NumberedEdge<I>) -> Ordering
+    ensures { is_lt result ≡ comes_top_first (numbered_entry I.whole e.now).edge (numbered_entry I.whole f.now).edge }
 {
     match compare_points(e.a, f.a) {
         Ordering::Equal => cross_at(e.a, e.b, f.b).sign(),

@@ -4,8 +4,8 @@ use Rattle.overlay_geom.proofs.Mapped.{mapped_more, mapped_whole}
 use Rattle.overlay_plane.specs.RoledContours.{is_outline}
 use Rattle.overlay_walk.specs.GroupedContours.{plain_contour, plain_contours}
 use Rattle.overlay_extract.proofs.RolesRead.{outline_count, count_more}
-use Rattle.overlay_extract.proofs.binding.roles.shape_count.Goals as goal
-use Rattle.overlay_extract.proofs.binding.roles.shape_count.Goals.{then-is_outline, else-is_outline}
+use Rattle.overlay_extract.proofs.binding.known_shapes.shape_count.Goals as goal
+use Rattle.overlay_extract.proofs.binding.known_shapes.shape_count.Goals.{then-is_outline, else-is_outline}
 
 pub loop-i-preserved : goal.loop-i-preserved
 loop-i-preserved g c =

@@ -2,7 +2,7 @@
 use Rattle.std.proofs.Common.{◌∷◌, ◌++◌, [], sym, ap, ap₂, ◌∙◌}
 use Rattle.overlay_geom.proofs.Mapped.{mapped_more, mapped_whole}
 use Rattle.overlay_extract.proofs.RolesRead.{number_of, numbers_alike}
-use Rattle.overlay_extract.proofs.binding.roles.shapes_known.Goals as goal
+use Rattle.overlay_extract.proofs.binding.known_shapes.shapes_known.Goals as goal
 
 pub loop-i-preserved : goal.loop-i-preserved
 loop-i-preserved g c =

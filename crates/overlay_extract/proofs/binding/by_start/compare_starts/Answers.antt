@@ -3,7 +3,7 @@ use Rattle.std.proofs.Common.{ap, sym, ◌∙◌}
 use Rattle.std.specs.Ordering.{is_lt}
 use Rattle.overlay_plane.proofs.TiedStarts.{tied_before}
 use Rattle.overlay_walk.specs.WalkEdges.{numbered_entry}
-use Rattle.overlay_extract.proofs.binding.by_anchor.compare_anchors.Goals as goal
+use Rattle.overlay_extract.proofs.binding.by_start.compare_starts.Goals as goal
 
 pub returns-in-Equal : goal.returns-in-Equal
 returns-in-Equal g c =

@@ -7,7 +7,7 @@ use Rattle.overlay_plane.specs.Anchors.{is_anchored_before}
 use Rattle.overlay_plane.proofs.SortedStarts.{starts_before, starts_before-order, by_start-from_sorted}
 use Rattle.overlay_scan.specs.Scan.{Entry}
 use Rattle.overlay_walk.specs.WalkEdges.{numbered_entry}
-use Rattle.overlay_extract.proofs.binding.by_anchor.sort_by_anchor.Goals as goal
+use Rattle.overlay_extract.proofs.binding.by_start.sort_by_start.Goals as goal
 
 pub returns-clause-order : goal.returns-clause-order
 returns-clause-order g c =

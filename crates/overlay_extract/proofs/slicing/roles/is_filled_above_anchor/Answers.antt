@@ -3,7 +3,7 @@ use Rattle.std.proofs.Common.{sym, subst}
 use Rattle.overlay_extract.specs.Bound.{PassesAnchor}
 use Rattle.overlay_extract.proofs.AnchorSteps.{lowest_passes}
 use Rattle.overlay_walk.specs.Steps.{plain_step, plain_steps}
-use Rattle.overlay_extract.proofs.slicing.anchor.is_filled_above_anchor.Goals as goal
+use Rattle.overlay_extract.proofs.slicing.roles.is_filled_above_anchor.Goals as goal
 
 pub returns : goal.returns
 returns g c =
