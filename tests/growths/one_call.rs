@@ -20,7 +20,7 @@ use i_overlay::string::slice::IntSlice;
 use i_overlay::vector::edge::{DataVectorEdge, DataVectorPath, ToPath};
 use overlay_string::tiles::grid::{Grid, grid_fits};
 use overlay_string::tiles::lines::grid_lines;
-use overlay_string::tiles::places::grid_places;
+use overlay_string::tiles::multiples::grid_multiples;
 use overlay_string::tiles::slice::slice_by_grid;
 use overlay_string::tiles::span::IntSpan;
 use std::alloc::Allocator;
@@ -254,8 +254,8 @@ fn check_grid<I: Width>(trial: &Trial<'_, impl Abort>) -> Result<(), Fail> {
         height: I::from(4),
     };
     let counts = [
-        count_of(trial, "overlay_string::grid_places", || {
-            Ok(grid_places(memory, I::from(3), span)?)
+        count_of(trial, "overlay_string::grid_multiples", || {
+            Ok(grid_multiples(memory, I::from(3), span)?)
         })?,
         trial
             .refuse_call(

@@ -4,7 +4,7 @@ use Rattle.overlay_geom.proofs.Signs.{linear}
 use Rattle.overlay_plane.proofs.Tests.{lt_from_test, ge_from_test}
 use Rattle.overlay_string.specs.Multiples.{IsRemainder, IsWayToNext}
 use Rattle.overlay_string.proofs.Multiples.{way_above, way_below, way_at}
-use Rattle.overlay_string.proofs.tiles.places.way_to_next.Goals as goal
+use Rattle.overlay_string.proofs.tiles.multiples.way_to_next.Goals as goal
 
 pub returns-then-is_less : goal.returns-then-is_less
 returns-then-is_less g c =

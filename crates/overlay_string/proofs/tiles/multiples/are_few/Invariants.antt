@@ -1,8 +1,8 @@
--- As many places are counted as there are before the next one.
+-- As many multiples are counted as there are before the next one.
 use Rattle.std.proofs.Common.{◌≡◌, ◌≤◌, ℤ, List, length}
 use Rattle.overlay_string.specs.Spans.{plain_span}
-use Rattle.overlay_string.proofs.FrontPlaces.{AreFirst, way_left}
-use Rattle.overlay_string.proofs.tiles.places.are_few.Given as goal
+use Rattle.overlay_string.proofs.FrontMultiples.{AreFirst, way_left}
+use Rattle.overlay_string.proofs.tiles.multiples.are_few.Given as goal
 
 abbrev pub invariant-loop-next : goal.invariant-loop-next
 invariant-loop-next g l =

@@ -3,7 +3,7 @@ use Rattle.std.proofs.Common.{◌<ℤ◌, sym, subst, ◌∙◌}
 use Rattle.overlay_plane.proofs.Tests.{lt_from_test, ge_from_test}
 use Rattle.overlay_string.specs.Multiples.{IsRemainder}
 use Rattle.overlay_string.proofs.Multiples.{remainder_below, remainder_once, remainder_of_two, remainder_of_two_less}
-use Rattle.overlay_string.proofs.tiles.places.+remainder.Goals as goal
+use Rattle.overlay_string.proofs.tiles.multiples.+remainder.Goals as goal
 
 pub returns-then-is_less : goal.returns-then-is_less
 returns-then-is_less g t c =

@@ -1,9 +1,9 @@
-//! The places of grid lines along an axis: the multiples of a step within a span.
+//! Where grid lines cross an axis: at the multiples of a step within a span.
 
 ghost use Rattle.std.specs.Prelude.{◌≡◌, ◌↔◌, IfOk, IsTrue, int_lt, map, pos, ◌+ℤ◌, ◌≤ℤ◌};
 ghost use Rattle.overlay_geom.specs.Numbers.{Within};
-ghost use Rattle.overlay_string.specs.Grids.{AreFewPlaces, AreGridPlaces, IsGridStep};
-ghost use Rattle.overlay_string.specs.Multiples.{IsFirstPlace, IsRemainder, IsWayToNext, IsPlaceAfter};
+ghost use Rattle.overlay_string.specs.Grids.{AreFewMultiples, AreGridMultiples, IsGridStep};
+ghost use Rattle.overlay_string.specs.Multiples.{IsFirstMultiple, IsRemainder, IsWayToNext, IsMultipleAfter};
 ghost use Rattle.overlay_string.specs.Spans.{plain_span};
 
 use crate::tiles::span::IntSpan;
@@ -18,22 +18,22 @@ pub fn are_few<I: IntNumber>(step: I, span: IntSpan<I>) -> bool
     requires step { IsGridStep I.limit (I.whole step) }
     requires least { Within I.limit (I.whole span.least) }
     requires greatest { Within I.limit (I.whole span.greatest) }
-    ensures { IsTrue result ↔ AreFewPlaces (I.whole step) (plain_span I.whole span) }
+    ensures { IsTrue result ↔ AreFewMultiples (I.whole step) (plain_span I.whole span) }
 {
-    let mut next = first_place(step, span);
+    let mut next = first_multiple(step, span);
     let mut count = 0;
-    while let Some(place) = next {
+    while let Some(multiple) = next {
         if count == MOST_LINES {
             return false;
         }
         count += 1;
-        next = place_after(place, step, span.greatest);
+        next = multiple_after(multiple, step, span.greatest);
     }
     true
 }
 
 /// The multiples of the step strictly between the ends of the span, in ascending order.
-pub fn grid_places<I: IntNumber, A: Allocator>(
+pub fn grid_multiples<I: IntNumber, A: Allocator>(
     alloc: A,
     step: I,
     span: IntSpan<I>,
@@ -41,36 +41,36 @@ pub fn grid_places<I: IntNumber, A: Allocator>(
     requires step { IsGridStep I.limit (I.whole step) }
     requires least { Within I.limit (I.whole span.least) }
     requires greatest { Within I.limit (I.whole span.greatest) }
-    ensures ok { IfOk result (λ v. AreGridPlaces (I.whole step) (plain_span I.whole span) (map I.whole v.items)) }
+    ensures ok { IfOk result (λ v. AreGridMultiples (I.whole step) (plain_span I.whole span) (map I.whole v.items)) }
 {
-    let mut places = Vec::new(alloc);
-    let mut next = first_place(step, span);
-    while let Some(place) = next {
-        places.push(place)?;
-        next = place_after(place, step, span.greatest);
+    let mut multiples = Vec::new(alloc);
+    let mut next = first_multiple(step, span);
+    while let Some(multiple) = next {
+        multiples.push(multiple)?;
+        next = multiple_after(multiple, step, span.greatest);
     }
-    Ok(places)
+    Ok(multiples)
 }
 
 // The first multiple of the step strictly between the ends of the span.
-fn first_place<I: IntNumber>(step: I, span: IntSpan<I>) -> Option<I>
+fn first_multiple<I: IntNumber>(step: I, span: IntSpan<I>) -> Option<I>
     requires step { IsGridStep I.limit (I.whole step) }
     requires least { Within I.limit (I.whole span.least) }
     requires greatest { Within I.limit (I.whole span.greatest) }
-    ensures { IsFirstPlace I.whole (I.whole step) (plain_span I.whole span) result }
+    ensures { IsFirstMultiple I.whole (I.whole step) (plain_span I.whole span) result }
 {
-    place_after(span.least, way_to_next(span.least, step), span.greatest)
+    multiple_after(span.least, way_to_next(span.least, step), span.greatest)
 }
 
-// The place that lies this way above another one, if it lies below the end.
-fn place_after<I: IntNumber>(place: I, way: I, end: I) -> Option<I>
-    requires place { Within I.limit (I.whole place) }
+// The multiple that lies this way above a multiple, if it lies below the end.
+fn multiple_after<I: IntNumber>(multiple: I, way: I, end: I) -> Option<I>
+    requires multiple { Within I.limit (I.whole multiple) }
     requires way { Within I.limit (I.whole way) }
     requires end { Within I.limit (I.whole end) }
-    ensures { IsPlaceAfter I.whole (I.whole place +ℤ I.whole way) (I.whole end) result }
+    ensures { IsMultipleAfter I.whole (I.whole multiple +ℤ I.whole way) (I.whole end) result }
 {
-    if is_less(way, end.minus(place)) {
-        Some(place.plus(way))
+    if is_less(way, end.minus(multiple)) {
+        Some(multiple.plus(way))
     } else {
         None
     }
