@@ -21,7 +21,7 @@ use i_overlay::vector::edge::{DataVectorEdge, DataVectorPath, ToPath};
 use overlay_geom::error::OverlayError;
 use overlay_string::tiles::grid::{Grid, grid_fits};
 use overlay_string::tiles::lines::grid_lines;
-use overlay_string::tiles::places::grid_places;
+use overlay_string::tiles::multiples::grid_multiples;
 use overlay_string::tiles::slice::slice_by_grid;
 use overlay_string::tiles::span::IntSpan;
 use std::alloc::Allocator;
@@ -256,8 +256,8 @@ fn check_grid<I: Width>(trial: &Trial<'_, impl Abort>) -> Result<(), Fail> {
         height: I::from(4),
     };
     let counts = [
-        count_of(trial, "overlay_string::grid_places", || {
-            grid_places(memory, I::from(3), span)
+        count_of(trial, "overlay_string::grid_multiples", || {
+            grid_multiples(memory, I::from(3), span)
         })?,
         trial
             .refuse_call(

@@ -6,7 +6,7 @@ use i_overlay::i_shape::int::path::PathRef;
 use i_overlay::solver::Solver;
 use overlay_string::tiles::grid::{Grid, grid_fits};
 use overlay_string::tiles::lines::grid_lines;
-use overlay_string::tiles::places::{are_few, grid_places};
+use overlay_string::tiles::multiples::{are_few, grid_multiples};
 use overlay_string::tiles::slice::{slice_by_grid, slice_by_grid_with_solver};
 use overlay_string::tiles::span::IntSpan;
 use std::process::Abort;
@@ -41,15 +41,15 @@ fn cells_of_a_plate(rt: HostRuntime) -> Result<(), Fail> {
     Ok(())
 }
 
-// A thousand places are few, and one more is not; places are given however many there are.
+// A thousand multiples are few, and one more is not; they are given however many there are.
 #[test]
-fn places_of_a_grid(rt: HostRuntime) -> Result<(), Fail> {
+fn multiples_of_a_grid(rt: HostRuntime) -> Result<(), Fail> {
     let up_to = |greatest| IntSpan { least: 0, greatest };
     assert!(&rt; are_few(3, up_to(3001)) && !are_few(3, up_to(3004)));
-    let places = grid_places(rt.alloc(), 3, up_to(6001))?;
-    assert!(&rt; places.len() == 2000);
+    let multiples = grid_multiples(rt.alloc(), 3, up_to(6001))?;
+    assert!(&rt; multiples.len() == 2000);
     for number in 0..2000 {
-        assert!(&rt; places[number] == 3 * number as i32 + 3);
+        assert!(&rt; multiples[number] == 3 * number as i32 + 3);
     }
     Ok(())
 }

@@ -1,11 +1,11 @@
 -- Loops of filled sides can be bound: none passes an edge twice, and no two pass one edge on one side of it.
-use Rattle.std.proofs.Common.{◌≡◌, ◌⊎◌, inl, inr, ⊎_elim, Bool, true, false, not, cond, ℤ, List, map}
+use Rattle.std.proofs.Common.{◌≡◌, ⊎_elim, Bool, true, false, not, cond, ℤ, List, map}
 use Rattle.std.proofs.Common.{All}
 use Rattle.std.proofs.Common.{Contains, AllPairs, refl, sym, ap, ◌∙◌, subst}
 use Rattle.std.specs.List.{filter}
 use Rattle.std.proofs.lemmas.Bool.{both_ways, false_from_ne_true}
 use Rattle.std.proofs.lemmas.List.Elements.{All-filter, All-weaker, All-contains}
-use Rattle.overlay_geom.specs.Plane.{Step, edge_of, edge_eq, step_eq, is_forward, reversed_step}
+use Rattle.overlay_geom.specs.Plane.{Step, edge_of, edge_eq, step_eq, is_forward}
 use Rattle.overlay_geom.specs.Edges.{CountedEdge}
 use Rattle.overlay_plane.specs.Anchors.{HasEachEdgeOnce}
 use Rattle.overlay_plane.specs.Binding.{all_filled_above}
@@ -16,6 +16,7 @@ use Rattle.overlay_plane.specs.Nodes.{IsBalancedArrangement}
 use Rattle.overlay_plane.specs.Turn.{Hand}
 use Rattle.overlay_plane.specs.Turn.Hand.{left, right}
 use Rattle.overlay_plane.proofs.AtNodes.{equal_steps}
+use Rattle.overlay_plane.proofs.BesideAcross.{one_of_two}
 use Rattle.overlay_plane.proofs.Entries.{Contains-from_filter}
 use Rattle.overlay_plane.proofs.KeptWalks.{step_of_kept, kept_in_relation}
 use Rattle.overlay_plane.proofs.LaterEntries.{Each, Each-weaker, Each-map, Each-filter}
@@ -36,20 +37,6 @@ use Rattle.overlay_plane.proofs.WalksApart.{filled_above_of_all}
 by_edge : (s : Step) (b : Bool) → is_forward s ≡ b →
     edge_of s ≡ cond b (record { a = s.from; b = s.to }) (record { a = s.to; b = s.from })
 by_edge s b e = ap (λ t. cond t (record { a = s.from; b = s.to }) (record { a = s.to; b = s.from })) e
-
--- steps along one edge are one, or the one is the other back
-one_or_back : (s t : Step) → edge_of s ≡ edge_of t → (s ≡ t) ⊎ (t ≡ reversed_step s)
-one_or_back s t same = by (is_forward s) refl (is_forward t) refl
-  where
-    by : (b : Bool) → is_forward s ≡ b → (c : Bool) → is_forward t ≡ c → (s ≡ t) ⊎ (t ≡ reversed_step s)
-    by true p true q = let e = sym (by_edge s true p) ∙ same ∙ by_edge t true q in
-        inl (λ i. record { from = (e i).a; to = (e i).b })
-    by false p false q = let e = sym (by_edge s false p) ∙ same ∙ by_edge t false q in
-        inl (λ i. record { from = (e i).b; to = (e i).a })
-    by true p false q = let e = sym (by_edge t false q) ∙ sym same ∙ by_edge s true p in
-        inr (λ i. record { from = (e i).b; to = (e i).a })
-    by false p true q = let e = sym (by_edge t true q) ∙ sym same ∙ by_edge s false p in
-        inr (λ i. record { from = (e i).a; to = (e i).b })
 
 -- steps along one edge in one way are one
 pub one_way : (s t : Step) (b : Bool) → is_forward s ≡ b → is_forward t ≡ b → edge_of s ≡ edge_of t → s ≡ t
@@ -101,9 +88,9 @@ each_edge_once loop simple = AllPairs-from_each (λ s t. edge_eq (edge_of s) (ed
   where
     become : (s t : Step) → Contains loop s → Contains loop t → Differ s t → edge_eq (edge_of s) (edge_of t) ≡ false
     become s t c d differ = false_from_ne_true (edge_eq (edge_of s) (edge_of t)) (λ same. ⊎_elim
-        (λ one. both_ways (step_eq s t) differ (equal_steps s t one))
+        (λ one. both_ways (step_eq s t) differ (equal_steps s t (sym one)))
         (λ back. no_step_back loop simple s c (subst (Contains loop) back d))
-        (one_or_back s t (edge_eq-same (edge_of s) (edge_of t) same)))
+        (one_of_two t s (sym (edge_eq-same (edge_of s) (edge_of t) same))))
 
 module _ (fills : ℤ → Bool) (count : CountedEdge → ℤ) (es : List CountedEdge)
     (arranged : IsBalancedArrangement count es) (loops : List (List Step))

@@ -1,7 +1,6 @@
 pub mod AlongSides
 pub mod AnchorSteps
 pub mod AnchorsFound
-pub mod BelowLoops
 pub mod BoundLoops
 pub mod BoundRoles
 pub mod BoundSlices
@@ -27,11 +26,9 @@ pub mod LinkOrder
 pub mod LinksFound
 pub mod LoopWindings
 pub mod LoopsFound
-pub mod LostHoles
 pub mod NextBelow
 pub mod NextSides
 pub mod NoShapes
-pub mod OnceBySides
 pub mod OneBound
 pub mod OneCut
 pub mod OneOverlay
@@ -45,6 +42,7 @@ pub mod PointsOnce
 pub mod Results
 pub mod RoledLoops
 pub mod RolesRead
+pub mod RuledLoops
 pub mod SameAscending
 pub mod SideLists
 pub mod SideOnce

@@ -30,6 +30,7 @@ use Rattle.overlay_plane.proofs.BoundSteps.{bound_at, walks_left, shapes_have_ea
 use Rattle.overlay_plane.proofs.Entries.{all_of_entries, All-first, Contains-map}
 use Rattle.overlay_plane.proofs.KeptWalks.{Each-first, step_of_kept, kept_in_relation}
 use Rattle.overlay_plane.proofs.LaterEntries.{Each-from_all_pairs, AllPairs-from_each}
+use Rattle.overlay_plane.proofs.LostHoles.{no_hole_lost}
 use Rattle.overlay_plane.proofs.PlacesOfContours.{Contains-place}
 use Rattle.overlay_plane.proofs.RoledShapes.{all_kept}
 use Rattle.overlay_plane.proofs.ShuffledPairs.{once_shuffled}
@@ -48,8 +49,9 @@ use Rattle.overlay_extract.specs.Tours.{LiesInOneOrbit}
 use Rattle.overlay_extract.proofs.BoundSlices.{IsBegun, shapes_begun}
 use Rattle.overlay_extract.proofs.EachSlice.{each_slice_winds}
 use Rattle.overlay_extract.proofs.LoopWindings.{loops_wind}
-use Rattle.overlay_extract.proofs.LostHoles.{no_hole_lost}
 use Rattle.overlay_extract.proofs.RoledLoops.{roles_numbered, role_passes}
+use Rattle.overlay_extract.proofs.RuledLoops.{loops_follow, holes_empty_above}
+use Rattle.overlay_extract.proofs.SideWindings.{by_first}
 use Rattle.overlay_extract.proofs.SlicedShapes.{shown_each, left_shown, shown_winds, once_where, each_shown_winds}
 use Rattle.overlay_extract.proofs.StepCounts.{all_steps_shuffled}
 use Rattle.overlay_extract.proofs.TurnedPoints.{left_again, points_once_in, passes_shuffled, orbit_shuffled}
@@ -171,8 +173,10 @@ module _ (width : Width) (min : ℕ) (fill : FillRule) (direction : ContourDirec
         slices.contours_are.cut
 
     none_lost : NoHoleIsLost contours shapes
-    none_lost = no_hole_lost (is_filled fill) subj_of es arranged (zero_is_empty fill) contours
-        slices.contours_are.roles all_loops shapes slices.bound
+    none_lost = no_hole_lost (by_first (is_filled fill)) subj_of subj_of es left contours
+        (loops_follow (is_filled fill) subj_of es arranged (zero_is_empty fill) (walks_in contours) all_loops)
+        (holes_empty_above (is_filled fill) subj_of es arranged (zero_is_empty fill) contours slices.contours_are.roles
+        all_loops) shapes slices.bound
 
     all_walks : IsPermutation (all_steps (walks_in contours)) (all_steps walks)
     all_walks = all_steps_shuffled (walks_in contours) walks

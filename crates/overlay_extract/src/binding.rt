@@ -2,12 +2,12 @@
 
 pub mod anchor;
 pub mod bind;
-mod by_anchor;
+mod by_start;
 mod filled_above_edges;
 pub mod islands;
+mod known_shapes;
 pub mod placed;
 pub mod places;
-mod roles;
 pub mod scans;
 mod side;
 mod sweep;

@@ -1,7 +1,6 @@
 //! Slicing: the filled sides of the edges of an arrangement, walked along and cut into loops, and the shapes that the
 //! loops make.
 
-pub mod anchor;
 pub mod cutter;
 pub mod direction;
 pub mod filled_sides;

@@ -1,23 +1,23 @@
--- The filled-above edges of walks that have the selected steps, each once: those of the list above which alone the rule
--- holds.
-use Rattle.std.proofs.Common.{◌≡◌, ◌⊎◌, inl, inr, Bool, true, false, cond, not, ℤ, List, Contains, refl, ap, ◌∙◌, subst}
-use Rattle.std.specs.List.{filter}
+-- Walks that have the selected steps, each once, follow the rule. For a selected step is filled above exactly where the
+-- rule holds above its edge.
+use Rattle.std.proofs.Common.{◌≡◌, Bool, true, false, cond, not, ℤ, List, Contains, refl, sym, ap, ap₂, ◌∙◌, subst}
 use Rattle.std.specs.List.Sorted.{IsPermutation}
 use Rattle.std.proofs.lemmas.List.Sorted.{Contains-permutation, IsPermutation-sym}
-use Rattle.overlay_geom.specs.Plane.{Step, Edge, is_forward, edge_of, edge_eq, point_lt}
+use Rattle.overlay_geom.specs.Plane.{Step, is_forward, edge_of, point_lt}
 use Rattle.overlay_geom.specs.Edges.{CountedEdge, ends_of}
-use Rattle.overlay_geom.specs.Settled.{MeetInEnds}
+use Rattle.overlay_geom.proofs.Orders.{edge_eq-from_ends}
 use Rattle.overlay_plane.specs.Regions.{IsRuled, holds_above, holds_below}
-use Rattle.overlay_plane.specs.SelectedSteps.{selected_steps, IsSelectedStep}
+use Rattle.overlay_plane.specs.SelectedSteps.{selected_steps, selected_step, IsSelectedStep}
 use Rattle.overlay_plane.specs.Contours.{is_filled_above, all_steps}
-use Rattle.overlay_plane.specs.Binding.{filled_above_edges, all_filled_above}
+use Rattle.overlay_plane.specs.Binding.{all_filled_above}
 use Rattle.overlay_plane.specs.KeptContours.{CanBeBound}
 use Rattle.overlay_plane.specs.Turn.{Hand, is_left_hand}
 use Rattle.overlay_plane.specs.Turn.Hand.{left, right}
-use Rattle.overlay_plane.proofs.Entries.{Contains-filter, Contains-from_filter, Contains-map, Contains-from_map}
-use Rattle.overlay_plane.proofs.Entries.{Contains-flat_map, Contains-from_flat_map}
+use Rattle.overlay_plane.proofs.RuledWalks.{FollowRule, IsFilledBeside, above_kept}
+use Rattle.overlay_plane.proofs.SelectedLists.{selected_steps_of_edges}
 use Rattle.overlay_plane.proofs.SelectedWindings.{along_edge, forward_above}
-use Rattle.overlay_plane.proofs.WalksOfCuts.{IsEdgeOf, edge_forward, edges_meet, edge_of_step, selected_along}
+use Rattle.overlay_plane.proofs.SingleEntries.{one_entry}
+use Rattle.overlay_plane.proofs.WalksOfCuts.{edge_forward}
 
 -- the walks have the selected steps of a ruled list, each once, and can be bound
 pub record HaveSelected (holds : ℤ → ℤ → Bool) (subj clip : CountedEdge → ℤ) (es : List CountedEdge) (filled : Hand)
@@ -30,22 +30,11 @@ module _ (holds : ℤ → ℤ → Bool) (subj clip : CountedEdge → ℤ) (es : 
     (walks : List (List Step))
     (have : HaveSelected holds subj clip es filled walks) where
   -- the selected steps
-  abbrev pub steps : List Step
+  abbrev steps : List Step
   steps = selected_steps holds subj clip filled es
 
-  -- a step of a walk is one of them
-  pub step_selected : (walk : List Step) → Contains walks walk → (s : Step) → Contains walk s → Contains steps s
-  step_selected walk at s c = Contains-permutation (all_steps walks) steps s
-      (IsPermutation-sym steps (all_steps walks) have.each_once)
-      (Contains-flat_map (λ (w : List Step). w) walks walk s at c)
-
-  -- its edge is an edge of the list
-  pub edge_listed : (walk : List Step) → Contains walks walk → (s : Step) → Contains walk s → IsEdgeOf es (edge_of s)
-  edge_listed walk at s c = edge_of_step es steps (selected_along holds subj clip es filled have.ruled) s
-      (step_selected walk at s c)
-
   -- a selected step is filled above exactly where the rule holds above its edge
-  pub filled_is : (e : CountedEdge) (s : Step) → IsSelectedStep holds subj clip es filled e s →
+  filled_is : (e : CountedEdge) (s : Step) → IsSelectedStep holds subj clip es filled e s →
       is_filled_above filled s ≡ holds_above holds subj clip es e
   filled_is e s h = by filled forward
     where
@@ -71,34 +60,68 @@ module _ (holds : ℤ → ℤ → Bool) (subj clip : CountedEdge → ℤ) (es : 
       by right is = ap not is ∙ twice (holds_above holds subj clip es e)
 
   -- it walks along its edge
-  pub edge_is : (e : CountedEdge) (s : Step) → IsSelectedStep holds subj clip es filled e s → edge_of s ≡ ends_of e
+  edge_is : (e : CountedEdge) (s : Step) → IsSelectedStep holds subj clip es filled e s → edge_of s ≡ ends_of e
   edge_is e s h = ap edge_of h.walks
       ∙ along_edge (ends_of e) (edge_forward holds subj clip es have.ruled (ends_of e)
       (record { entry = e; among = h.entry; ends = refl }))
       (cond (is_left_hand filled) (holds_above holds subj clip es e) (holds_below holds subj clip es e))
 
   -- a selected step that is filled above is one of a walk
-  pub filled_kept : (s : Step) → Contains steps s → is_filled_above filled s ≡ true →
+  filled_kept : (s : Step) → Contains steps s → is_filled_above filled s ≡ true →
       Contains (all_filled_above filled walks) (edge_of s)
-  filled_kept s c over =
-      let taken = Contains-permutation steps (all_steps walks) s have.each_once c in
-      let walk = Contains-from_flat_map (λ (w : List Step). w) walks s taken in
-      Contains-flat_map (filled_above_edges filled) walks walk.0 (edge_of s) walk.1
-      (Contains-map edge_of (filter (is_filled_above filled) walk.0) s
-      (Contains-filter (is_filled_above filled) walk.0 s walk.2 over))
+  filled_kept s c over = above_kept filled walks s
+      (Contains-permutation steps (all_steps walks) s have.each_once c) over
 
-  -- the filled-above edges of the walks are edges of the list
-  pub filled_of_list : (g : Edge) → Contains (all_filled_above filled walks) g → IsEdgeOf es g
-  filled_of_list g c =
-      let walk = Contains-from_flat_map (filled_above_edges filled) walks g c in
-      let step = Contains-from_map edge_of (filter (is_filled_above filled) walk.0) g walk.2 in
-      let kept = Contains-from_filter (is_filled_above filled) walk.0 step.0 step.1 in
-      subst (IsEdgeOf es) step.2 (edge_listed walk.0 walk.1 step.0 kept.0)
-
-  -- two edges of the list are one, or meet in ends alone
-  pub one_or_meet : (g h : Edge) → IsEdgeOf es g → IsEdgeOf es h → (edge_eq g h ≡ true) ⊎ MeetInEnds g h
-  one_or_meet g h of_g of_h = by (edge_eq g h) refl
+  -- so the walks follow the rule
+  pub selected_follow : FollowRule holds subj clip es filled walks
+  selected_follow = record {
+    ruled = have.ruled;
+    bindable = have.bindable;
+    beside = beside;
+    rising = λ f c above below. kept f (record { entry = c; changes = below ∙ sym (ap not above); walks = refl }) above;
+    passed = passed;
+  }
     where
-      by : (t : Bool) → edge_eq g h ≡ t → (edge_eq g h ≡ true) ⊎ MeetInEnds g h
-      by true same = inl same
-      by false apart = inr (edges_meet es have.ruled.planar.settled g h of_g of_h apart)
+      entry_of : (s : Step) → Contains (all_steps walks) s → (e : CountedEdge) ×
+          IsSelectedStep holds subj clip es filled e s
+      entry_of s c = (selected_steps_of_edges holds subj clip filled es).selected s (Contains-permutation
+          (all_steps walks) steps s (IsPermutation-sym steps (all_steps walks) have.each_once) c)
+
+      beside : (s : Step) → Contains (all_steps walks) s → IsFilledBeside holds subj clip es filled s
+      beside s c =
+          let own = entry_of s c in
+          record {
+            entry = own.0;
+            among = own.1.entry;
+            ends = edge_is own.0 s own.1;
+            there = ap₂ (λ t u. cond t (holds_above holds subj clip es own.0) u) (filled_is own.0 s own.1)
+                own.1.changes ∙ by (holds_above holds subj clip es own.0);
+          }
+        where
+          by : (t : Bool) → cond t t (not t) ≡ true
+          by true = refl
+          by false = refl
+
+      -- the selected step of an edge above which the rule holds
+      kept : (f : CountedEdge) →
+          IsSelectedStep holds subj clip es filled f (selected_step holds subj clip filled es f) →
+          holds_above holds subj clip es f ≡ true → Contains (all_filled_above filled walks) (ends_of f)
+      kept f own above =
+          let s = selected_step holds subj clip filled es f in
+          subst (Contains (all_filled_above filled walks)) (edge_is f s own)
+          (filled_kept s ((selected_steps_of_edges holds subj clip filled es).all f s own)
+          (filled_is f s own ∙ above))
+
+      passed : (f : CountedEdge) → Contains es f → holds_above holds subj clip es f ≡ true → (s : Step) →
+          Contains (all_steps walks) s → edge_of s ≡ ends_of f → Contains (all_filled_above filled walks) (ends_of f)
+      passed f c above s d along =
+          let own = entry_of s d in
+          let ends = sym (edge_is own.0 s own.1) ∙ along in
+          let one = one_entry es have.ruled.planar.distinct own.0 f own.1.entry c
+          (edge_eq-from_ends (ends_of own.0) (ends_of f) (ap (λ k. k.a) ends) (ap (λ k. k.b) ends)) in
+          kept f (record {
+            entry = c;
+            changes = subst (λ (k : CountedEdge). holds_below holds subj clip es k ≡
+                not (holds_above holds subj clip es k)) one own.1.changes;
+            walks = refl;
+          }) above

@@ -5,9 +5,8 @@ use Rattle.std.proofs.Common.{Some}
 use Rattle.std.proofs.Common.{None, filter, refl, sym, ap, ◌∙◌, subst, arith}
 use Rattle.std.specs.Prelude.{slice_index_or, MatchBool}
 use Rattle.std.specs.List.{flat_map, slice_get}
-use Rattle.std.proofs.lemmas.Bool.{both_ways, eqb-true, false≢true}
+use Rattle.std.proofs.lemmas.Bool.{eqb-true, false≢true}
 use Rattle.std.proofs.lemmas.List.Elements.{Contains-append_cases}
-use Rattle.std.proofs.lemmas.Option.{none-some}
 use Rattle.overlay_geom.specs.Plane.{Step, Edge}
 use Rattle.overlay_geom.specs.Edges.{CountedEdge}
 use Rattle.overlay_plane.specs.Turn.{Hand, other_hand}
@@ -15,31 +14,30 @@ use Rattle.overlay_plane.specs.Alternates.{Alternates}
 use Rattle.overlay_plane.specs.BesideOrbits.{WalksAlong}
 use Rattle.overlay_plane.specs.SelectedSteps.{selected_steps}
 use Rattle.overlay_plane.specs.Contours.{all_steps}
-use Rattle.overlay_plane.specs.Anchors.{IsAnchor, is_below_anchor}
+use Rattle.overlay_plane.specs.Anchors.{IsAnchor}
 use Rattle.overlay_plane.specs.Binding.{is_hole}
-use Rattle.overlay_plane.specs.Binding.IsFoundBelow.{nothing, through}
 use Rattle.overlay_plane.specs.RoledContours.{free_hole, Contour, is_free_hole, kept_group}
 use Rattle.overlay_plane.specs.RoledContours.{hole_of_group, hole_to_bind, group_contours_from, outline_of}
 use Rattle.overlay_plane.specs.RoledContours.{IsCut, IsCutInGroups, IsCutBy}
 use Rattle.overlay_plane.specs.BoundContours.{IsParent, walks_in, has_one_shape}
 use Rattle.overlay_plane.specs.ContourNumbers.{outline_count}
 use Rattle.overlay_plane.specs.KeptContours.{AreKeptContours, KeepsAll, AllParentsAreFound, AllHolesHaveShapes}
-use Rattle.overlay_plane.proofs.BelowHoles.{some_below}
 use Rattle.overlay_plane.proofs.ContourNumbers.{cut_numbered, found_counted}
 use Rattle.overlay_plane.proofs.CutByOneHand.{walks_from_starts}
 use Rattle.overlay_plane.proofs.CutWindings.{selected_alternate}
-use Rattle.overlay_plane.proofs.Entries.{Contains-map, Contains-from_map, Contains-from_filter}
-use Rattle.overlay_plane.proofs.FilledEdges.{HaveSelected}
+use Rattle.overlay_plane.proofs.Entries.{Contains-from_map, Contains-from_filter}
+use Rattle.overlay_plane.proofs.FilledEdges.{HaveSelected, selected_follow}
 use Rattle.overlay_plane.proofs.GroupedCuts.{hole_steps_alternate}
 use Rattle.overlay_plane.proofs.HolesInGroups.{empty_above_in_group}
 use Rattle.overlay_plane.proofs.HoleWindings.{HasEmptyAbove, empty_above_anchor}
 use Rattle.overlay_plane.proofs.InsideOneGroup.{group_of, orbits_of_hole_groups_are_inside_one}
 use Rattle.overlay_plane.proofs.KeptContours.{can_be_bound, each_taken_once}
 use Rattle.overlay_plane.proofs.LaterEntries.{Contains-cases}
+use Rattle.overlay_plane.proofs.LostHoles.{HaveEmptyAbove, never_lost, no_hole_lost}
 use Rattle.overlay_plane.proofs.NextSteps.{alternating_steps_lead_on}
-use Rattle.overlay_plane.proofs.PlacesOfContours.{Contains-place, contour_at, known_at, free_from_none}
+use Rattle.overlay_plane.proofs.PlacesOfContours.{Contains-place}
 use Rattle.overlay_plane.proofs.RoledWalks.{free_hole_at}
-use Rattle.std.proofs.lemmas.Option.{same_Some}
+use Rattle.overlay_plane.proofs.RuledWalks.{FollowRule}
 use Rattle.overlay_plane.proofs.WalksOfCuts.{selected_along, walk_of_a_cut}
 
 -- no contour of an outline's group is such a hole
@@ -110,47 +108,33 @@ module _ (holds : ℤ → ℤ → Bool) (subj clip : CountedEdge → ℤ) (es : 
           (group_of steps alternates filled cut.groups cut.grouped own.group own.among) own.hole w own.inside
 
   -- by the option
-  pub empty_by : (t : Bool) → IsCutBy t filled keeps steps contours → (i : ℕ) (c : Contour) →
-      slice_get contours i ≡ Some c → c.role ≡ free_hole → IsEmptyAbove c
+  pub empty_by : (t : Bool) → IsCutBy t filled keeps steps contours → HaveEmptyAbove filled contours
   empty_by true cut = empty_of_groups cut
   empty_by false cut = empty_of_cut cut
 
   module _ (all : KeepsAll keeps) where
     -- the contours have the selected steps
-    pub have_all : HaveSelected holds subj clip es filled (walks_in contours)
+    have_all : HaveSelected holds subj clip es filled (walks_in contours)
     have_all = record {
       ruled = kept.ruled;
       each_once = each_taken_once holds subj clip es filled in_groups keeps contours kept all;
       bindable = can_be_bound holds subj clip es filled in_groups keeps contours kept;
     }
 
-    -- a shape is found for each such hole
-    pub never_lost : (i : ℕ) → IsParent filled contours i None → (c : Contour) →
-        slice_get contours i ≡ Some c → ¬ (c.role ≡ free_hole)
-    never_lost i (nothing walk at_walk below) c at free =
-        let own = contour_at contours i walk at_walk in
-        let same : c.steps ≡ walk = ap (λ (d : Contour). d.steps) (same_Some c own.0 (sym at ∙ own.1)) ∙ own.2 in
-        let anchored = subst (λ w. IsAnchor w below.anchor) (sym same) below.anchored in
-        let some = some_below holds subj clip es filled (walks_in contours) have_all c.steps
-        (Contains-map (λ (d : Contour). d.steps) contours c (Contains-place contours i c at)) below.anchor anchored
-        (empty_by in_groups kept.cut i c at free below.anchor anchored) in
-        both_ways (is_below_anchor below.anchor some.0) (below.none some.0 some.1) some.2
-    never_lost i (through {j} has_next unknown rest) c at free =
-        let next = contour_at contours j has_next.next has_next.next_at in
-        never_lost j rest next.0 next.1
-        (free_from_none next.0.role (sym (known_at contours j next.0 next.1) ∙ unknown))
+    -- and follow the rule
+    pub follow_all : FollowRule holds subj clip es filled (walks_in contours)
+    follow_all = selected_follow holds subj clip es filled (walks_in contours) have_all
 
-    never_none : (one : Bool) (i : ℕ) (shape : Option ℕ) → shape ≡ None →
-        MatchBool one (shape ≡ Some 0) (IsParent filled contours i shape) →
-        (c : Contour) → slice_get contours i ≡ Some c → ¬ (c.role ≡ free_hole)
-    never_none true i shape is found c at free = none-some 0 (sym is ∙ found)
-    never_none false i shape is found c at free = never_lost i (subst (IsParent filled contours i) is found) c at free
+    -- so a shape is found for each such hole
+    pub found_for_all : (i : ℕ) → IsParent filled contours i None → (c : Contour) →
+        slice_get contours i ≡ Some c → ¬ (c.role ≡ free_hole)
+    found_for_all = never_lost holds subj clip es filled contours follow_all (empty_by in_groups kept.cut)
 
     -- a shape that stands alone is the parent of each hole
     parent_by : (one : Bool) → has_one_shape contours ≡ one → (i : ℕ) (shape : Option ℕ) →
         IsParent filled contours i shape → (c : Contour) → slice_get contours i ≡ Some c → c.role ≡ free_hole →
         MatchBool one (shape ≡ Some 0) (IsParent filled contours i shape)
-    parent_by true one i None parent c at free = absurd (never_lost i parent c at free)
+    parent_by true one i None parent c at free = absurd (found_for_all i parent c at free)
     parent_by true one i (Some m) parent c at free = ap Some
         (let lone = eqb-true (outline_count contours) 1 one in
         let low = found_counted filled contours (cut_numbered in_groups filled keeps steps contours kept.cut) i m
@@ -168,6 +152,7 @@ all_parents_are_found holds subj clip es filled in_groups keeps contours kept al
 
 -- no hole is lost
 pub all_holes_have_shapes : AllHolesHaveShapes
-all_holes_have_shapes holds subj clip es filled in_groups keeps contours kept all shapes found i c at free is =
-    never_none holds subj clip es filled in_groups keeps contours kept all (has_one_shape contours) i
-    (slice_index_or shapes i None) is (found.found i c at free) c at free
+all_holes_have_shapes holds subj clip es filled in_groups keeps contours kept all =
+    no_hole_lost holds subj clip es filled contours
+    (follow_all holds subj clip es filled in_groups keeps contours kept all)
+    (empty_by holds subj clip es filled in_groups keeps contours kept in_groups kept.cut)

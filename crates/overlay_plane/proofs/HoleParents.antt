@@ -23,7 +23,8 @@ use Rattle.overlay_plane.proofs.BelowHoles.{anchor_of_list}
 use Rattle.overlay_plane.proofs.ClosedWalks.{cuts_are_contours}
 use Rattle.overlay_plane.proofs.CutWindings.{selected_alternate}
 use Rattle.overlay_plane.proofs.Entries.{Contains-map}
-use Rattle.overlay_plane.proofs.FreeHoles.{never_lost}
+use Rattle.overlay_plane.proofs.FilledEdges.{selected_follow}
+use Rattle.overlay_plane.proofs.FreeHoles.{found_for_all}
 use Rattle.overlay_plane.proofs.ListInduction.{by_lower_entries}
 use Rattle.overlay_plane.proofs.NextAnchors.{next_is_anchored_before}
 use Rattle.overlay_plane.proofs.NextOfHoles.{next_of_hole}
@@ -60,7 +61,8 @@ module _ (holds : ℤ → ℤ → Bool) (subj clip : CountedEdge → ℤ) (es : 
 
   -- an anchor is an edge of the list
   anchor_listed : (walk : List Step) → Contains walks walk → (e : Edge) → IsAnchor walk e → IsEdgeOf es e
-  anchor_listed = anchor_of_list holds subj clip es filled walks (have_selected holds subj clip es filled walks cut)
+  anchor_listed = anchor_of_list holds subj clip es filled walks
+      (selected_follow holds subj clip es filled walks (have_selected holds subj clip es filled walks cut))
 
   -- where the holes with an anchor before this one have parents, so do those with this one
   by_next : (anchor : Edge) → ((e : Edge) → Contains (all_ends es) e → comes_before e anchor ≡ true → HaveParents e) →
@@ -127,7 +129,7 @@ pub holes_have_parents : HolesHaveParents
 holes_have_parents holds subj clip es filled walks cut i hole at is = (
   subst (λ ws. (n : ℕ) × IsFoundBelow filled ws (known_in (contours_from filled 0 walks)) i (Some n))
       (sym (walks_from filled 0 walks)) (parent_of_hole holds subj clip es filled walks cut i hole at is),
-  λ none. never_lost holds subj clip es filled false (λ w. true) (contours_from filled 0 walks)
+  λ none. found_for_all holds subj clip es filled false (λ w. true) (contours_from filled 0 walks)
       (all_kept holds subj clip es filled walks cut) (λ w contour. refl) i none (hole_to_bind hole)
       (hole_at filled 0 walks i hole at is) refl,
 )

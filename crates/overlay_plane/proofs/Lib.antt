@@ -50,6 +50,7 @@ pub mod CyclicOrder
 pub mod DerivedLists
 pub mod Dropping
 pub mod EachAlone
+pub mod EachOfShapes
 pub mod EachOnce
 pub mod EdgeMarks
 pub mod EdgeOrder
@@ -98,6 +99,7 @@ pub mod LinkCounts
 pub mod LinksKept
 pub mod ListInduction
 pub mod LongSteps
+pub mod LostHoles
 pub mod LostSigns
 pub mod LowerEdges
 pub mod MarkedLinks
@@ -133,6 +135,7 @@ pub mod OnceOrNot
 pub mod OneArrangement
 pub mod OneHoleRound
 pub mod OneRound
+pub mod OneShape
 pub mod OrbitSteps
 pub mod OrbitWalks
 pub mod OrbitsApart
@@ -166,6 +169,7 @@ pub mod RoundWalks
 pub mod RoundedAlong
 pub mod RoundedHalves
 pub mod RoundedMixtures
+pub mod RuledWalks
 pub mod SameMapped
 pub mod SameOrder
 pub mod SameSector

@@ -12,8 +12,9 @@ use Rattle.overlay_plane.proofs.Anchors.{anchors_exist}
 use Rattle.overlay_plane.proofs.BelowHoles.{below_is, below_cut_hole}
 use Rattle.overlay_plane.proofs.Entries.{Contains-from_flat_map}
 use Rattle.overlay_plane.proofs.LowerEdges.{lower_at_is_under}
-use Rattle.overlay_plane.proofs.FilledEdges.{HaveSelected, filled_of_list, one_or_meet}
+use Rattle.overlay_plane.proofs.FilledEdges.{selected_follow}
 use Rattle.overlay_plane.proofs.Nearest.{IsNearest, nearest}
+use Rattle.overlay_plane.proofs.RuledWalks.{FollowRule, above_listed, one_or_meet}
 use Rattle.overlay_plane.proofs.WalksApart.{own_walk, have_selected}
 use Rattle.overlay_plane.proofs.Under.{under_irreflexive, under_transitive}
 
@@ -42,15 +43,15 @@ module _ (holds : ℤ → ℤ → Bool) (subj clip : CountedEdge → ℤ) (es : 
     (walks : List (List Step))
     (cut : AreCutFrom holds subj clip es filled walks) (hole : List Step) (at : Contains walks hole) (anchor : Edge)
     (anchored : IsAnchor hole anchor) where
-  have : HaveSelected holds subj clip es filled walks
-  have = have_selected holds subj clip es filled walks cut
+  follow : FollowRule holds subj clip es filled walks
+  follow = selected_follow holds subj clip es filled walks (have_selected holds subj clip es filled walks cut)
 
   -- an edge below the anchor covers its x-coordinate
   below_covers : (g : Edge) → Contains (all_filled_above filled walks) g → is_below_anchor anchor g ≡ true →
       covers g anchor.a.x (pos 1) ≡ true
   below_covers g c below = (and_parts (covers g anchor.a.x (pos 1)) (is_under g anchor anchor.a.x (pos 1))
-      (sym (below_is holds subj clip es filled walks have hole at anchor anchored g
-      (filled_of_list holds subj clip es filled walks have g c)) ∙ below)).0
+      (sym (below_is holds subj clip es filled walks follow hole at anchor anchored g
+      (above_listed holds subj clip es filled walks follow g c)) ∙ below)).0
 
   -- where some edge is below, one is the greatest
   next_below : (g : Edge) → Contains (all_filled_above filled walks) g → is_below_anchor anchor g ≡ true →
@@ -67,9 +68,9 @@ module _ (holds : ℤ → ℤ → Bool) (subj clip : CountedEdge → ℤ) (es : 
       greatest : (h : Edge) → Contains (all_filled_above filled walks) h → is_below_anchor anchor h ≡ true →
           is_lower_at anchor.a.x found.0 h ≡ false
       greatest h d low = lower_at_is_under found.0 h
-          (one_or_meet holds subj clip es filled walks have found.0 h
-          (filled_of_list holds subj clip es filled walks have found.0 found.1.among)
-          (filled_of_list holds subj clip es filled walks have h d)) anchor.a.x over_found (below_covers h d low)
+          (one_or_meet holds subj clip es filled walks follow found.0 h
+          (above_listed holds subj clip es filled walks follow found.0 found.1.among)
+          (above_listed holds subj clip es filled walks follow h d)) anchor.a.x over_found (below_covers h d low)
           ∙ false_from_ne_true (is_under found.0 h anchor.a.x (pos 1))
           (λ under. both_ways (is_over anchor.a.x h found.0) (found.1.first h d low)
           (and_from (covers h anchor.a.x (pos 1) && covers found.0 anchor.a.x (pos 1))

@@ -8,7 +8,7 @@ use Rattle.overlay_geom.proofs.Signs.{linear}
 use Rattle.overlay_plane.specs.HalfPlanes.{IsEdgeInHalf}
 use Rattle.overlay_plane.specs.HalfPlanes.HalfPlane.{left_of, right_of, below, above}
 use Rattle.overlay_plane.proofs.Entries.{All-first, All-rest}
-use Rattle.overlay_string.specs.Grids.{IsGridPlace, AreLinesAcross, upright, level}
+use Rattle.overlay_string.specs.Grids.{IsGridMultiple, AreLinesAcross, upright, level}
 use Rattle.overlay_string.specs.Spans.{Bounds, IsIn, points_of_paths}
 use Rattle.overlay_string.proofs.CoveredByGrid.{AreInBox}
 use Rattle.overlay_string.proofs.PointsOnSteps.{IsGoodEdge}
@@ -33,7 +33,7 @@ pub record IsInBounds (b : Bounds) (p : Point) : Type 0 where
 -- lines across a box lie in it
 module _ (wide high : ℤ) (b : Bounds) (lines : List (List Point)) (across : AreLinesAcross wide high b lines)
     (x_order : b.x.least ≤ℤ b.x.greatest) (y_order : b.y.least ≤ℤ b.y.greatest) where
-  upright_in_bounds : (x : ℤ) → IsGridPlace wide b.x x → All (IsInBounds b) (upright b x)
+  upright_in_bounds : (x : ℤ) → IsGridMultiple wide b.x x → All (IsInBounds b) (upright b x)
   upright_in_bounds x at =
       let low = at.above in
       let high = at.below in
@@ -51,7 +51,7 @@ module _ (wide high : ℤ) (b : Bounds) (lines : List (List Point)) (across : Ar
       })
       (All-nil (IsInBounds b)))
 
-  level_in_bounds : (y : ℤ) → IsGridPlace high b.y y → All (IsInBounds b) (level b y)
+  level_in_bounds : (y : ℤ) → IsGridMultiple high b.y y → All (IsInBounds b) (level b y)
   level_in_bounds y at =
       let low = at.above in
       let high = at.below in
@@ -73,10 +73,10 @@ module _ (wide high : ℤ) (b : Bounds) (lines : List (List Point)) (across : Ar
   lines_in_bounds = subst (All (All (IsInBounds b))) (sym across.are)
       (All-append (All (IsInBounds b)) (map (upright b) across.xs) (map (level b) across.ys)
       (All-map (All (IsInBounds b)) (upright b) across.xs
-      (All-weaker (IsGridPlace wide b.x) (λ x. All (IsInBounds b) (upright b x)) upright_in_bounds across.xs
+      (All-weaker (IsGridMultiple wide b.x) (λ x. All (IsInBounds b) (upright b x)) upright_in_bounds across.xs
       across.at_xs.each))
       (All-map (All (IsInBounds b)) (level b) across.ys
-      (All-weaker (IsGridPlace high b.y) (λ y. All (IsInBounds b) (level b y)) level_in_bounds across.ys
+      (All-weaker (IsGridMultiple high b.y) (λ y. All (IsInBounds b) (level b y)) level_in_bounds across.ys
       across.at_ys.each)))
 
 -- edges whose ends lie in the box

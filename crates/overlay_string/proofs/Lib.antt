@@ -10,7 +10,7 @@ pub mod ContentOfPaths
 pub mod CoveredByGrid
 pub mod CoveredLines
 pub mod FirstPieces
-pub mod FrontPlaces
+pub mod FrontMultiples
 pub mod InBounds
 pub mod InOneCell
 pub mod JoinedPaths

@@ -8,7 +8,7 @@ use Rattle.overlay_geom.specs.Numbers.{Within}
 use Rattle.overlay_geom.specs.Plane.{Point}
 use Rattle.overlay_geom.specs.Points.{InRange, AllInRange}
 use Rattle.overlay_geom.proofs.Signs.{linear}
-use Rattle.overlay_string.specs.Grids.{IsGridPlace, AreGridPlaces, AreFewPlaces, upright, level}
+use Rattle.overlay_string.specs.Grids.{IsGridMultiple, AreGridMultiples, AreFewMultiples, upright, level}
 use Rattle.overlay_string.specs.Grids.{IsGridStep, FitsGrid, HasFewLines}
 use Rattle.overlay_string.specs.Spans.{Span, Bounds, IsBoxOf, IsBoxFound, AreBoundsInRange, plain_bounds}
 use Rattle.overlay_string.specs.Spans.{points_of_paths}
@@ -20,7 +20,7 @@ pub mapped_twice : {X Y Z : Type 0} (f : Y → Z) (g : X → Y) (xs : List X) �
 mapped_twice f g [] = refl
 mapped_twice f g (x ∷ xs) = ap (λ zs. f (g x) ∷ zs) (mapped_twice f g xs)
 
--- lines at places are the upright ones and then the level ones
+-- lines at multiples are the upright ones and then the level ones
 pub one_after_another : {I : Type 0} (whole : I → ℤ) (b : Bounds) (xs ys : List I) (all : List (List Point)) →
     all ≡ map (λ x. upright b (whole x)) xs ++ map (λ y. level b (whole y)) ys →
     all ≡ map (upright b) (map whole xs) ++ map (level b) (map whole ys)
@@ -62,10 +62,10 @@ found_in_range whole limit ps (Some b) all found = box_in_range limit ps (plain_
 
 -- ---- lines in range
 
--- a place of a grid line within a span in range
-place_in_range : (limit : ℕ) (w : ℤ) (s : Span) (z : ℤ) → Within limit s.least → Within limit s.greatest →
-    IsGridPlace w s z → Within limit z
-place_in_range limit w s z low high at =
+-- a multiple within a span in range
+multiple_in_range : (limit : ℕ) (w : ℤ) (s : Span) (z : ℤ) → Within limit s.least → Within limit s.greatest →
+    IsGridMultiple w s z → Within limit z
+multiple_in_range limit w s z low high at =
     let least = low.low in
     let greatest = high.high in
     let above = at.above in
@@ -77,17 +77,17 @@ two_in_range : (limit : ℕ) (p q : Point) → InRange limit p → InRange limit
 two_in_range limit p q here there =
     All-cons (InRange limit) p (q ∷ []) here (All-cons (InRange limit) q [] there (All-nil (InRange limit)))
 
-module _ (limit : ℕ) (w h : ℤ) (b : Bounds) (xs ys : List ℤ) (at_xs : AreGridPlaces w b.x xs)
-    (at_ys : AreGridPlaces h b.y ys) (within : AreBoundsInRange limit b) where
-  upright_in_range : (x : ℤ) → IsGridPlace w b.x x → AllInRange limit (upright b x)
+module _ (limit : ℕ) (w h : ℤ) (b : Bounds) (xs ys : List ℤ) (at_xs : AreGridMultiples w b.x xs)
+    (at_ys : AreGridMultiples h b.y ys) (within : AreBoundsInRange limit b) where
+  upright_in_range : (x : ℤ) → IsGridMultiple w b.x x → AllInRange limit (upright b x)
   upright_in_range x at =
-      let here = place_in_range limit w b.x x within.x_least within.x_greatest at in
+      let here = multiple_in_range limit w b.x x within.x_least within.x_greatest at in
       two_in_range limit (record { x = x; y = b.y.least }) (record { x = x; y = b.y.greatest })
       (record { x = here; y = within.y_least }) (record { x = here; y = within.y_greatest })
 
-  level_in_range : (y : ℤ) → IsGridPlace h b.y y → AllInRange limit (level b y)
+  level_in_range : (y : ℤ) → IsGridMultiple h b.y y → AllInRange limit (level b y)
   level_in_range y at =
-      let here = place_in_range limit h b.y y within.y_least within.y_greatest at in
+      let here = multiple_in_range limit h b.y y within.y_least within.y_greatest at in
       two_in_range limit (record { x = b.x.least; y = y }) (record { x = b.x.greatest; y = y })
       (record { x = within.x_least; y = here }) (record { x = within.x_greatest; y = here })
 
@@ -96,9 +96,9 @@ module _ (limit : ℕ) (w h : ℤ) (b : Bounds) (xs ys : List ℤ) (at_xs : AreG
   lines_in_range =
       All-append (AllInRange limit) (map (upright b) xs) (map (level b) ys)
       (All-map (AllInRange limit) (upright b) xs
-      (All-weaker (IsGridPlace w b.x) (λ x. AllInRange limit (upright b x)) upright_in_range xs at_xs.each))
+      (All-weaker (IsGridMultiple w b.x) (λ x. AllInRange limit (upright b x)) upright_in_range xs at_xs.each))
       (All-map (AllInRange limit) (level b) ys
-      (All-weaker (IsGridPlace h b.y) (λ y. AllInRange limit (level b y)) level_in_range ys at_ys.each))
+      (All-weaker (IsGridMultiple h b.y) (λ y. AllInRange limit (level b y)) level_in_range ys at_ys.each))
 
 -- ---- which grids fit
 
@@ -123,9 +123,9 @@ module _ {I : Type 0} (whole : I → ℤ) (limit : ℕ) (w h : ℤ) (ps : List P
       by (Some c) of few = record {
         width_fits = wide;
         height_fits = high;
-        few_uprights = λ b box. subst (AreFewPlaces w)
+        few_uprights = λ b box. subst (AreFewMultiples w)
             (one_span (map (λ (p : Point). p.x) ps) (plain_bounds whole c).x b.x of.x box.x) few.0;
-        few_levels = λ b box. subst (AreFewPlaces h)
+        few_levels = λ b box. subst (AreFewMultiples h)
             (one_span (map (λ (p : Point). p.y) ps) (plain_bounds whole c).y b.y of.y box.y) few.1;
       }
 

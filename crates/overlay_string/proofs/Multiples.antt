@@ -4,7 +4,7 @@ use Rattle.std.proofs.lemmas.Int.{by_lt_z}
 use Rattle.std.specs.Prelude.{Option, Some, None}
 use Rattle.overlay_geom.proofs.Identities.{solve, number, ◌⊕◌, ◌⊗◌, ◌⊖◌, ⊝◌, ◌≗◌}
 use Rattle.overlay_geom.proofs.Signs.{linear, mul-le, lt_of_mul-lt}
-use Rattle.overlay_string.specs.Multiples.{IsRemainder, IsWayToNext, IsPlaceAfter, IsFirstPlace}
+use Rattle.overlay_string.specs.Multiples.{IsRemainder, IsWayToNext, IsMultipleAfter, IsFirstMultiple}
 use Rattle.overlay_string.specs.Spans.{Span}
 
 -- ---- what is left of a number
@@ -100,10 +100,11 @@ none_before w at way y m some next is above = by_lt_z y (at +ℤ way) (λ less. 
         let apart = a_step_apart w m next.multiple some (omega linear) in
         omega linear
 
--- the place at the end of the way is the first one in the span, or there is none
-pub first_place_found : {I : Type 0} (whole : I → ℤ) (w : ℤ) (s : Span) (way : ℤ) (found : Option I) → pos 0 <ℤ w →
-    IsWayToNext w s.least way → IsPlaceAfter whole (s.least +ℤ way) s.greatest found → IsFirstPlace whole w s found
-first_place_found whole w s way (Some place) some next after =
+-- the multiple at the end of the way is the first one in the span, or there is none
+pub first_multiple_found : {I : Type 0} (whole : I → ℤ) (w : ℤ) (s : Span) (way : ℤ) (found : Option I) → pos 0 <ℤ w →
+    IsWayToNext w s.least way → IsMultipleAfter whole (s.least +ℤ way) s.greatest found →
+    IsFirstMultiple whole w s found
+first_multiple_found whole w s way (Some place) some next after =
     let is = after.0 in
     let within = after.1 in
     let low = next.low in
@@ -118,7 +119,7 @@ first_place_found whole w s way (Some place) some next after =
       least = λ y at. let before = none_before w s.least way y at.multiple some next at.is at.above in
           omega linear;
     }
-first_place_found whole w s way None some next after = λ z at.
+first_multiple_found whole w s way None some next after = λ z at.
     let before = none_before w s.least way z at.multiple some next at.is at.above in
     let below = at.below in
     omega linear

@@ -8,21 +8,21 @@ use Rattle.overlay_arrange.specs.declared.options.ContourDirection.TheVariants.{
 use Rattle.overlay_extract.proofs.SameAscending.{same_ascending}
 use Rattle.overlay_extract.proofs.OneSlicing.{one_slicing}
 use Rattle.overlay_extract.specs.Sliced.{IsSliced}
-use Rattle.overlay_string.specs.Grids.{IsGridPlace, AreGridPlaces, AreLinesAcross, upright, level}
+use Rattle.overlay_string.specs.Grids.{IsGridMultiple, AreGridMultiples, AreLinesAcross, upright, level}
 use Rattle.overlay_string.specs.OneGrid.{OneGrid, OneTiling}
 use Rattle.overlay_string.specs.Spans.{Span, Bounds, IsBoxOf}
 use Rattle.overlay_string.proofs.Boxes.{one_span}
 use Rattle.overlay_string.proofs.LinesAcross.{no_box}
 
--- ---- places
+-- ---- multiples
 
-one_list_of_places : (step : ℤ) (s : Span) (places others : List ℤ) → AreGridPlaces step s places →
-    AreGridPlaces step s others → places ≡ others
-one_list_of_places step s places others a b =
-    same_ascending (λ y z. y <ℤ z) (λ z lt. omega linear) (λ x y z lt more. omega linear) places others a.ascending
+one_list_of_multiples : (step : ℤ) (s : Span) (multiples others : List ℤ) → AreGridMultiples step s multiples →
+    AreGridMultiples step s others → multiples ≡ others
+one_list_of_multiples step s multiples others a b =
+    same_ascending (λ y z. y <ℤ z) (λ z lt. omega linear) (λ x y z lt more. omega linear) multiples others a.ascending
     b.ascending
-    (All-weaker (IsGridPlace step s) (Contains others) (λ z is. b.all z is) places a.each)
-    (All-weaker (IsGridPlace step s) (Contains places) (λ z is. a.all z is) others b.each)
+    (All-weaker (IsGridMultiple step s) (Contains others) (λ z is. b.all z is) multiples a.each)
+    (All-weaker (IsGridMultiple step s) (Contains multiples) (λ z is. a.all z is) others b.each)
 
 -- ---- lines
 
@@ -30,8 +30,8 @@ one_list_across : (wide high : ℤ) (b : Bounds) (lines others : List (List Poin
     AreLinesAcross wide high b others → lines ≡ others
 one_list_across wide high b lines others first second =
     first.are ∙ ap₂ (λ xs ys. map (upright b) xs ++ map (level b) ys)
-    (one_list_of_places wide b.x first.xs second.xs first.at_xs second.at_xs)
-    (one_list_of_places high b.y first.ys second.ys first.at_ys second.at_ys)
+    (one_list_of_multiples wide b.x first.xs second.xs first.at_xs second.at_xs)
+    (one_list_of_multiples high b.y first.ys second.ys first.at_ys second.at_ys)
     ∙ sym second.are
 
 -- points have one box

@@ -6,7 +6,7 @@ use Rattle.std.proofs.lemmas.List.Elements.{All-head, All-weaker}
 use Rattle.overlay_geom.proofs.Identities.{solve, number, ◌⊕◌, ◌⊗◌, ◌⊖◌, ◌≗◌}
 use Rattle.overlay_geom.proofs.Signs.{linear}
 use Rattle.overlay_string.specs.Cells.{IsInStrip}
-use Rattle.overlay_string.specs.Grids.{IsGridPlace}
+use Rattle.overlay_string.specs.Grids.{IsGridMultiple}
 use Rattle.overlay_string.specs.Spans.{Span, IsIn}
 
 -- the last multiple of the step up to the number
@@ -58,7 +58,7 @@ module _ (w : ℤ) (some : pos 0 <ℤ w) where
 
   -- each number lies on one side of each place, and within the span
   module _ {X : Type 0} (f : X → ℤ) (s : Span) (x : X) (xs : List X) (within : All (λ y. IsIn s (f y)) (x ∷ xs))
-      (sides : (c : ℤ) → IsGridPlace w s c → All (λ y. c ≤ℤ f y) (x ∷ xs) ⊎ All (λ y. f y ≤ℤ c) (x ∷ xs)) where
+      (sides : (c : ℤ) → IsGridMultiple w s c → All (λ y. c ≤ℤ f y) (x ∷ xs) ⊎ All (λ y. f y ≤ℤ c) (x ∷ xs)) where
     -- so on one side of each multiple
     side_of : (m : ℤ) → All (λ y. (m *ℤ w) ≤ℤ f y) (x ∷ xs) ⊎ All (λ y. f y ≤ℤ (m *ℤ w)) (x ∷ xs)
     side_of m = by_lt_z s.least (m *ℤ w)

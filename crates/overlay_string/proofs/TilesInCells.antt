@@ -34,7 +34,7 @@ use Rattle.overlay_extract.proofs.SideLists.{filled_sides_of_edges}
 use Rattle.overlay_string.specs.OneShot.{shape_and_strings}
 use Rattle.overlay_string.specs.StringSlices.{AreSlicedOfPaths, IsSlicedWhole}
 use Rattle.overlay_string.specs.Cells.{LieInOneCell, RunsAlongGrid}
-use Rattle.overlay_string.specs.Grids.{IsGridPlace, AreLinesAcross, AreGridLines, upright, level}
+use Rattle.overlay_string.specs.Grids.{IsGridMultiple, AreLinesAcross, AreGridLines, upright, level}
 use Rattle.overlay_string.specs.Spans.{Span, Bounds, IsIn, IsBoxOf, points_of_paths}
 use Rattle.overlay_string.specs.Tiles.{AreTiles}
 use Rattle.overlay_string.proofs.Axes.{of_uprights, of_levels}
@@ -171,17 +171,17 @@ module _ (solver : Solver) (width : Width) (fill : FillRule) (wide high : ℤ) (
       -- ---- the lines of the grid
 
       module _ (across : AreLinesAcross wide high b lines) where
-        upright_line : (c : ℤ) → IsGridPlace wide b.x c → Contains lines (upright b c)
+        upright_line : (c : ℤ) → IsGridMultiple wide b.x c → Contains lines (upright b c)
         upright_line c at = subst (λ ls. Contains ls (upright b c)) (sym across.are)
             (Contains-append_left (map (upright b) across.xs) (map (level b) across.ys) (upright b c)
             (Contains-map (upright b) across.xs c (across.at_xs.all c at)))
 
-        level_line : (c : ℤ) → IsGridPlace high b.y c → Contains lines (level b c)
+        level_line : (c : ℤ) → IsGridMultiple high b.y c → Contains lines (level b c)
         level_line c at = subst (λ ls. Contains ls (level b c)) (sym across.are)
             (Contains-append_right (map (upright b) across.xs) (map (level b) across.ys) (level b c)
             (Contains-map (level b) across.ys c (across.at_ys.all c at)))
 
-        covered_upright : (c : ℤ) → IsGridPlace wide b.x c → b.y.least <ℤ b.y.greatest →
+        covered_upright : (c : ℤ) → IsGridMultiple wide b.x c → b.y.least <ℤ b.y.greatest →
             IsCovered of_uprights c es (neg_ℤ b.y.greatest) (neg_ℤ b.y.least)
         covered_upright c at some = upright_covered b solver are.sliced.arranged.rounds are.content es
             are.sliced.arranged.reached forward are.sliced.arranged.chains.keep_ends (good_in_box b are.content good) c
@@ -191,7 +191,7 @@ module _ (solver : Solver) (width : Width) (fill : FillRule) (wide high : ℤ) (
             ((Decides-point_lt (record { x = c; y = b.y.least }) (record { x = c; y = b.y.greatest })).1
             (record { x = omega linear; y = λ le. some })))
 
-        covered_level : (c : ℤ) → IsGridPlace high b.y c → b.x.least <ℤ b.x.greatest →
+        covered_level : (c : ℤ) → IsGridMultiple high b.y c → b.x.least <ℤ b.x.greatest →
             IsCovered of_levels c es b.x.least b.x.greatest
         covered_level c at some = level_covered b solver are.sliced.arranged.rounds are.content es
             are.sliced.arranged.reached forward are.sliced.arranged.chains.keep_ends (good_in_box b are.content good) c
@@ -202,7 +202,7 @@ module _ (solver : Solver) (width : Width) (fill : FillRule) (wide high : ℤ) (
             (record { x = omega linear; y = λ le. absurd (omega linear) })))
 
         -- the points of a contour lie on one side of each line
-        beside_upright : (ps : List Point) → IsTileContour ps → (c : ℤ) → IsGridPlace wide b.x c →
+        beside_upright : (ps : List Point) → IsTileContour ps → (c : ℤ) → IsGridMultiple wide b.x c →
             All (λ q. c ≤ℤ q.x) ps ⊎ All (λ q. q.x ≤ℤ c) ps
         beside_upright ps tile c at = by_lt_z b.y.least b.y.greatest
             (λ some. ⊎_elim (λ beyond. inl (of_points (λ q. c ≤ℤ q.x) ps tile.step tile.among beyond))
@@ -214,7 +214,7 @@ module _ (solver : Solver) (width : Width) (fill : FillRule) (wide high : ℤ) (
             (λ flat. let shared = tile.share tile.step tile.step tile.among tile.among in
             absurd (no_orbit_level flat shared.walk shared.orbit))
 
-        beside_level : (ps : List Point) → IsTileContour ps → (c : ℤ) → IsGridPlace high b.y c →
+        beside_level : (ps : List Point) → IsTileContour ps → (c : ℤ) → IsGridMultiple high b.y c →
             All (λ q. c ≤ℤ q.y) ps ⊎ All (λ q. q.y ≤ℤ c) ps
         beside_level ps tile c at = by_lt_z b.x.least b.x.greatest
             (λ some. ⊎_elim (λ beyond. inl (of_points (λ q. c ≤ℤ q.y) ps tile.step tile.among beyond))
@@ -319,12 +319,12 @@ module _ (solver : Solver) (width : Width) (fill : FillRule) (wide high : ℤ) (
       same_grid : (b : Bounds) → IsBoxOf (points_of_paths paths) b → (c : Bounds) → IsBoxOf (points_of_paths paths) c →
           (s : Step) → RunsAlongGrid wide high b s → RunsAlongGrid wide high c s
       same_grid b box c other s (inl (at, to)) = inl (
-        subst (λ (t : Span). IsGridPlace wide t s.from.x)
+        subst (λ (t : Span). IsGridMultiple wide t s.from.x)
             (one_span (map (λ (p : Point). p.x) (points_of_paths paths)) b.x c.x box.x other.x) at,
         to,
       )
       same_grid b box c other s (inr (at, to)) = inr (
-        subst (λ (t : Span). IsGridPlace high t s.from.y)
+        subst (λ (t : Span). IsGridMultiple high t s.from.y)
             (one_span (map (λ (p : Point). p.y) (points_of_paths paths)) b.y c.y box.y other.y) at,
         to,
       )

@@ -1,7 +1,7 @@
 -- The cells of a grid, and the steps that run along its lines.
 use Rattle.std.specs.Prelude.{◌≡◌, ◌⊎◌, ℤ, pos, ◌+ℤ◌, ◌*ℤ◌, ◌≤ℤ◌, List, All}
 use Rattle.overlay_geom.specs.Plane.{Point, PlanePoint, Step, in_plane}
-use Rattle.overlay_string.specs.Grids.{IsGridPlace}
+use Rattle.overlay_string.specs.Grids.{IsGridMultiple}
 use Rattle.overlay_string.specs.Spans.{Bounds}
 
 -- z / d lies from the m-th multiple of the step to the next one
@@ -22,5 +22,5 @@ pub record LieInOneCell (wide high : ℤ) (ps : List Point) : Type 0 where
 
 -- the step runs along a line of the grid across the box: along an upright one, or a level one
 abbrev pub RunsAlongGrid : ℤ → ℤ → Bounds → Step → Type 0
-RunsAlongGrid wide high b s = (IsGridPlace wide b.x s.from.x × (s.to.x ≡ s.from.x))
-    ⊎ (IsGridPlace high b.y s.from.y × (s.to.y ≡ s.from.y))
+RunsAlongGrid wide high b s = (IsGridMultiple wide b.x s.from.x × (s.to.x ≡ s.from.x))
+    ⊎ (IsGridMultiple high b.y s.from.y × (s.to.y ≡ s.from.y))

@@ -7,23 +7,23 @@ use Rattle.overlay_string.specs.Spans.{Span, Bounds, IsBoxOf, plain_span}
 use Rattle.overlay_string.specs.declared.tiles.span.IntBounds.{IntBounds}
 
 -- the number is a multiple of the step strictly between the ends of the span
-pub record IsGridPlace (step : ℤ) (s : Span) (z : ℤ) : Type 0 where
+pub record IsGridMultiple (step : ℤ) (s : Span) (z : ℤ) : Type 0 where
   pub multiple : ℤ
   pub is : z ≡ multiple *ℤ step
   pub above : s.least <ℤ z
   pub below : z <ℤ s.greatest
 
 -- the numbers are all of these, each once, in ascending order
-pub record AreGridPlaces (step : ℤ) (s : Span) (places : List ℤ) : Type 0 where
-  pub ascending : AllPairs (λ a b. a <ℤ b) places
-  pub each : All (IsGridPlace step s) places
-  pub all : (z : ℤ) → IsGridPlace step s z → Contains places z
+pub record AreGridMultiples (step : ℤ) (s : Span) (multiples : List ℤ) : Type 0 where
+  pub ascending : AllPairs (λ a b. a <ℤ b) multiples
+  pub each : All (IsGridMultiple step s) multiples
+  pub all : (z : ℤ) → IsGridMultiple step s z → Contains multiples z
 
 -- there are at most 1,000 of them
-pub record AreFewPlaces (step : ℤ) (s : Span) : Type 0 where
-  pub places : List ℤ
-  pub are : AreGridPlaces step s places
-  pub few : length places ≤ 1000
+pub record AreFewMultiples (step : ℤ) (s : Span) : Type 0 where
+  pub multiples : List ℤ
+  pub are : AreGridMultiples step s multiples
+  pub few : length multiples ≤ 1000
 
 -- the open line at this x from the bottom of the box to its top
 abbrev pub upright : Bounds → ℤ → List Point
@@ -37,8 +37,8 @@ level b y = record { x = b.x.least; y = y } ∷ record { x = b.x.greatest; y = y
 pub record AreLinesAcross (width height : ℤ) (b : Bounds) (lines : List (List Point)) : Type 0 where
   pub xs : List ℤ
   pub ys : List ℤ
-  pub at_xs : AreGridPlaces width b.x xs
-  pub at_ys : AreGridPlaces height b.y ys
+  pub at_xs : AreGridMultiples width b.x xs
+  pub at_ys : AreGridMultiples height b.y ys
   pub are : lines ≡ map (upright b) xs ++ map (level b) ys
 
 -- those across the box of the points; without points there is none
@@ -55,11 +55,11 @@ pub record IsGridStep (limit : ℕ) (step : ℤ) : Type 0 where
 pub record FitsGrid (limit : ℕ) (width height : ℤ) (ps : List Point) : Type 0 where
   pub width_fits : IsGridStep limit width
   pub height_fits : IsGridStep limit height
-  pub few_uprights : (b : Bounds) → IsBoxOf ps b → AreFewPlaces width b.x
-  pub few_levels : (b : Bounds) → IsBoxOf ps b → AreFewPlaces height b.y
+  pub few_uprights : (b : Bounds) → IsBoxOf ps b → AreFewMultiples width b.x
+  pub few_levels : (b : Bounds) → IsBoxOf ps b → AreFewMultiples height b.y
 
 -- few lines pass across the box, if there is one
 abbrev pub HasFewLines : ℤ → ℤ → {I : Type 0} → (I → ℤ) → Option (IntBounds I) → Type 0
 HasFewLines width height whole None = Unit {0}
-HasFewLines width height whole (Some b) = AreFewPlaces width (plain_span whole b.x)
-    × AreFewPlaces height (plain_span whole b.y)
+HasFewLines width height whole (Some b) = AreFewMultiples width (plain_span whole b.x)
+    × AreFewMultiples height (plain_span whole b.y)

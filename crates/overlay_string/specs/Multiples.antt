@@ -1,6 +1,6 @@
 -- Multiples of a step, one after another, as they are found.
 use Rattle.std.specs.Prelude.{◌≡◌, ℤ, pos, ◌+ℤ◌, ◌*ℤ◌, ◌<ℤ◌, ◌≤ℤ◌, Option, Some, None}
-use Rattle.overlay_string.specs.Grids.{IsGridPlace}
+use Rattle.overlay_string.specs.Grids.{IsGridMultiple}
 use Rattle.overlay_string.specs.Spans.{Span}
 
 -- the rest is what a multiple of the step leaves of the number, from 0 to below the step
@@ -17,17 +17,17 @@ pub record IsWayToNext (step at way : ℤ) : Type 0 where
   pub low : pos 0 <ℤ way
   pub high : way ≤ℤ step
 
--- the place is this number, where that is below the end; else there is none
-abbrev pub IsPlaceAfter : {I : Type 0} → (I → ℤ) → ℤ → ℤ → Option I → Type 0
-IsPlaceAfter whole z end (Some place) = (whole place ≡ z) × (z <ℤ end)
-IsPlaceAfter whole z end None = end ≤ℤ z
+-- the multiple is this number, where that is below the end; else there is none
+abbrev pub IsMultipleAfter : {I : Type 0} → (I → ℤ) → ℤ → ℤ → Option I → Type 0
+IsMultipleAfter whole z end (Some multiple) = (whole multiple ≡ z) × (z <ℤ end)
+IsMultipleAfter whole z end None = end ≤ℤ z
 
--- a place of the span at which all multiples of the step begin that lie in it
-pub record IsLeastPlace (step : ℤ) (s : Span) (z : ℤ) : Type 0 where
-  pub is : IsGridPlace step s z
-  pub least : (y : ℤ) → IsGridPlace step s y → z ≤ℤ y
+-- the least of the multiples of the step strictly between the ends of the span
+pub record IsLeastMultiple (step : ℤ) (s : Span) (z : ℤ) : Type 0 where
+  pub is : IsGridMultiple step s z
+  pub least : (y : ℤ) → IsGridMultiple step s y → z ≤ℤ y
 
 -- the first multiple strictly between the ends of the span, if there is one
-abbrev pub IsFirstPlace : {I : Type 0} → (I → ℤ) → ℤ → Span → Option I → Type 0
-IsFirstPlace whole step s (Some place) = IsLeastPlace step s (whole place)
-IsFirstPlace whole step s None = (z : ℤ) → ¬ (IsGridPlace step s z)
+abbrev pub IsFirstMultiple : {I : Type 0} → (I → ℤ) → ℤ → Span → Option I → Type 0
+IsFirstMultiple whole step s (Some multiple) = IsLeastMultiple step s (whole multiple)
+IsFirstMultiple whole step s None = (z : ℤ) → ¬ (IsGridMultiple step s z)

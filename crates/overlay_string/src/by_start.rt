@@ -2,15 +2,16 @@
 
 ghost use Rattle.std.specs.Prelude.{◌≡◌, ◌<◌, length, All, IfOk};
 ghost use Rattle.overlay_geom.specs.Points.{plain_point};
-ghost use Rattle.overlay_string.specs.PieceOrder.{AreByStart, AreInOrder, AreNumbered, IsFirstFrom, IsRunStart};
+ghost use Rattle.overlay_string.specs.PieceOrder.{AreByStart, AreInOrder, AreNumbered, IsFirstFrom};
 ghost use Rattle.overlay_string.specs.Pieces.{plain_piece, plain_pieces, turned};
-ghost use Rattle.overlay_walk.specs.Steps.{plain_step, plain_steps, IsByFrom};
+ghost use Rattle.overlay_walk.specs.Steps.{plain_step};
 
 use crate::piece::{Piece, Way};
 use crate::taken_pieces::is_taken;
 use overlay_arrange::edge::compare_points;
 use overlay_geom::number::IntNumber;
 use overlay_geom::point::IntPoint;
+use overlay_walk::next::run_start;
 use overlay_walk::step::Step;
 use std::alloc::{AllocError, Allocator};
 
@@ -66,7 +67,7 @@ pub(crate) fn first_open_from<I: IntNumber>(
     requires within { All (λ s. s.edge < length taken.now) steps.now }
     ensures { IsFirstFrom I.whole steps.now taken.now (plain_point I.whole point) result }
 {
-    let low = run_start(steps, point);
+    let low = run_start(steps, steps.len(), point);
     for i in low..steps.len() {
         let step = steps[i];
         if !compare_points(step.from, point).is_eq() {
@@ -77,12 +78,4 @@ pub(crate) fn first_open_from<I: IntNumber>(
         }
     }
     None
-}
-
-// The place of the first step that leaves the point or a larger one, or how many steps there are.
-fn run_start<I: IntNumber>(steps: &[Step<I>], point: IntPoint<I>) -> usize
-    requires { IsByFrom (plain_steps I.whole steps.now) }
-    ensures { IsRunStart I.whole (plain_point I.whole point) steps.now result }
-{
-    steps.partition_point(|s| compare_points(s.from, point).is_lt())
 }

@@ -2,7 +2,7 @@
 
 pub mod grid;
 pub mod lines;
+pub mod multiples;
 pub mod only_tiles;
-pub mod places;
 pub mod slice;
 pub mod span;

@@ -12,7 +12,7 @@ use Rattle.overlay_plane.proofs.EdgeTurns.{edge_turn_same, left_after_left, IsFo
 use Rattle.overlay_plane.proofs.Tests.{lt_from_test, test_from_lt}
 use Rattle.overlay_arrange.specs.Content.{point_cmp}
 use Rattle.overlay_arrange.proofs.EdgeOrder.{point_cmp-is_tie}
-use Rattle.overlay_walk.specs.Places.{starts_before}
+use Rattle.overlay_walk.specs.Places.{comes_top_first}
 use Rattle.overlay_plane.proofs.TiedStarts.{tied_before}
 
 -- the edges start in one point, and the first leads to the left of the second
@@ -20,25 +20,25 @@ abbrev pub is_left_at_start : Edge → Edge → Bool
 is_left_at_start e f = point_eq e.a f.a && turns_left f e
 
 -- by its point an edge starts before another, and by its slope
-pub starts_by_points : (e f : Edge) → point_lt e.a f.a ≡ true → starts_before e f ≡ true
+pub starts_by_points : (e f : Edge) → point_lt e.a f.a ≡ true → comes_top_first e f ≡ true
 starts_by_points e f less = or_left (point_lt e.a f.a) (is_left_at_start e f) less
 
-pub starts_by_slopes : (e f : Edge) → e.a ≡ f.a → turns_left f e ≡ true → starts_before e f ≡ true
+pub starts_by_slopes : (e f : Edge) → e.a ≡ f.a → turns_left f e ≡ true → comes_top_first e f ≡ true
 starts_by_slopes e f same left = or_right (point_lt e.a f.a) (is_left_at_start e f)
     (and_from (point_eq e.a f.a) (turns_left f e) (point_eq-of_same e.a f.a same) left)
 
 -- an edge that does not start before another has no smaller point, and from an equal point no higher slope
-pub not_by_points : (e f : Edge) → starts_before e f ≡ false → point_lt e.a f.a ≡ false
+pub not_by_points : (e f : Edge) → comes_top_first e f ≡ false → point_lt e.a f.a ≡ false
 not_by_points e f later = false_from_ne_true (point_lt e.a f.a)
-    (λ less. both_ways (starts_before e f) later (starts_by_points e f less))
+    (λ less. both_ways (comes_top_first e f) later (starts_by_points e f less))
 
-pub not_by_slopes : (e f : Edge) → starts_before e f ≡ false → e.a ≡ f.a → turns_left f e ≡ false
+pub not_by_slopes : (e f : Edge) → comes_top_first e f ≡ false → e.a ≡ f.a → turns_left f e ≡ false
 not_by_slopes e f later same = false_from_ne_true (turns_left f e)
-    (λ left. both_ways (starts_before e f) later (starts_by_slopes e f same left))
+    (λ left. both_ways (comes_top_first e f) later (starts_by_slopes e f same left))
 
 -- no edge starts before itself
-pub starts_before-itself : (e : Edge) → starts_before e e ≡ false
-starts_before-itself e = false_from_ne_true (starts_before e e) (λ before. ⊎_elim
+pub comes_top_first-itself : (e : Edge) → comes_top_first e e ≡ false
+comes_top_first-itself e = false_from_ne_true (comes_top_first e e) (λ before. ⊎_elim
     (λ less. both_ways (point_lt e.a e.a) (point_lt-itself e.a) less)
     (λ left. both_ways (turns_left e e) (ap (int_lt (pos 0)) (edge_turn_same e))
     (and_parts (point_eq e.a e.a) (turns_left e e) left).1)
@@ -59,8 +59,8 @@ module _ (e f g : Edge) (he : IsForward e) (hf : IsForward f) (hg : IsForward g)
       (lt_from_test (pos 0) (edge_turn f e) ef))
 
   -- the order of starts is transitive
-  starts_before-transitive : starts_before e f ≡ true → starts_before f g ≡ true → starts_before e g ≡ true
-  starts_before-transitive ef fg = ⊎_elim
+  comes_top_first-transitive : comes_top_first e f ≡ true → comes_top_first f g ≡ true → comes_top_first e g ≡ true
+  comes_top_first-transitive ef fg = ⊎_elim
       (λ less. starts_by_points e g (⊎_elim
       (λ more. point_lt-transitive e.a f.a g.a less more)
       (λ tie. subst (λ (p : Point). point_lt e.a p ≡ true) (same_start f g tie) less) second))
@@ -74,8 +74,8 @@ module _ (e f g : Edge) (he : IsForward e) (hf : IsForward f) (hg : IsForward g)
       second = or_cases (point_lt f.a g.a) (is_left_at_start f g) fg
 
   -- edges that do not start before each other chain
-  pub starts_before-chain : starts_before e f ≡ false → starts_before f g ≡ false → starts_before e g ≡ false
-  starts_before-chain ef fg = false_from_ne_true (starts_before e g)
+  pub comes_top_first-chain : comes_top_first e f ≡ false → comes_top_first f g ≡ false → comes_top_first e g ≡ false
+  comes_top_first-chain ef fg = false_from_ne_true (comes_top_first e g)
       (λ eg. ⊎_elim by_points by_slopes (or_cases (point_lt e.a g.a) (is_left_at_start e g) eg))
     where
       by_points : point_lt e.a g.a ≡ true → ⊥
@@ -94,14 +94,14 @@ module _ (e f g : Edge) (he : IsForward e) (hf : IsForward f) (hg : IsForward g)
               (point_lt-back e.a f.a apart (not_by_points e f ef)))
 
 -- of two edges one at most starts before the other
-pub starts_before-one_way : (e f : Edge) → IsForward e → IsForward f → starts_before e f ≡ true →
-    starts_before f e ≡ false
-starts_before-one_way e f he hf ef = false_from_ne_true (starts_before f e)
-    (λ fe. both_ways (starts_before e e) (starts_before-itself e) (starts_before-transitive e f e he hf he ef fe))
+pub comes_top_first-one_way : (e f : Edge) → IsForward e → IsForward f → comes_top_first e f ≡ true →
+    comes_top_first f e ≡ false
+comes_top_first-one_way e f he hf ef = false_from_ne_true (comes_top_first f e)
+    (λ fe. both_ways (comes_top_first e e) (comes_top_first-itself e) (comes_top_first-transitive e f e he hf he ef fe))
 
 -- from one point the cross product tells which edge starts before the other
 pub tied_start : (e f : Edge) (z : ℤ) → point_cmp e.a f.a ≡ Equal → z ≡ cross_at e.a e.b f.b →
-    is_lt (int_cmp z (pos 0)) ≡ starts_before e f
+    is_lt (int_cmp z (pos 0)) ≡ comes_top_first e f
 tied_start e f z tied crossed =
     tied_before f e z ((λ i. point_cmp (sym same i) (same i)) ∙ tied) (crossed ∙ (λ i. cross_at (same i) e.b f.b))
     ∙ (λ i. point_lt (sym same i) (same i) || (point_eq (sym same i) (same i) && turns_left f e))

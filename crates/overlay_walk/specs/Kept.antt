@@ -1,7 +1,7 @@
 -- The state of steps that are walked.
 use Rattle.std.specs.Prelude.{◌≡◌, ℕ, Bool, ℤ, List, length, All}
 use Rattle.overlay_walk.specs.declared.step.Step.{Step as StepTaken}
-use Rattle.overlay_walk.specs.Places.{ArePlacesByStart, ArePassed}
+use Rattle.overlay_walk.specs.Places.{ArePlacesTopFirst, ArePassed}
 use Rattle.overlay_walk.specs.Steps.{plain_steps, IsByFrom, IsLong}
 
 -- the steps sorted by the points that they leave, with a mark for each. Their places are sorted by the starts of their
@@ -11,5 +11,5 @@ pub record AreKept {I : Type 0} (whole : I → ℤ) (limit : ℕ) (steps : List 
   pub marked : length marks ≡ length steps
   pub leaving : IsByFrom (plain_steps whole steps)
   pub long : All (IsLong limit) (plain_steps whole steps)
-  pub starting : ArePlacesByStart (plain_steps whole steps) places
+  pub starting : ArePlacesTopFirst (plain_steps whole steps) places
   pub passing : ArePassed marks places passed

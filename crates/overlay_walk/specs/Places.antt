@@ -13,19 +13,19 @@ is_open marks k = not (slice_index_or marks k true)
 abbrev pub step_at : List Step → ℕ → Step
 step_at ss k = slice_index_or ss k no_step
 
--- the edge e starts in a smaller point than f, or in the same point and leads to the left of f
-abbrev pub starts_before : Edge → Edge → Bool
-starts_before e f = point_lt e.a f.a || (point_eq e.a f.a && turns_left f e)
+-- the edge e comes before f, top first: it starts in a smaller point, or in the same point and leads to the left of f
+abbrev pub comes_top_first : Edge → Edge → Bool
+comes_top_first e f = point_lt e.a f.a || (point_eq e.a f.a && turns_left f e)
 
--- the edge of the step at place j starts so before that of the step at place k
-abbrev pub is_place_started_before : List Step → ℕ → ℕ → Bool
-is_place_started_before ss j k = starts_before (edge_of (step_at ss j)) (edge_of (step_at ss k))
+-- the edge of the step at place j comes so before that of the step at place k
+abbrev pub is_place_top_first : List Step → ℕ → ℕ → Bool
+is_place_top_first ss j k = comes_top_first (edge_of (step_at ss j)) (edge_of (step_at ss k))
 
--- the places of the steps, sorted by the starts of their edges
-pub record ArePlacesByStart (ss : List Step) (places : List ℕ) : Type 0 where
+-- the places of the steps, sorted by the starts of their edges, top first
+pub record ArePlacesTopFirst (ss : List Step) (places : List ℕ) : Type 0 where
   pub within : All (λ k. k < length ss) places
   pub all : (k : ℕ) → k < length ss → Contains places k
-  pub order : AllPairs (λ j k. is_place_started_before ss k j ≡ false) places
+  pub order : AllPairs (λ j k. is_place_top_first ss k j ≡ false) places
 
 -- none of the first n places in the list is open
 pub record ArePassed (marks : List Bool) (places : List ℕ) (n : ℕ) : Type 0 where

@@ -2,7 +2,7 @@
 use Rattle.std.specs.Prelude.{◌≡◌, ℕ, ◌<◌, false, List, length, map, All, AllPairs, Contains}
 use Rattle.overlay_geom.specs.Plane.{Step, edge_of}
 use Rattle.overlay_scan.specs.Scan.{Entry}
-use Rattle.overlay_walk.specs.Places.{step_at, starts_before}
+use Rattle.overlay_walk.specs.Places.{step_at, comes_top_first}
 
 -- the entry is the edge of the step at a place, with this place
 pub record IsEdgeAt (ss : List Step) (f : Entry ℕ) : Type 0 where
@@ -14,6 +14,6 @@ pub record HaveEdges (ss : List Step) (n : ℕ) (fs : List (Entry ℕ)) : Type 0
   pub from : All (IsEdgeAt ss) fs
   pub all : (k : ℕ) → k < n → Contains (map (λ f. f.value) fs) k
 
--- no edge starts before an edge ahead of it
-abbrev pub AreInStartOrder : List (Entry ℕ) → Type 0
-AreInStartOrder fs = AllPairs (λ f g. starts_before g.edge f.edge ≡ false) fs
+-- the edges come by their starts, top first
+abbrev pub AreTopFirst : List (Entry ℕ) → Type 0
+AreTopFirst fs = AllPairs (λ f g. comes_top_first g.edge f.edge ≡ false) fs

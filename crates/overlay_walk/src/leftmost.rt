@@ -2,16 +2,16 @@
 
 ghost use Rattle.std.specs.Prelude.{◌≡◌, ◌<◌, true, length, map, slice_index_or, All, IfOk};
 ghost use Rattle.std.specs.List.Sorted.{IsPermutation};
-ghost use Rattle.overlay_walk.specs.Places.{is_open, ArePassed, ArePlacesByStart};
+ghost use Rattle.overlay_walk.specs.Places.{is_open, ArePassed, ArePlacesTopFirst};
 ghost use Rattle.overlay_walk.specs.Starts.{HaveEdges};
 ghost use Rattle.overlay_walk.specs.Steps.{plain_steps, IsLong};
 ghost use Rattle.overlay_walk.specs.WalkEdges.{numbered_entries};
 
-use crate::by_start::{compare_starts, sort_by_start};
 use crate::filled_side::edge_along;
 use crate::numbered_edge::NumberedEdge;
 use crate::open_places::is_open;
 use crate::step::Step;
+use crate::top_first::{compare_top_first, sort_top_first};
 use overlay_arrange::sort_numbers::order_by_numbers;
 use overlay_arrange::sort_runs::order_neighbours;
 use overlay_geom::number::IntNumber;
@@ -22,17 +22,17 @@ const MOST_EDGES_A_STEP: usize = 16;
 
 /// Returns the places of the steps, sorted by the starts of their edges: by the smaller ends, and from one point by
 /// slope, highest first.
-pub fn places_by_start<I: IntNumber, A: Allocator + Clone>(
+pub fn places_top_first<I: IntNumber, A: Allocator + Clone>(
     alloc: A,
     steps: &[Step<I>],
 ) -> Result<Vec<usize, A>, AllocError>
     requires { All (IsLong I.limit) (plain_steps I.whole steps.now) }
-    ensures ok { IfOk result (λ v. ArePlacesByStart (plain_steps I.whole steps.now) v.items) }
+    ensures ok { IfOk result (λ v. ArePlacesTopFirst (plain_steps I.whole steps.now) v.items) }
 {
     let mut edges = edges_along(alloc.clone()?, steps)?;
     order_by_steps(&mut edges, steps)?;
-    order_neighbours(&mut edges, |e, f| compare_starts(e, f));
-    sort_by_start(&mut edges)?;
+    order_neighbours(&mut edges, |e, f| compare_top_first(e, f));
+    sort_top_first(&mut edges)?;
     numbers_of(alloc, &edges)
 }
 

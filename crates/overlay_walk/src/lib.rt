@@ -3,7 +3,6 @@
 
 pub mod area;
 pub mod buffer;
-mod by_start;
 pub mod contour;
 pub mod contour_cut;
 pub mod filled_side;
@@ -13,7 +12,7 @@ pub mod hand;
 pub mod kept_contours;
 mod leftmost;
 pub mod nearest;
-mod next;
+pub mod next;
 pub mod numbered_edge;
 mod onward;
 mod open_places;
@@ -21,3 +20,4 @@ pub mod open_steps;
 pub mod selected_steps;
 pub mod selected_walks;
 pub mod step;
+mod top_first;

@@ -58,7 +58,7 @@ fn run_from<I: IntNumber>(steps: &[Step<I>], near: usize, p: IntPoint<I>) -> (us
 }
 
 /// Returns the number of steps that leave a point below p, which come first. It tries the place `near`.
-fn run_start<I: IntNumber>(steps: &[Step<I>], near: usize, p: IntPoint<I>) -> usize
+pub fn run_start<I: IntNumber>(steps: &[Step<I>], near: usize, p: IntPoint<I>) -> usize
     requires { IsByFrom (plain_steps I.whole steps.now) }
     ensures within { result ≤ length steps.now }
     ensures parted { IsPartitionPoint (λ s. point_lt (plain_step I.whole s).from (plain_point I.whole p) ≡ true)

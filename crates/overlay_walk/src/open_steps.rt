@@ -12,7 +12,7 @@ ghost use Rattle.overlay_walk.specs.Steps.{plain_hand, plain_step, plain_steps};
 ghost use Rattle.overlay_walk.specs.Steps.{IsByFrom, IsLong};
 
 use crate::hand::Hand;
-use crate::leftmost::{first_open, places_by_start};
+use crate::leftmost::{first_open, places_top_first};
 use crate::next::place_of_next;
 use crate::onward::{noted, onward_places};
 use crate::step::Step;
@@ -111,7 +111,7 @@ impl<I: IntNumber, A: Allocator + Clone> OpenSteps<I, A> {
         ensures all { IfOk result (λ o. IsPermutation steps.items o) }
     {
         sort_steps(&mut steps)?;
-        let places = places_by_start(steps.allocator().clone()?, &steps)?;
+        let places = places_top_first(steps.allocator().clone()?, &steps)?;
         let onward = onward_places(steps.allocator().clone()?, &steps, &places)?;
         let mut taken = Vec::new(steps.allocator().clone()?);
         taken.resize(steps.len(), false)?;

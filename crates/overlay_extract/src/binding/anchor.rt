@@ -10,7 +10,7 @@ ghost use Rattle.overlay_walk.specs.Steps.{plain_step, plain_steps, IsLong};
 ghost use Rattle.overlay_walk.specs.WalkEdges.{numbered_entry, numbered_entries};
 ghost use Rattle.overlay_extract.specs.WalkEntries.{AreHoleEntries};
 
-use crate::binding::by_anchor::{compare_anchors, sort_by_anchor};
+use crate::binding::by_start::{compare_starts, sort_by_start};
 use overlay_geom::number::IntNumber;
 use overlay_walk::contour::Contour;
 use overlay_walk::filled_side::edge_along;
@@ -38,7 +38,7 @@ pub fn hole_anchors<I: IntNumber, A: Allocator>(
             anchors.push(anchor_of(&contours[i].steps, i))?;
         }
     }
-    sort_by_anchor(&mut anchors)?;
+    sort_by_start(&mut anchors)?;
     Ok(anchors)
 }
 
@@ -75,5 +75,5 @@ fn compare_steps<I: IntNumber>(s: Step<I>, t: Step<I>) -> Ordering
     requires other { IsLong I.limit (plain_step I.whole t) }
     ensures { is_lt result ≡ is_anchored_before (edge_of (plain_step I.whole s)) (edge_of (plain_step I.whole t)) }
 {
-    compare_anchors(&edge_along(&s, 0), &edge_along(&t, 0))
+    compare_starts(&edge_along(&s, 0), &edge_along(&t, 0))
 }

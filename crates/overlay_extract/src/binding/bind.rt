@@ -14,7 +14,7 @@ ghost use Rattle.overlay_extract.specs.Parents.{HasShapeNumber};
 ghost use Rattle.overlay_walk.specs.Steps.{filled_hand, IsLong};
 ghost use Rattle.overlay_extract.specs.Sides.{hand_on_side};
 
-use crate::binding::roles::{shape_count, shapes_known};
+use crate::binding::known_shapes::{shape_count, shapes_known};
 use crate::binding::side::Side;
 use crate::binding::sweep::parents_by_sweep;
 use overlay_arrange::options::ContourDirection;

@@ -10,7 +10,7 @@ ghost use Rattle.overlay_walk.specs.WalkEdges.{numbered_entries};
 ghost use Rattle.overlay_extract.specs.WalkEntries.{filled_entries};
 ghost use Rattle.overlay_extract.specs.WalkEntries.{IsFilledEntry, AreFilledEntries};
 
-use crate::binding::by_anchor::sort_by_anchor;
+use crate::binding::by_start::sort_by_start;
 use overlay_arrange::options::ContourDirection;
 use overlay_geom::number::IntNumber;
 use overlay_walk::contour::Contour;
@@ -32,7 +32,7 @@ pub fn filled_above_edges<I: IntNumber, A: Allocator>(
         (numbered_entries I.whole v.items)) }
 {
     let mut edges = edges_walk_by_walk(alloc, contours, direction)?;
-    sort_by_anchor(&mut edges)?;
+    sort_by_start(&mut edges)?;
     Ok(edges)
 }
 

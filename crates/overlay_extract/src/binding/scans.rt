@@ -6,7 +6,7 @@ ghost use Rattle.overlay_scan.specs.Scan.{empty_sweep};
 ghost use Rattle.overlay_scan.specs.EitherScans.{either_sweep, is_tree};
 ghost use Rattle.overlay_walk.specs.GroupedContours.{plain_contours};
 
-use crate::binding::roles::shape_count;
+use crate::binding::known_shapes::shape_count;
 use overlay_geom::number::IntNumber;
 use overlay_scan::tree::either::EitherScan;
 use overlay_walk::contour::Contour;

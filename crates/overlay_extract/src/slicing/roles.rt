@@ -1,17 +1,17 @@
 //! Loops as contours with roles: outlines and holes.
 
-ghost use Rattle.std.specs.Prelude.{◌≡◌, All, IfOk};
+ghost use Rattle.std.specs.Prelude.{◌≡◌, ◌<◌, length, All, IfOk};
 ghost use Rattle.overlay_plane.specs.BoundContours.{walks_in};
 ghost use Rattle.overlay_plane.specs.Groups.{IsSimpleContour};
-ghost use Rattle.overlay_extract.specs.Bound.{HaveRoles};
+ghost use Rattle.overlay_extract.specs.Bound.{HaveRoles, PassesAnchor};
 ghost use Rattle.overlay_walk.specs.GroupedContours.{plain_contours};
-ghost use Rattle.overlay_walk.specs.Steps.{IsLong};
+ghost use Rattle.overlay_walk.specs.Steps.{plain_steps, IsLong};
 ghost use Rattle.overlay_walk.specs.Walks.{plain_walks};
 
-use crate::slicing::anchor::is_filled_above_anchor;
+use crate::binding::anchor::lowest_step;
 use overlay_geom::number::IntNumber;
 use overlay_walk::contour::{Contour, Role};
-use overlay_walk::step::Step;
+use overlay_walk::step::{Step, is_forward};
 use std::alloc::{AllocError, Allocator};
 
 /// The loops as contours. One that passes the lowest edge at its leftmost lowest point with its filled side, the left
@@ -38,4 +38,14 @@ pub fn contours_of_loops<I: IntNumber, A: Allocator>(
         }
     }
     Ok(contours)
+}
+
+// Returns whether the loop, which has its filled side on its left, passes the edge of its anchor with this side
+// above.
+fn is_filled_above_anchor<I: IntNumber>(walk: &[Step<I>]) -> bool
+    requires some { 0 < length walk.now }
+    requires long { All (IsLong I.limit) (plain_steps I.whole walk.now) }
+    ensures { PassesAnchor result (plain_steps I.whole walk.now) }
+{
+    is_forward(&lowest_step(walk))
 }

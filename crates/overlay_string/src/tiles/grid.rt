@@ -5,7 +5,7 @@ ghost use Rattle.overlay_geom.specs.Points.{AllInRange};
 ghost use Rattle.overlay_string.specs.Grids.{FitsGrid, HasFewLines, IsGridStep};
 ghost use Rattle.overlay_string.specs.Spans.{AreBoundsInRange, plain_bounds, points_of_paths};
 
-use crate::tiles::places::{are_few, is_less};
+use crate::tiles::multiples::{are_few, is_less};
 use crate::tiles::span::{IntBounds, bounds_of};
 use overlay_geom::integer::OverlayInt;
 use overlay_geom::number::IntNumber;

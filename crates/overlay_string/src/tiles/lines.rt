@@ -7,7 +7,7 @@ ghost use Rattle.overlay_string.specs.Grids.{AreGridLines, AreLinesAcross, IsGri
 ghost use Rattle.overlay_string.specs.Spans.{AreBoundsInRange, plain_bounds, points_of_paths};
 
 use crate::tiles::grid::Grid;
-use crate::tiles::places::grid_places;
+use crate::tiles::multiples::grid_multiples;
 use crate::tiles::span::{IntBounds, bounds_of};
 use overlay_geom::number::IntNumber;
 use overlay_geom::path::IntLine;
@@ -49,8 +49,8 @@ fn lines_across<I: IntNumber, A: Allocator + Clone>(
         (plain_bounds I.whole bounds) (paths_of_lines I.whole v.items)) }
     ensures in_range { IfOk result (λ v. All (AllInRange I.limit) (paths_of_lines I.whole v.items)) }
 {
-    let xs = grid_places(alloc.clone()?, grid.width, bounds.x)?;
-    let ys = grid_places(alloc.clone()?, grid.height, bounds.y)?;
+    let xs = grid_multiples(alloc.clone()?, grid.width, bounds.x)?;
+    let ys = grid_multiples(alloc.clone()?, grid.height, bounds.y)?;
     let mut lines: Vec<IntLine<I>, A> = Vec::new(alloc);
     for x in &xs {
         lines.push(upright_at(*x, bounds))?;

@@ -23,7 +23,7 @@ returns-then-not-is_eq g c =
     let apart : point_eq (plain_step whole step).from p ≡ false = sym (point_cmp-is_tie (plain_step whole step).from p)
     ∙ search rules in
     none_follows whole steps c.args.taken.now p c.requires.order c.run_start-low.result
-    c.run_start-low.ensures c.loop-i.i
+    c.run_start-low.ensures.parted c.loop-i.i
     (omega arith) c.loop-i.invariant step c.loop-i-test.true c.index-steps-i.is apart
 
 pub returns-then-not-is_taken : goal.returns-then-not-is_taken
@@ -35,7 +35,7 @@ returns-then-not-is_taken g c =
     let here : point_eq (plain_step whole step).from p ≡ true = sym (point_cmp-is_tie (plain_step whole step).from p)
     ∙ search rules in
     next_is_first whole steps c.args.taken.now p c.requires.order c.run_start-low.result
-    c.run_start-low.ensures c.loop-i.i
+    c.run_start-low.ensures.parted c.loop-i.i
     (omega arith) c.loop-i.invariant step c.loop-i-test.true c.index-steps-i.is
     (point_eq-same (plain_step whole step).from p here) (sym c.is_taken.ensures ∙ search rules)
 
@@ -52,5 +52,5 @@ returns g c =
     let p = plain_point whole c.args.point in
     let past = c.loop-i-test.false in
     none_left whole steps c.args.taken.now p c.requires.order c.run_start-low.result
-    c.run_start-low.ensures c.loop-i.i
+    c.run_start-low.ensures.parted c.loop-i.i
     (omega arith) c.loop-i.invariant (omega arith)

@@ -5,5 +5,5 @@ use Rattle.overlay_scan.specs.Scan.{Entry}
 use Rattle.overlay_extract.proofs.binding.anchor.compare_steps.Goals as goal
 
 pub returns : goal.returns
-returns g c = c.compare_anchors.ensures
+returns g c = c.compare_starts.ensures
     ∙ ap₂ (λ (x y : Entry ℕ). is_anchored_before x.edge y.edge) c.edge_along.ensures c.edge_along-2.ensures

@@ -60,11 +60,11 @@ returns g c = record {
   ok = let whole = g.I.IntNumber.whole in
       holes_sorted (map (walk_of g.I.IntNumber.whole) c.args.contours.now) c.args.known.now c.loop-i.i
       (numbered_entries whole c.loop-i.anchors.items)
-      (numbered_entries whole c.sort_by_anchor.new.edges.items)
+      (numbered_entries whole c.sort_by_start.new.edges.items)
       (let past = c.loop-i-test.false in let end = c.loop-i.auto.i-end in
       omega (arith, length-map c.args.contours.now (walk_of g.I.IntNumber.whole)))
       c.loop-i.invariant
-      (IsPermutation-map (numbered_entry whole) c.loop-i.anchors.items c.sort_by_anchor.new.edges.items
-      c.in_ok-sort_by_anchor.ensures.permutation)
-      c.in_ok-sort_by_anchor.ensures.order;
+      (IsPermutation-map (numbered_entry whole) c.loop-i.anchors.items c.sort_by_start.new.edges.items
+      c.in_ok-sort_by_start.ensures.permutation)
+      c.in_ok-sort_by_start.ensures.order;
 }

@@ -12,9 +12,9 @@ returns g c = record {
   ok = let whole = g.I.IntNumber.whole in
       filled_sorted (filled_hand c.args.direction) (map (walk_of g.I.IntNumber.whole) c.args.contours.now)
       (numbered_entries whole c.in_ok-edges.edges.items)
-      (numbered_entries whole c.sort_by_anchor.new.edges.items) c.in_ok-edges.ensures.edges c.in_ok-edges.ensures.from
+      (numbered_entries whole c.sort_by_start.new.edges.items) c.in_ok-edges.ensures.edges c.in_ok-edges.ensures.from
       c.requires.distinct
-      (IsPermutation-map (numbered_entry whole) c.in_ok-edges.edges.items c.sort_by_anchor.new.edges.items
-      c.in_ok-sort_by_anchor.ensures.permutation)
-      c.in_ok-sort_by_anchor.ensures.order;
+      (IsPermutation-map (numbered_entry whole) c.in_ok-edges.edges.items c.sort_by_start.new.edges.items
+      c.in_ok-sort_by_start.ensures.permutation)
+      c.in_ok-sort_by_start.ensures.order;
 }

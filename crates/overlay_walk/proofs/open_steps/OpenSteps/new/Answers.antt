@@ -3,15 +3,15 @@ use Rattle.std.proofs.Common.{List, subst, sym, rules}
 use Rattle.std.specs.List.{All}
 use Rattle.std.specs.List.Sorted.{IsPermutation}
 use Rattle.std.proofs.lemmas.List.Sorted.{IsPermutation-map, All-permutation}
-use Rattle.overlay_walk.specs.Places.{ArePlacesByStart}
+use Rattle.overlay_walk.specs.Places.{ArePlacesTopFirst}
 use Rattle.overlay_walk.specs.Steps.{plain_step, plain_steps, IsLong}
 use Rattle.overlay_walk.specs.declared.step.Step.{Step as StepTaken}
 use Rattle.overlay_walk.proofs.OpenPlaces.{unmarked-cleared}
 use Rattle.overlay_walk.proofs.StartPlaces.{none_passed}
 use Rattle.overlay_walk.proofs.open_steps.OpenSteps.new.Goals as goal
 
-pub places_by_start-requires : goal.places_by_start-requires
-places_by_start-requires g c =
+pub places_top_first-requires : goal.places_top_first-requires
+places_top_first-requires g c =
     let whole = g.I.IntNumber.whole in
     let kept = IsPermutation-map (plain_step whole) c.args.steps.items c.sort_steps.new.steps.items
     c.sort_steps.ensures.permutation in
@@ -28,7 +28,7 @@ invariant_of-result g c =
       marked = search rules;
       leaving = c.in_ok-sort_steps.ensures.order;
       long = All-permutation (IsLong g.I.IntNumber.limit) _ _ kept c.requires;
-      starting = subst (λ (ss : List (StepTaken g.row.I.Denot)). ArePlacesByStart (plain_steps whole ss)
+      starting = subst (λ (ss : List (StepTaken g.row.I.Denot)). ArePlacesTopFirst (plain_steps whole ss)
           c.in_ok-places.places.items) c.deref.ensures.value
           c.in_ok-places.ensures.ok;
       passing = none_passed c.resize.new.self.items c.in_ok-places.places.items;

@@ -1,0 +1,13 @@
+-- The cross product decides for edges from one point.
+use Rattle.std.proofs.Common.{ap, sym, ◌∙◌}
+use Rattle.std.specs.Ordering.{is_lt}
+use Rattle.overlay_plane.proofs.TiedStarts.{tied_before}
+use Rattle.overlay_walk.specs.WalkEdges.{numbered_entry}
+use Rattle.overlay_extract.proofs.binding.by_start.compare_starts.Goals as goal
+
+pub returns-in-Equal : goal.returns-in-Equal
+returns-in-Equal g c =
+    let whole = g.I.IntNumber.whole in
+    ap is_lt c.sign.ensures
+    ∙ tied_before (numbered_entry whole c.args.e.now).edge (numbered_entry whole c.args.f.now).edge _
+    (sym c.in-Equal.ensures) c.cross_at.ensures.value
