@@ -16,8 +16,8 @@ use overlay_arrange::content::Content;
 use overlay_arrange::data::CountWithData;
 use overlay_arrange::fill::{fills_of_balanced, fills_with_trees_from};
 use overlay_arrange::settle::is_settled;
-use overlay_arrange::sort_leaders::order_by_leaders;
 use overlay_arrange::sort_numbers::order_by_numbers;
+use overlay_arrange::sort_points::order_by_points;
 use overlay_builder::boolean::passing;
 use overlay_builder::builder_core::BuilderCore;
 use overlay_builder::path::{PathKind, add_path};
@@ -32,6 +32,8 @@ use std::process::Abort;
 use std::test::Fail;
 
 const RULE: FillRule = FillRule::EvenOdd;
+// Number of points from which on they are put in order.
+const MANY: usize = 1024;
 
 type Counted<'m, I> = Content<I, ShapeCountBoolean, Memory<'m>>;
 
@@ -59,14 +61,16 @@ fn places_down(memory: Memory<'_>) -> Answer<Vec<usize, Memory<'_>>> {
     Ok(places)
 }
 
-// The places of the squares and those behind them, in turn.
-fn places_in_turn(memory: Memory<'_>) -> Answer<Vec<usize, Memory<'_>>> {
-    let mut places = Vec::with_capacity(memory, 2 * PATHS)?;
-    for place in 0..PATHS {
-        places.push(place)?;
-        places.push(PATHS + place)?;
+// Many points, the last in their order first.
+fn points_down<I: Width>(memory: Memory<'_>) -> Answer<Vec<IntPoint<I>, Memory<'_>>> {
+    let mut points = Vec::new(memory);
+    for _ in 0..MANY / 2 {
+        points.push(point(1, 1))?;
     }
-    Ok(places)
+    for _ in 0..MANY / 2 {
+        points.push(point(0, 0))?;
+    }
+    Ok(points)
 }
 
 fn check_edges<I: Width>(trial: &Trial<'_, impl Abort>) -> Result<(), Fail> {
@@ -99,10 +103,10 @@ fn check_edges<I: Width>(trial: &Trial<'_, impl Abort>) -> Result<(), Fail> {
         |it| Ok(it[..] == places_down(memory)?[..]),
     )?;
     trial.refuse_each(
-        "overlay_arrange::order_by_leaders",
-        || places_in_turn(memory),
-        |it| order_by_leaders(it, 2, |p, q| p.cmp(q)),
-        |it| Ok(it[..] == places_in_turn(memory)?[..]),
+        "overlay_arrange::order_by_points",
+        || points_down::<I>(memory),
+        |it| order_by_points(it, |p| *p),
+        |it| Ok(it[..] == points_down::<I>(memory)?[..]),
     )
 }
 

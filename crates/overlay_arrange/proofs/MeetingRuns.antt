@@ -1,7 +1,8 @@
 -- Meetings sorted by their places: those of an edge stand side by side.
-use Rattle.std.proofs.Common.{◌≡◌, ⊎_elim, ℕ, ◌<◌, ◌≤◌, Bool, true, false, ℤ, nat_lt, nat_le, List, length, get_or, ap}
-use Rattle.std.proofs.Common.{sym, ◌∙◌, subst, arith}
+use Rattle.std.proofs.Common.{◌≡◌, ⊎_elim, ℕ, ◌+◌, ◌-◌, ◌<◌, ◌≤◌, Bool, true, false, ℤ, nat_lt, nat_le, List, length}
+use Rattle.std.proofs.Common.{get_or, ap, sym, ◌∙◌, subst, arith}
 use Rattle.std.specs.Cmp.{IsStrictWeakOrder}
+use Rattle.std.specs.List.{AllWithin}
 use Rattle.std.specs.List.Sorted.{IsSortedBy, IsPartitionedBy, IsPartitionPoint}
 use Rattle.std.specs.Ordering.{is_lt, nat_cmp}
 use Rattle.std.proofs.lemmas.Bool.{cases_lt}
@@ -9,7 +10,7 @@ use Rattle.std.proofs.lemmas.List.{length-map, get_or-map}
 use Rattle.std.proofs.lemmas.List.Sorted.{sorted_far}
 use Rattle.std.proofs.Math.Nat.{eq-or-lt_of_le}
 use Rattle.overlay_geom.proofs.Entries.{some_entry}
-use Rattle.overlay_geom.proofs.Mapped.{AllPairs-map}
+use Rattle.overlay_geom.proofs.Mapped.{AllPairs-map, read_mapped}
 use Rattle.overlay_arrange.specs.Meetings.{plain_meeting, plain_meetings, AreByPlace, IsAt, IsRunAt, Meeting}
 use Rattle.overlay_arrange.specs.declared.meetings.Meeting.{Meeting as HeldMeeting}
 
@@ -62,12 +63,50 @@ module _ {I : Type 0} (whole : I → ℤ) where
         omega (arith, first, second, up))
         (eq-or-lt_of_le le)
 
-    -- each test passes in the front of the list alone
+    -- meetings before i stand in the front of the list alone
     pub before-parted : (i : ℕ) → IsPartitionedBy (is_before i) ms
     before-parted i j k d le within less = let up = no_smaller_later j k d le within in grind (arith, up, less)
 
-    pub up_to-parted : (i : ℕ) → IsPartitionedBy (is_up_to i) ms
-    up_to-parted i j k d le within at = let up = no_smaller_later j k d le within in grind (arith, up, at)
+    -- the place of the meeting that stands there
+    pub place_at : (k : ℕ) (m d : HeldMeeting I) → k < length ms → m ≡ get_or ms k m →
+        (get_or ms k d).place ≡ m.place
+    place_at k m d within is = let e = plain_meeting whole d in
+        ap (λ (n : Meeting). n.place)
+        (sym (plain_at k d e within) ∙ read_mapped (plain_meeting whole) ms k m e within is)
+
+    -- the meeting right before a place, where that comes before i
+    pub smaller_before : (n i : ℕ) (m : HeldMeeting I) → m ≡ get_or ms (n - 1) m → n ≤ length ms →
+        (get_or ms (n - 1) m).place < i → (k : ℕ) (d : HeldMeeting I) → k + 1 ≡ n → (get_or ms k d).place < i
+    smaller_before n i m is within less k d next =
+        let last : n - 1 ≡ k = omega (arith, next) in
+        let own = place_at (n - 1) m m (omega (arith, next, within)) is in
+        let read = place_at k m d (omega (arith, next, within)) (subst (λ j. m ≡ get_or ms j m) last is) in
+        grind (arith, own, read, less)
+
+    -- a place parts the meetings by i if the one right before it comes before i, and the one at it does not
+    pub parted_at : (i n : ℕ) → n ≤ length ms →
+        ((k : ℕ) (d : HeldMeeting I) → k + 1 ≡ n → (get_or ms k d).place < i) →
+        ((d : HeldMeeting I) → n < length ms → i ≤ (get_or ms n d).place) →
+        IsPartitionPoint (λ m. is_before i m ≡ true) (λ m. is_before i m ≡ false) ms n
+    parted_at i n within before at = (
+      λ k d from less. let last = before (n - 1) d (omega arith) in
+          let up = no_smaller_later k (n - 1) d (omega arith) (omega arith) in
+          grind (arith, last, up),
+      λ k d from inside. let here = at d (omega arith) in
+          let up = no_smaller_later n k d from inside in
+          grind (arith, here, up),
+    )
+
+    -- a place parts the meetings behind i if all before it come up to i, and the one at it does not
+    pub ended_at : (i n : ℕ) → AllWithin (λ m. is_up_to i m ≡ true) ms 0 n →
+        ((d : HeldMeeting I) → n < length ms → i < (get_or ms n d).place) →
+        IsPartitionPoint (λ m. is_up_to i m ≡ true) (λ m. is_up_to i m ≡ false) ms n
+    ended_at i n before at = (
+      before,
+      λ k d from inside. let here = at d (omega arith) in
+          let up = no_smaller_later n k d from inside in
+          grind (arith, here, up),
+    )
 
     -- between the two fronts stand the meetings of the edge at place i
     pub run_between : (i low high : ℕ) → low ≤ length ms → high ≤ length ms →

@@ -142,8 +142,9 @@ fn cut_edges<I: IntNumber, C: EdgeCount, A: Allocator + Clone>(
     ensures only { IfErr result (λ e. (e ≡ OverlayError.Memory) ⊎ (e ≡ OverlayError.TooManyEdges)) }
 {
     let mut pieces = Content::with_capacity(alloc.clone()?, edges.len())?;
+    let mut near = 0;
     for (i, e) in edges.iter().enumerate() {
-        let points = points_at(alloc.clone()?, meetings, i, e)?;
+        let points = points_at(alloc.clone()?, meetings, &mut near, i, e)?;
         push_pieces(&mut pieces, e, &points, store)?;
     }
     Ok(pieces)
@@ -266,10 +267,11 @@ fn stays_whole<I: IntNumber, C: EdgeCount>(e: &CountedEdge<I, C>, points: &[IntP
 }
 
 /// Returns the points of the meetings of e, the edge at place i, in their order along it. The meetings are sorted by
-/// their places.
+/// their places. It looks for them at the place `near` first, and leaves there the place behind them.
 fn points_at<I: IntNumber, C: EdgeCount, A: Allocator>(
     alloc: A,
     meetings: &[Meeting<I>],
+    near: &mut usize,
     i: usize,
     e: &CountedEdge<I, C>,
 ) -> Result<Vec<IntPoint<I>, A>, AllocError>
@@ -277,7 +279,8 @@ fn points_at<I: IntNumber, C: EdgeCount, A: Allocator>(
     ensures ok { IfOk result (λ points. ArePointsAt (plain_meetings I.whole meetings.now) i
         (ends_of (plain_edge I.whole C.counts e.now)) (plain_points I.whole points.items)) }
 {
-    let (low, high) = run_at(meetings, i);
+    let (low, high) = run_at(meetings, *near, i);
+    *near = high;
     let mut points = points_of(alloc, &meetings[low..high])?;
     sort_along(&mut points, e)?;
     Ok(points)

@@ -1,7 +1,9 @@
 //! The whole points through which the edges of a list lead each other, gathered pair by pair.
 
-ghost use Rattle.std.specs.Prelude.{◌≡◌, ◌+◌, ◌<◌, true, length, All, IfOk, IfSome, OnOk};
-ghost use Rattle.std.specs.List.Sorted.{IsPermutation};
+ghost use Rattle.std.specs.Prelude.{◌≡◌, ◌+◌, ◌<◌, ◌≤◌, true, false, length, nat_le, nat_lt};
+ghost use Rattle.std.specs.Prelude.{All, IfOk, IfSome, OnOk};
+ghost use Rattle.std.specs.List.{AllWithin};
+ghost use Rattle.std.specs.List.Sorted.{IsPartitionPoint, IsPermutation};
 ghost use Rattle.overlay_arrange.specs.Changed.{AreHeldChangesOf, AreOpenBefore, AreOpenIn, StayOpen};
 ghost use Rattle.overlay_arrange.specs.Content.{plain_edges, IsHeld, IsAscending};
 ghost use Rattle.overlay_arrange.specs.Extents.{AreHeldStripsOf};
@@ -121,12 +123,58 @@ fn sort_by_place<I: IntNumber, A: Allocator + Clone>(
     Ok(())
 }
 
-/// Returns the range of the meetings of the edge at place i. The meetings are sorted by their places.
-pub(crate) fn run_at<I: IntNumber>(meetings: &[Meeting<I>], i: usize) -> (usize, usize)
+/// Returns the range of the meetings of the edge at place i. The meetings are sorted by their places. It tries whether
+/// the range begins at `near`.
+pub(crate) fn run_at<I: IntNumber>(meetings: &[Meeting<I>], near: usize, i: usize) -> (usize, usize)
     requires { AreByPlace (plain_meetings I.whole meetings.now) }
     ensures { IsRunAt (plain_meetings I.whole meetings.now) i result.0 result.1 }
 {
-    let low = meetings.partition_point(|m| m.place < i);
-    let high = meetings.partition_point(|m| m.place <= i);
-    (low, high)
+    let low = run_start(meetings, near, i);
+    (low, run_end(meetings, low, i))
+}
+
+/// Returns the number of meetings with smaller places than i, which come first. It tries `near`.
+fn run_start<I: IntNumber>(meetings: &[Meeting<I>], near: usize, i: usize) -> usize
+    requires { AreByPlace (plain_meetings I.whole meetings.now) }
+    ensures within { result ≤ length meetings.now }
+    ensures parted { IsPartitionPoint (λ m. nat_lt m.place i ≡ true) (λ m. nat_lt m.place i ≡ false)
+        meetings.now result }
+{
+    if is_parted_at(meetings, near, i) {
+        near
+    } else {
+        meetings.partition_point(|m| m.place < i)
+    }
+}
+
+/// Returns whether just the meetings before a place have smaller places than i.
+fn is_parted_at<I: IntNumber>(meetings: &[Meeting<I>], at: usize, i: usize) -> bool
+    requires { AreByPlace (plain_meetings I.whole meetings.now) }
+    ensures within { result ≡ true → at ≤ length meetings.now }
+    ensures parted { result ≡ true → IsPartitionPoint (λ m. nat_lt m.place i ≡ true) (λ m. nat_lt m.place i ≡ false)
+        meetings.now at }
+{
+    if at > meetings.len() {
+        return false;
+    }
+    if at > 0 && meetings[at - 1].place >= i {
+        return false;
+    }
+    at == meetings.len() || meetings[at].place >= i
+}
+
+/// Returns the number of meetings with places up to i, which come first. Those before `low` have smaller places.
+fn run_end<I: IntNumber>(meetings: &[Meeting<I>], low: usize, i: usize) -> usize
+    requires order { AreByPlace (plain_meetings I.whole meetings.now) }
+    requires within { low ≤ length meetings.now }
+    requires smaller { AllWithin (λ m. nat_lt m.place i ≡ true) meetings.now 0 low }
+    ensures within { result ≤ length meetings.now }
+    ensures parted { IsPartitionPoint (λ m. nat_le m.place i ≡ true) (λ m. nat_le m.place i ≡ false)
+        meetings.now result }
+{
+    let mut high = low;
+    while high < meetings.len() && meetings[high].place <= i {
+        high += 1;
+    }
+    high
 }

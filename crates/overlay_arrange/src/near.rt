@@ -111,8 +111,35 @@ pub(crate) fn on_by(at: usize, count: usize, last: usize) -> usize
 }
 
 /// Returns how many boxes from `at` on can be skipped: all of a block that misses `of`, or the rest of a strip whose
-/// next box lies above `of`.
+/// next box lies above `of`. Blocks of 64 and more begin at few places alone.
 fn count_passed<I: IntNumber, A: Allocator>(
+    strips: &Strips<I, A>,
+    of: Extent<I>,
+    at: usize,
+) -> usize
+    requires some { 0 < strips.now.width }
+    requires heights { AreByHeights strips.now.width (plain_extents I.whole strips.now.edges.items) }
+    requires blocks { AreInBlocks
+        (plain_extents I.whole strips.now.edges.items) (plain_extents I.whole strips.now.of_8.items)
+        (plain_extents I.whole strips.now.of_64.items) (plain_extents I.whole strips.now.of_512.items)
+        (plain_extents I.whole strips.now.of_4096.items) (plain_extents I.whole strips.now.of_32768.items) }
+    requires within { at < length strips.now.edges.items }
+    ensures { AreApartFrom (plain_extents I.whole strips.now.edges.items) (plain_extent I.whole of)
+        at (at + result) }
+{
+    if at % 64 == 0 {
+        count_passed_by_blocks(strips, of, at)
+    } else if is_under(of, strips.edges[at]) {
+        strips.width - at % strips.width
+    } else if begins_apart(&strips.of_8, 8, of, at) {
+        8
+    } else {
+        0
+    }
+}
+
+/// Returns how many boxes from `at` on can be skipped, as `count_passed` does, by blocks of all sizes.
+fn count_passed_by_blocks<I: IntNumber, A: Allocator>(
     strips: &Strips<I, A>,
     of: Extent<I>,
     at: usize,

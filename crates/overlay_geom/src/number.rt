@@ -89,6 +89,10 @@ pub trait IntNumber: Copy {
     fn compare(self, other: Self) -> Ordering
         ensures { result ≡ int_cmp (whole self) (whole other) };
 
+    /// Returns the distance of the coordinate from `other`, in range or not.
+    fn distance(self, other: Self) -> u64
+        ensures { result ≡ nat_abs (whole self -ℤ whole other) };
+
     /// Returns the sum of two coordinates in range.
     fn plus(self, other: Self) -> Self
         requires left { Within limit (whole self) }

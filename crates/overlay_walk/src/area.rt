@@ -35,12 +35,15 @@ pub fn large_walks<I: IntNumber, A: Allocator>(
     Ok(large)
 }
 
-/// Returns whether the walk has three points or more and reaches the minimum area.
+/// Returns whether the walk has three points or more and reaches the minimum area. It computes no area where the
+/// minimum is zero.
 pub(crate) fn reaches<I: IntNumber>(walk: &[Step<I>], min_output_area: I::WideUInt) -> bool
     requires { All (IsLong I.limit) (plain_steps I.whole walk.now) }
     ensures { result ≡ reaches I.Wide.width (I.WideUInt.natural min_output_area) (plain_steps I.whole walk.now) }
 {
-    walk.len() >= 3 && I::halved_area(double_area(walk)).is_at_least(min_output_area)
+    walk.len() >= 3
+        && (I::WideUInt::zero().is_at_least(min_output_area)
+            || I::halved_area(double_area(walk)).is_at_least(min_output_area))
 }
 
 // Returns twice the area of the walk, positive where it runs counterclockwise, wrapped to the wide type. It sums from

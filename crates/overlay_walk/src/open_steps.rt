@@ -17,13 +17,10 @@ use crate::next::place_of_next;
 use crate::onward::{noted, onward_places};
 use crate::step::Step;
 use overlay_arrange::edge::compare_points;
-use overlay_arrange::sort_leaders::order_by_leaders;
+use overlay_arrange::sort_points::order_by_points;
 use overlay_geom::number::IntNumber;
 use std::alloc::{AllocError, Allocator};
 use std::marker::Model;
-
-// Greatest number of steps for each forward step up to which they are put in order before they are sorted.
-const MOST_STEPS: usize = 4;
 
 /// Steps between different points in range, with marks of those that are left.
 #[derive(Drop)]
@@ -152,15 +149,14 @@ impl<I: IntNumber, A: Allocator + Clone> OpenSteps<I, A> {
     }
 }
 
-/// Sorts the steps by the points that they leave. It first moves them near their places in the order: of steps along
-/// sorted edges, those that lead forward are in order.
+/// Sorts the steps by the points that they leave.
 fn sort_steps<I: IntNumber, A: Allocator + Clone>(
     steps: &mut Vec<Step<I>, A>,
 ) -> Result<(), AllocError>
     ensures permutation { IsPermutation steps.old.items steps.new.items }
     ensures order { OnOk result (IsByFrom (plain_steps I.whole steps.new.items)) }
 {
-    order_by_leaders(steps, MOST_STEPS, |s, t| compare_points(s.from, t.from))?;
+    order_by_points(steps, |s| s.from)?;
     steps.sort_by(|s, t| compare_points(s.from, t.from))?;
     Ok(())
 }

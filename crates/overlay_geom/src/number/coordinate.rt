@@ -31,6 +31,10 @@ impl IntNumber for i16 {
         self.cmp(&other)
     }
 
+    fn distance(self, other: i16) -> u64 {
+        u64::from(self.abs_diff(other))
+    }
+
     fn plus(self, other: i16) -> i16 {
         self + other
     }
@@ -82,6 +86,10 @@ impl IntNumber for i32 {
         self.cmp(&other)
     }
 
+    fn distance(self, other: i32) -> u64 {
+        u64::from(self.abs_diff(other))
+    }
+
     fn plus(self, other: i32) -> i32 {
         self + other
     }
@@ -131,6 +139,10 @@ impl IntNumber for i64 {
 
     fn compare(self, other: i64) -> Ordering {
         self.cmp(&other)
+    }
+
+    fn distance(self, other: i64) -> u64 {
+        self.abs_diff(other)
     }
 
     fn plus(self, other: i64) -> i64 {

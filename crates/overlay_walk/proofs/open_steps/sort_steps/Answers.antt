@@ -18,5 +18,5 @@ returns-clause-order g c =
 
 pub returns-clause-permutation : goal.returns-clause-permutation
 returns-clause-permutation g c =
-    IsPermutation-trans c.args.steps.now.items c.order_by_leaders.new.items.items c.sort_by.new.self.items
-    c.order_by_leaders.ensures.items c.in_ok-sort_by.ensures.permutation
+    IsPermutation-trans c.args.steps.now.items c.order_by_points.new.items.items c.sort_by.new.self.items
+    c.order_by_points.ensures.items c.in_ok-sort_by.ensures.permutation
