@@ -18,6 +18,7 @@ pub mod EndSums
 pub mod ExtentBlocks
 pub mod FarEdges
 pub mod FilledVectors
+mod FillsTold
 pub mod FilteredShuffles
 pub mod FirstEdges
 pub mod GatheredMeetings

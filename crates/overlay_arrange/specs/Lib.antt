@@ -6,6 +6,7 @@ pub mod Cut
 pub mod EdgeData
 pub mod Ends
 pub mod Extents
+pub mod FillTests
 pub mod Graphs
 pub mod HotPoints
 pub mod Meetings

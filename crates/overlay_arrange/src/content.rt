@@ -13,11 +13,13 @@ ghost use Rattle.overlay_arrange.specs.Content.{plain_edge, plain_edges};
 ghost use Rattle.overlay_arrange.specs.Content.{carried_edge, carried_edges};
 ghost use Rattle.overlay_arrange.specs.Content.{IsAscending, IsContent, IsHeld};
 ghost use Rattle.overlay_arrange.specs.EdgeData.{IsReversedBy};
+ghost use Rattle.overlay_arrange.specs.FillTests.{some_fill_passes, IsFoundUnless};
 ghost use Rattle.overlay_arrange.specs.Stores.{IsStoreReached};
 
 use crate::count::EdgeCount;
 use crate::edge::CountedEdge;
 use crate::fill_rule::FillRule;
+use crate::fill_test::FillTest;
 use crate::graph::Graph;
 use crate::merge::{merge, merge_runs, weight_of};
 use overlay_geom::error::OverlayError;
@@ -205,6 +207,26 @@ impl<I: IntNumber, C: EdgeCount, A: Allocator> Content<I, C, A> {
         ensures ok { IfOk result (λ g. g ≡ record { fill_rule = fill_rule; edges = self.now }) }
     {
         Graph::of_balanced(self.edges.allocator().clone()?, &self.edges, fill_rule)
+    }
+
+    /// Makes the graph of the edges as `graph_of_balanced` does, unless the filled sides of some edge pass the test. It
+    /// stops at the first edge that passes.
+    pub fn graph_of_balanced_unless<T: FillTest>(
+        &self,
+        fill_rule: FillRule,
+        test: T,
+    ) -> Result<Option<Graph<I, C, A>>, AllocError>
+    where
+        A: Clone,
+        requires ascending { IsAscending (edges_in self.now) }
+        requires settled { IsSettled (edges_in self.now) }
+        requires balanced { HasBalancedCounts (edges_in self.now) }
+        ensures ok { IfOk result (IsFoundUnless
+            (some_fill_passes (T.passing test) fill_rule (edges_in self.now))
+            (λ g. g ≡ record { fill_rule = fill_rule; edges = self.now })) }
+    {
+        let alloc = self.edges.allocator().clone()?;
+        Graph::of_balanced_unless(alloc, &self.edges, fill_rule, test)
     }
 }
 

@@ -6,6 +6,7 @@ ghost use Rattle.overlay_plane.specs.Balance.{HasBalancedCounts};
 ghost use Rattle.overlay_scan.specs.Scan.{empty_sweep};
 ghost use Rattle.overlay_scan.specs.EitherScans.{either_sweep, is_tree};
 ghost use Rattle.overlay_arrange.specs.Content.{plain_edges, IsContent, IsAscending};
+ghost use Rattle.overlay_arrange.specs.FillTests.{some_fill_passes, IsFoundUnless};
 ghost use Rattle.overlay_arrange.specs.Rules.{fill_bits};
 
 use crate::balance::is_balanced;
@@ -13,7 +14,8 @@ use crate::count::EdgeCount;
 use crate::edge::CountedEdge;
 use crate::fill_rays::fills_by_rays;
 use crate::fill_rule::FillRule;
-use crate::fill_sweep::fills_by_sweep;
+use crate::fill_sweep::{fills_by_sweep, fills_by_sweep_unless};
+use crate::fill_test::FillTest;
 use crate::spans::length_of_runs;
 use crate::vector::SideFill;
 use crate::windings::Windings;
@@ -80,6 +82,30 @@ pub fn fills_of_balanced<I: IntNumber, C: EdgeCount, A: Allocator + Clone>(
 {
     let mut scan = scan_for(alloc.clone()?, edges, tree_from);
     fills_by_sweep(alloc, &mut scan, edges, rule)
+}
+
+/// Returns the filled sides of edges with balanced counts, unless those of some edge pass the test. It stops at the
+/// first edge that passes, and does not test the balance.
+pub(crate) fn fills_of_balanced_unless<
+    I: IntNumber,
+    C: EdgeCount,
+    A: Allocator + Clone,
+    T: FillTest,
+>(
+    alloc: A,
+    edges: &[CountedEdge<I, C>],
+    rule: FillRule,
+    test: T,
+) -> Result<Option<Vec<SideFill, A>>, AllocError>
+    requires content { IsContent I.limit (plain_edges I.whole C.counts edges.now) }
+    requires ascending { IsAscending (plain_edges I.whole C.counts edges.now) }
+    requires settled { IsSettled (plain_edges I.whole C.counts edges.now) }
+    requires balanced { HasBalancedCounts (plain_edges I.whole C.counts edges.now) }
+    ensures ok { let es = plain_edges I.whole C.counts edges.now in IfOk result
+        (IsFoundUnless (some_fill_passes (T.passing test) rule es) (λ v. v.items ≡ map (fill_bits rule es) es)) }
+{
+    let mut scan = scan_for(alloc.clone()?, edges, tree_from(edges));
+    fills_by_sweep_unless(alloc, &mut scan, edges, rule, test)
 }
 
 /// Makes a scan without edges: a tree where there are `tree_from` or more edges, else a list.

@@ -1,11 +1,12 @@
 //! The filled sides of the edges of an arrangement with balanced counts, by one sweep from left to right.
 
-ghost use Rattle.std.specs.Prelude.{◌≡◌, ◌+◌, ◌<◌, length, map, take, slice_index_or, IfOk, OnOk};
+ghost use Rattle.std.specs.Prelude.{◌≡◌, ◌+◌, ◌<◌, false, length, map, take, slice_index_or, IfOk, OnOk};
 ghost use Rattle.overlay_geom.specs.Settled.{IsSettled};
 ghost use Rattle.overlay_plane.specs.Balance.{HasBalancedCounts};
 ghost use Rattle.overlay_scan.specs.Scan.{empty_sweep};
 ghost use Rattle.overlay_scan.specs.Sweeps.{IsSwept};
 ghost use Rattle.overlay_arrange.specs.Content.{plain_edges, IsContent, IsAscending};
+ghost use Rattle.overlay_arrange.specs.FillTests.{some_fill_passes, IsFoundUnless};
 ghost use Rattle.overlay_arrange.specs.Rules.{fill_bits};
 ghost use Rattle.overlay_arrange.specs.Starts.{plain_starts, wound_entries, windings_below, IsSweepable};
 ghost use Rattle.overlay_arrange.specs.Starts.{AreAboveTheOneBefore};
@@ -13,6 +14,7 @@ ghost use Rattle.overlay_arrange.specs.Starts.{AreAboveTheOneBefore};
 use crate::count::EdgeCount;
 use crate::edge::CountedEdge;
 use crate::fill_rule::FillRule;
+use crate::fill_test::{FillTest, NoTest};
 use crate::starting_edge::StartingEdge;
 use crate::starts::edges_by_start;
 use crate::vector::SideFill;
@@ -43,15 +45,73 @@ pub(crate) fn fills_by_sweep<
     ensures ok { let es = plain_edges I.whole C.counts edges.now in
         IfOk result (λ v. v.items ≡ map (fill_bits rule es) es) }
 {
-    let starting = edges_by_start(alloc.clone()?, edges)?;
-    let mut fills = Vec::new(alloc);
+    let mut fills = Vec::new(alloc.clone()?);
     fills.resize(edges.len(), 0)?;
+    fill_unless(alloc, scan, edges, rule, NoTest, &mut fills)?;
+    Ok(fills)
+}
+
+/// Returns the filled sides of every edge, in the order of the edges, unless those of some edge pass the test. It stops
+/// at the first edge that passes. The scan is empty at first; its content afterwards is left open.
+pub(crate) fn fills_by_sweep_unless<
+    I: IntNumber,
+    C: EdgeCount,
+    A: Allocator + Clone,
+    S: Scan<I, Windings>,
+    T: FillTest,
+>(
+    alloc: A,
+    scan: &mut S,
+    edges: &[CountedEdge<I, C>],
+    rule: FillRule,
+    test: T,
+) -> Result<Option<Vec<SideFill, A>>, AllocError>
+    requires content { IsContent I.limit (plain_edges I.whole C.counts edges.now) }
+    requires ascending { IsAscending (plain_edges I.whole C.counts edges.now) }
+    requires settled { IsSettled (plain_edges I.whole C.counts edges.now) }
+    requires balanced { HasBalancedCounts (plain_edges I.whole C.counts edges.now) }
+    requires empty { S.content scan.old ≡ empty_sweep }
+    ensures ok { let es = plain_edges I.whole C.counts edges.now in IfOk result
+        (IsFoundUnless (some_fill_passes (T.passing test) rule es) (λ v. v.items ≡ map (fill_bits rule es) es)) }
+{
+    let mut fills = Vec::new(alloc.clone()?);
+    fills.resize(edges.len(), 0)?;
+    let is_told = fill_unless(alloc, scan, edges, rule, test, &mut fills)?;
+    Ok(if is_told { None } else { Some(fills) })
+}
+
+/// Writes the filled sides of the edges to their places in the list, unless those of some edge pass the test. It stops
+/// at the first edge that passes, and returns whether there is such an edge.
+fn fill_unless<I: IntNumber, C: EdgeCount, A: Allocator + Clone, S: Scan<I, Windings>, T: FillTest>(
+    alloc: A,
+    scan: &mut S,
+    edges: &[CountedEdge<I, C>],
+    rule: FillRule,
+    test: T,
+    fills: &mut [SideFill],
+) -> Result<bool, AllocError>
+    requires content { IsContent I.limit (plain_edges I.whole C.counts edges.now) }
+    requires ascending { IsAscending (plain_edges I.whole C.counts edges.now) }
+    requires settled { IsSettled (plain_edges I.whole C.counts edges.now) }
+    requires balanced { HasBalancedCounts (plain_edges I.whole C.counts edges.now) }
+    requires empty { S.content scan.old ≡ empty_sweep }
+    requires counted { length fills.old ≡ length edges.now }
+    ensures told { IfOk result
+        (λ t. t ≡ some_fill_passes (T.passing test) rule (plain_edges I.whole C.counts edges.now)) }
+    ensures filled { let es = plain_edges I.whole C.counts edges.now in
+        IfOk result (λ t. t ≡ false → fills.new ≡ map (fill_bits rule es) es) }
+{
+    let starting = edges_by_start(alloc, edges)?;
     let mut above = Windings { subj: 0, clip: 0 };
     for i in 0..starting.len() {
+        let place = starting[i].place;
         let fill = next_fill(scan, &starting, i, &mut above, rule)?;
-        fills[starting[i].place] = fill;
+        if test.passes(fill) {
+            return Ok(true);
+        }
+        fills[place] = fill;
     }
-    Ok(fills)
+    Ok(false)
 }
 
 /// Returns the filled sides of the next edge of the sweep, and inserts it with the windings above it unless it is

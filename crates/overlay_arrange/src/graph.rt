@@ -4,14 +4,16 @@ ghost use Rattle.std.specs.Prelude.{◌≡◌, map, length, IfOk};
 ghost use Rattle.overlay_geom.specs.Settled.{IsSettled};
 ghost use Rattle.overlay_plane.specs.Balance.{HasBalancedCounts};
 ghost use Rattle.overlay_arrange.specs.Content.{plain_edges, carried_edges, IsContent, IsAscending};
+ghost use Rattle.overlay_arrange.specs.FillTests.{some_fill_passes, IsFoundUnless};
 ghost use Rattle.overlay_arrange.specs.Graphs.{graph_edges, carried_vectors, IsArrangement};
 ghost use Rattle.overlay_arrange.specs.Rules.{fill_bits};
 ghost use Rattle.overlay_arrange.specs.Vectors.{plain_vector, vector_of};
 
 use crate::count::EdgeCount;
 use crate::edge::CountedEdge;
-use crate::fill::{fills_of_balanced, fills_with_trees_from, tree_from};
+use crate::fill::{fills_of_balanced, fills_of_balanced_unless, fills_with_trees_from, tree_from};
 use crate::fill_rule::FillRule;
+use crate::fill_test::FillTest;
 use crate::vector::{DataVectorEdge, SideFill};
 use overlay_geom::number::IntNumber;
 use std::alloc::{AllocError, Allocator};
@@ -74,6 +76,28 @@ impl<I: IntNumber, C: EdgeCount, A: Allocator + Clone> Graph<I, C, A> {
     {
         let fills = fills_of_balanced(alloc.clone()?, edges, fill_rule, tree_from(edges))?;
         Graph::filled(alloc, edges, fill_rule, &fills)
+    }
+
+    /// Makes the graph of edges with balanced counts, unless the filled sides of some edge pass the test. It stops at
+    /// the first edge that passes, and does not test the balance.
+    pub(crate) fn of_balanced_unless<T: FillTest>(
+        alloc: A,
+        edges: &[CountedEdge<I, C>],
+        fill_rule: FillRule,
+        test: T,
+    ) -> Result<Option<Self>, AllocError>
+        requires content { IsContent I.limit (plain_edges I.whole C.counts edges.now) }
+        requires ascending { IsAscending (plain_edges I.whole C.counts edges.now) }
+        requires settled { IsSettled (plain_edges I.whole C.counts edges.now) }
+        requires balanced { HasBalancedCounts (plain_edges I.whole C.counts edges.now) }
+        ensures ok { IfOk result (IsFoundUnless
+            (some_fill_passes (T.passing test) fill_rule (plain_edges I.whole C.counts edges.now))
+            (λ g. g ≡ record { fill_rule = fill_rule; edges = carried_edges I.whole C.counts edges.now })) }
+    {
+        match fills_of_balanced_unless(alloc.clone()?, edges, fill_rule, test)? {
+            Some(fills) => Ok(Some(Graph::filled(alloc, edges, fill_rule, &fills)?)),
+            None => Ok(None),
+        }
     }
 
     // Makes the graph of the edges with these filled sides.

@@ -16,6 +16,7 @@ pub mod fill;
 mod fill_rays;
 pub mod fill_rule;
 mod fill_sweep;
+pub mod fill_test;
 pub mod graph;
 mod hot;
 mod meetings;

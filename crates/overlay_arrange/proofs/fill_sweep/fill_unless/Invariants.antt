@@ -1,11 +1,11 @@
--- The sides of the edges swept so far are at their places. The sweep may go on to the rest, and the windings above the
--- last edge are known.
-use Rattle.std.proofs.Common.{◌≡◌, length, take, drop, get_or}
+-- The sides of the edges swept so far are at their places, and none pass the test. The sweep may go on to the rest, and
+-- the windings above the last edge are known.
+use Rattle.std.proofs.Common.{◌≡◌, false, length, take, drop, get_or}
 use Rattle.std.specs.List.{All}
 use Rattle.overlay_scan.specs.Sweeps.{IsSwept}
 use Rattle.overlay_arrange.specs.Rules.{fill_bits}
 use Rattle.overlay_arrange.specs.Starts.{plain_starts, numbered_starts, wound_entries, AreAboveTheOneBefore}
-use Rattle.overlay_arrange.proofs.fill_sweep.fills_by_sweep.Given as goal
+use Rattle.overlay_arrange.proofs.fill_sweep.fill_unless.Given as goal
 
 abbrev pub invariant-loop-i : goal.invariant-loop-i
 invariant-loop-i g l =
@@ -13,8 +13,9 @@ invariant-loop-i g l =
     let counts = g.C.EdgeCount.counts in
     let fs = plain_starts whole counts l.starting.items in
     let ns = numbered_starts whole counts l.starting.items in
-    (length l.fills.items ≡ length l.edges)
+    (length l.fills ≡ length l.edges)
     × All (λ f. IsSwept g.I.IntNumber.limit f.edge.a.x (take l.i (wound_entries fs)) (g.S.Scan.content l.scan))
     (drop l.i (wound_entries fs))
-    × All (λ n. get_or l.fills.items n.place 0 ≡ fill_bits l.rule fs n.item) (take l.i ns)
+    × All (λ n. get_or l.fills n.place 0 ≡ fill_bits l.rule fs n.item) (take l.i ns)
     × AreAboveTheOneBefore fs l.i l.above
+    × All (λ f. g.T.FillTest.passing l.test (fill_bits l.rule fs f) ≡ false) (take l.i fs)
