@@ -10,6 +10,7 @@ pub mod Graphs
 pub mod HotPoints
 pub mod Meetings
 pub mod Near
+pub mod Neighbours
 pub mod Options
 pub mod Paths
 pub mod PixelRuns
