@@ -34,6 +34,7 @@ pub mod LedToEnds
 pub mod MeetingRuns
 pub mod MeetingsOnLines
 pub mod MergedContent
+pub mod MovedBack
 pub mod NearChanged
 pub mod NearEdges
 pub mod OpenPairs

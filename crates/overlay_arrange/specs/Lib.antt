@@ -11,6 +11,7 @@ pub mod Graphs
 pub mod HotPoints
 pub mod Meetings
 pub mod Near
+pub mod Neighbours
 pub mod Options
 pub mod Paths
 pub mod PixelRuns

@@ -141,10 +141,13 @@ fn cut_edges<I: IntNumber, C: EdgeCount, A: Allocator + Clone>(
         → 2 ^ 31 ≤ weight (flat_map (pieces_through points) es) }
     ensures only { IfErr result (λ e. (e ≡ OverlayError.Memory) ⊎ (e ≡ OverlayError.TooManyEdges)) }
 {
-    let mut pieces = Content::with_capacity(alloc.clone()?, edges.len())?;
+    // (each meeting makes one piece more at most)
+    let most = edges.len().saturating_add(meetings.len());
+    let mut pieces = Content::with_capacity(alloc.clone()?, most)?;
+    let mut points = Vec::new(alloc);
     let mut near = 0;
     for (i, e) in edges.iter().enumerate() {
-        let points = points_at(alloc.clone()?, meetings, &mut near, i, e)?;
+        put_points_at(&mut points, meetings, &mut near, i, e)?;
         push_pieces(&mut pieces, e, &points, store)?;
     }
     Ok(pieces)
@@ -266,39 +269,39 @@ fn stays_whole<I: IntNumber, C: EdgeCount>(e: &CountedEdge<I, C>, points: &[IntP
     true
 }
 
-/// Returns the points of the meetings of e, the edge at place i, in their order along it. The meetings are sorted by
-/// their places. It looks for them at the place `near` first, and leaves there the place behind them.
-fn points_at<I: IntNumber, C: EdgeCount, A: Allocator>(
-    alloc: A,
+/// Replaces the list by the points of the meetings of e, the edge at place i, in their order along it. The meetings are
+/// sorted by their places. It looks for them at the place `near` first, and leaves there the place behind them.
+fn put_points_at<I: IntNumber, C: EdgeCount, A: Allocator>(
+    points: &mut Vec<IntPoint<I>, A>,
     meetings: &[Meeting<I>],
     near: &mut usize,
     i: usize,
     e: &CountedEdge<I, C>,
-) -> Result<Vec<IntPoint<I>, A>, AllocError>
+) -> Result<(), AllocError>
     requires { AreByPlace (plain_meetings I.whole meetings.now) }
-    ensures ok { IfOk result (λ points. ArePointsAt (plain_meetings I.whole meetings.now) i
-        (ends_of (plain_edge I.whole C.counts e.now)) (plain_points I.whole points.items)) }
+    ensures ok { OnOk result (ArePointsAt (plain_meetings I.whole meetings.now) i
+        (ends_of (plain_edge I.whole C.counts e.now)) (plain_points I.whole points.new.items)) }
 {
     let (low, high) = run_at(meetings, *near, i);
     *near = high;
-    let mut points = points_of(alloc, &meetings[low..high])?;
-    sort_along(&mut points, e)?;
-    Ok(points)
+    put_points(points, &meetings[low..high])?;
+    sort_along(points, e)?;
+    Ok(())
 }
 
-/// Returns the points of the meetings.
-fn points_of<I: IntNumber, A: Allocator>(
-    alloc: A,
+/// Replaces the list by the points of the meetings.
+fn put_points<I: IntNumber, A: Allocator>(
+    points: &mut Vec<IntPoint<I>, A>,
     meetings: &[Meeting<I>],
-) -> Result<Vec<IntPoint<I>, A>, AllocError>
-    ensures ok { IfOk result (λ points. plain_points I.whole points.items
+) -> Result<(), AllocError>
+    ensures ok { OnOk result (plain_points I.whole points.new.items
         ≡ map (λ m. m.point) (plain_meetings I.whole meetings.now)) }
 {
-    let mut points = Vec::new(alloc);
+    points.clear();
     for m in meetings {
         points.push(m.point)?;
     }
-    Ok(points)
+    Ok(())
 }
 
 /// Sorts the points by their order along the edge.

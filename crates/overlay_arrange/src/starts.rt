@@ -1,7 +1,9 @@
 //! The edges of a list in the order in which a sweep comes to them.
 
-ghost use Rattle.std.specs.Prelude.{◌≡◌, IfOk};
+ghost use Rattle.std.specs.Prelude.{◌≡◌, false, AllPairs, IfOk, OnOk};
+ghost use Rattle.std.specs.List.Sorted.{IsPermutation};
 ghost use Rattle.std.specs.Ordering.{is_lt};
+ghost use Rattle.overlay_geom.specs.Edges.{ends_of};
 ghost use Rattle.overlay_geom.specs.Numbered.{numbered};
 ghost use Rattle.overlay_plane.specs.Anchors.{is_anchored_before};
 ghost use Rattle.overlay_arrange.specs.Content.{plain_edges, IsContent};
@@ -9,7 +11,7 @@ ghost use Rattle.overlay_arrange.specs.Starts.{starting_ends, numbered_starts, A
 
 use crate::count::EdgeCount;
 use crate::edge::{CountedEdge, compare_points};
-use crate::sort_runs::order_neighbours;
+use crate::sort_runs::sort_neighbours;
 use crate::starting_edge::StartingEdge;
 use overlay_geom::number::{IntNumber, WideIntNumber};
 use overlay_geom::vector::cross_at;
@@ -26,9 +28,24 @@ pub(crate) fn edges_by_start<I: IntNumber, C: EdgeCount, A: Allocator>(
         (plain_edges I.whole C.counts edges.now) (numbered_starts I.whole C.counts v.items)) }
 {
     let mut starting = edges_with_places(alloc, edges)?;
-    order_neighbours(&mut starting, |e, f| compare_starts(e, f));
-    starting.sort_by(|e, f| compare_starts(e, f))?;
+    sort_starts(&mut starting)?;
     Ok(starting)
+}
+
+/// Sorts the edges by their smaller ends, and edges from one point by slope, lowest first. It takes one pass where few
+/// edges start in one point, and they are sorted but for these.
+fn sort_starts<I: IntNumber, C: EdgeCount, A: Allocator>(
+    starting: &mut Vec<StartingEdge<I, C>, A>,
+) -> Result<(), AllocError>
+    ensures permutation { IsPermutation starting.old.items starting.new.items }
+    ensures order { OnOk result (AllPairs (λ m n. is_anchored_before (ends_of n.item) (ends_of m.item) ≡ false)
+        (numbered_starts I.whole C.counts starting.new.items)) }
+{
+    if sort_neighbours(starting, |e, f| compare_starts(e, f)) {
+        return Ok(());
+    }
+    starting.sort_by(|e, f| compare_starts(e, f))?;
+    Ok(())
 }
 
 /// Returns the edges in their order, each with its place.

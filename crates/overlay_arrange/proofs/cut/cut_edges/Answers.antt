@@ -70,7 +70,7 @@ push_pieces-requires-clause-points g c =
     (ends_of (plain_edge g.I.IntNumber.whole g.C.EdgeCount.counts c.index-edges-i.result))
     (plain_points g.I.IntNumber.whole c.deref.result.now) c.requires.in_range
     (points_at g.I.IntNumber.whole g.C.EdgeCount.counts c.loop-i.i c.index-edges-i.result c.args.meetings.now
-    c.in_ok-points.points.items c.deref.result.now c.in_ok-points.ensures.ok c.deref.ensures.value)
+    c.put_points_at.new.points.items c.deref.result.now c.in_ok-put_points_at.ensures.ok c.deref.ensures.value)
 
 pub returns-in_err-push_pieces-clause-too_many : goal.returns-in_err-push_pieces-clause-too_many
 returns-in_err-push_pieces-clause-too_many g c = λ refused points leads.
@@ -83,9 +83,9 @@ returns-in_err-push_pieces-clause-too_many g c = λ refused points leads.
     (mapped_rest plain c.args.edges.now i c.index-edges-i.result c.loop-i-test.true c.index-edges-i.is)
     (c.loop-i.invariant.0 points leads) refl in
     let led = led_at g.I.IntNumber.limit g.I.IntNumber.whole g.C.EdgeCount.counts c.args.edges.now i
-    c.index-edges-i.result c.args.meetings.now c.in_ok-points.points.items c.deref.result.now
+    c.index-edges-i.result c.args.meetings.now c.put_points_at.new.points.items c.deref.result.now
     c.requires.content.held c.loop-i-test.true c.index-edges-i.is
-    c.in_ok-points.ensures.ok c.deref.ensures.value points leads in
+    c.in_ok-put_points_at.ensures.ok c.deref.ensures.value points leads in
     heavy_beginning 2147483648 (edges_in c.loop-i.pieces ++ pieces e) (flat_map pieces rest) _ all
     (subst (λ ss. 2147483648 ≤ weight (edges_in c.loop-i.pieces ++ map (piece_along e) ss)) led.chain
     (c.push_pieces.ensures.too_many (search rules)))
@@ -97,9 +97,9 @@ loop-i-preserved g c =
     let e = plain c.index-edges-i.result in
     let rest = plain_edges g.I.IntNumber.whole g.C.EdgeCount.counts (drop (i + 1) c.args.edges.now) in
     let led = led_at g.I.IntNumber.limit g.I.IntNumber.whole g.C.EdgeCount.counts c.args.edges.now i
-    c.index-edges-i.result c.args.meetings.now c.in_ok-points.points.items c.deref.result.now
+    c.index-edges-i.result c.args.meetings.now c.put_points_at.new.points.items c.deref.result.now
     c.requires.content.held c.loop-i-test.true c.index-edges-i.is
-    c.in_ok-points.ensures.ok c.deref.ensures.value in
+    c.in_ok-put_points_at.ensures.ok c.deref.ensures.value in
     let carry = carried_edge g.I.IntNumber.whole g.C.EdgeCount.counts in
     let splits = g.C.EdgeCount.splits in
     let reverses = g.C.EdgeCount.reverses in

@@ -1,6 +1,5 @@
 -- The meetings before the place have smaller places by the one right before it, the others have not by the one there.
-use Rattle.std.proofs.Common.{◌≡◌, ℕ, ◌+◌, ◌<◌, length, get_or, arith}
-use Rattle.overlay_arrange.specs.declared.meetings.Meeting.{Meeting}
+use Rattle.std.proofs.Common.{arith}
 use Rattle.overlay_arrange.proofs.MeetingRuns.{parted_at, place_at, smaller_before}
 use Rattle.overlay_arrange.proofs.meetings.is_parted_at.Goals as goal
 use Rattle.overlay_arrange.proofs.meetings.is_parted_at.Goals.{else-at-gt0-via-then-at-gt0+else-meetings-at}

@@ -4,7 +4,7 @@ use Rattle.overlay_geom.specs.Points.{plain_point}
 use Rattle.overlay_geom.proofs.Mapped.{mapped_whole}
 use Rattle.overlay_arrange.specs.Meetings.{plain_meeting, Meeting}
 use Rattle.overlay_arrange.proofs.Appended.{next_mapped}
-use Rattle.overlay_arrange.proofs.cut.points_of.Goals as goal
+use Rattle.overlay_arrange.proofs.cut.put_points.Goals as goal
 
 pub loop-m-preserved : goal.loop-m-preserved
 loop-m-preserved g c =

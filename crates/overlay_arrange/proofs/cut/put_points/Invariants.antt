@@ -2,7 +2,7 @@
 use Rattle.std.proofs.Common.{◌≡◌, map, take}
 use Rattle.overlay_geom.specs.Points.{plain_points}
 use Rattle.overlay_arrange.specs.Meetings.{plain_meetings, Meeting}
-use Rattle.overlay_arrange.proofs.cut.points_of.Given as goal
+use Rattle.overlay_arrange.proofs.cut.put_points.Given as goal
 
 abbrev pub invariant-loop-m : goal.invariant-loop-m
 invariant-loop-m g l =
