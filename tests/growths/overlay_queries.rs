@@ -2,6 +2,7 @@
 
 use crate::figures::{PATHS, Width, flat_squares, lone_squares, square, square_at, squares};
 use crate::overlay_adders::builder;
+use crate::overlay_queries::Until::Cleared;
 use crate::refusals::{Answer, Memory, Trial};
 use crate::seen::{Seen, is_failed};
 use i_overlay::fill_rule::FillRule;
@@ -82,14 +83,22 @@ fn mend<I: Width>(it: &mut Overlay<I, Memory<'_>>) -> Answer<()> {
     it.add_contour(&square(17, 24), ShapeType::Clip)
 }
 
-/// Refuses the growths of a query, after which `mend` puts what `overlapping` has in the place of what is held.
-pub(crate) fn refuses_query<
+/// What mends a builder that has failed.
+#[derive(Drop)]
+pub(crate) enum Until {
+    /// It is cleared, and is given what `overlapping` has.
+    Cleared,
+    /// The call is made again.
+    Called,
+}
+
+/// Refuses the growths of a query that leaves the builder failed until it is mended.
+pub(crate) fn refuses<
     'm,
     I: Width,
     T: PartialEq + Drop,
     Q: Fn(&mut Overlay<I, Memory<'m>>) -> Answer<T> + Drop,
-    M: Fn(&mut Overlay<I, Memory<'m>>) -> Answer<()> + Drop,
->(trial: &Trial<'m, impl Abort>, name: &str, query: Q, mend: M) -> Result<(), Fail> {
+>(trial: &Trial<'m, impl Abort>, name: &str, until: Until, query: Q) -> Result<(), Fail> {
     let memory = trial.memory;
     let given = figures_of::<I>(memory)?;
     trial.answers_or_fails(
@@ -97,32 +106,30 @@ pub(crate) fn refuses_query<
         || overlapping(memory),
         query,
         |it| has_failed(it, &given),
-        mend,
+        |it| match &until {
+            Until::Cleared => mend(it),
+            Until::Called => Ok(()),
+        },
     )
 }
 
-// Refuses the growths of a query that leaves the builder failed until it is cleared.
-fn refuses<
-    'm,
-    I: Width,
-    T: PartialEq + Drop,
-    Q: Fn(&mut Overlay<I, Memory<'m>>) -> Answer<T> + Drop,
->(trial: &Trial<'m, impl Abort>, name: &str, query: Q) -> Result<(), Fail> {
-    refuses_query(trial, name, query, |it| mend(it))
-}
-
 fn check_queries<I: Width>(trial: &Trial<'_, impl Abort>) -> Result<(), Fail> {
-    refuses::<I, _, _>(trial, "Overlay::overlay", |it| it.overlay(UNION, RULE))?;
-    refuses::<I, _, _>(trial, "Overlay::overlay_hierarchy", |it| {
+    refuses::<I, _, _>(
+        trial,
+        "Overlay::overlay",
+        Cleared,
+        |it| it.overlay(UNION, RULE),
+    )?;
+    refuses::<I, _, _>(trial, "Overlay::overlay_hierarchy", Cleared, |it| {
         it.overlay_hierarchy(UNION, FillRule::EvenOdd)
     })?;
-    refuses::<I, _, _>(trial, "Overlay::build_shape_vectors", |it| {
+    refuses::<I, _, _>(trial, "Overlay::build_shape_vectors", Cleared, |it| {
         it.build_shape_vectors(RULE, UNION)
     })?;
-    refuses::<I, _, _>(trial, "Overlay::build_separate_vectors", |it| {
+    refuses::<I, _, _>(trial, "Overlay::build_separate_vectors", Cleared, |it| {
         it.build_separate_vectors(RULE)
     })?;
-    refuses::<I, _, _>(trial, "Overlay::build_graph_view", |it| {
+    refuses::<I, _, _>(trial, "Overlay::build_graph_view", Cleared, |it| {
         let view = it.build_graph_view(RULE)?;
         Ok(view.is_some())
     })

@@ -1,7 +1,8 @@
 //! The calls of `Overlay` that simplify: they mend the builder before they add.
 
 use crate::figures::{Width, flat_squares, square_at};
-use crate::overlay_queries::{figures_of, has_failed, is_empty, overlapping, refuses_query};
+use crate::overlay_queries::Until::Called;
+use crate::overlay_queries::{figures_of, has_failed, is_empty, overlapping, refuses};
 use crate::refusals::{Answer, Memory, PLENTY, Trial};
 use crate::seen::Seen;
 use i_overlay::fill_rule::FillRule;
@@ -20,32 +21,22 @@ fn turned<I: Width>() -> [IntPoint<I>; 4] {
     [d, c, b, a]
 }
 
-// Refuses the growths of a call that simplifies. It mends the builder when it is made again.
-fn refuses<
-    'm,
-    I: Width,
-    T: PartialEq + Drop,
-    Q: Fn(&mut Overlay<I, Memory<'m>>) -> Answer<T> + Drop,
->(trial: &Trial<'m, impl Abort>, name: &str, query: Q) -> Result<(), Fail> {
-    refuses_query(trial, name, query, |_| Ok(()))
-}
-
 fn check_simplify<I: Width>(trial: &Trial<'_, impl Abort>) -> Result<(), Fail> {
     let given = figures_of::<I>(trial.memory)?;
     let one = turned::<I>();
-    refuses::<I, _, _>(trial, "Overlay::simplify_contour", |it| {
+    refuses::<I, _, _>(trial, "Overlay::simplify_contour", Called, |it| {
         it.simplify_contour(&one, RULE)
     })?;
-    refuses::<I, _, _>(trial, "Overlay::simplify_source", |it| {
+    refuses::<I, _, _>(trial, "Overlay::simplify_source", Called, |it| {
         it.simplify_source(&PathRef::new(&one), RULE)
     })?;
-    refuses::<I, _, _>(trial, "Overlay::simplify_source", |it| {
+    refuses::<I, _, _>(trial, "Overlay::simplify_source", Called, |it| {
         it.simplify_source(&given.shape, RULE)
     })?;
-    refuses::<I, _, _>(trial, "Overlay::simplify_shape", |it| {
+    refuses::<I, _, _>(trial, "Overlay::simplify_shape", Called, |it| {
         it.simplify_shape(&given.shape, RULE)
     })?;
-    refuses::<I, _, _>(trial, "Overlay::simplify_shapes", |it| {
+    refuses::<I, _, _>(trial, "Overlay::simplify_shapes", Called, |it| {
         it.simplify_shapes(&given.shapes, RULE)
     })
 }
