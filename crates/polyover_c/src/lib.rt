@@ -9,8 +9,6 @@ pub mod clip_options;
 pub mod counts;
 mod edges;
 pub mod exports;
-pub mod exports_32;
-pub mod exports_64;
 mod fault;
 mod flatten;
 mod given;
