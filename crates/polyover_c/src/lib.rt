@@ -4,6 +4,7 @@
 mod answer;
 pub mod array_laws;
 pub mod arrays;
+mod asked;
 mod clip;
 pub mod clip_options;
 pub mod counts;
