@@ -1,8 +1,13 @@
 -- How an overlay of arrays ends.
-use Rattle.std.specs.Prelude.{ℕ, ℤ, List}
+use Rattle.std.specs.Prelude.{◌≡◌, false, ℕ, ℤ, List}
 use Rattle.std.specs.Int.{Width}
+use Rattle.overlay_arrange.specs.declared.fill_rule.FillRule.{FillRule}
+use Rattle.overlay_arrange.specs.declared.overlay_rule.OverlayRule.{OverlayRule}
+use Rattle.overlay_builder.specs.GivenPaths.{added_paths}
+use Rattle.overlay_builder.specs.PathLists.{HoldsPaths}
 use Rattle.overlay_extract.specs.Results.{asked}
 use Rattle.overlay_geom.specs.Plane.{Point}
+use Rattle.i_overlay.specs.Builder.{Builder}
 use Rattle.i_overlay.specs.OneShot.{IsResultOfPaths, MayRefusePaths}
 use Rattle.polyover_c.specs.Asked.{rule_of, fill_of, solver_of, options_of, AreKnown, IsUnknown}
 use Rattle.polyover_c.specs.Given.{Contours, paths_given, AreGiven}
@@ -10,6 +15,20 @@ use Rattle.polyover_c.specs.Refusals.{AreBothRefused}
 use Rattle.polyover_c.specs.Written.{Room, EndsWithShapes}
 use Rattle.polyover_c.specs.declared.numbers.OptionNumbers.{OptionNumbers}
 use Rattle.polyover_c.specs.declared.status.Status.{Status}
+
+-- all that is given stands for something; the rules and the settings of the builder, which has not failed, are those
+-- that the numbers ask for; and it holds the contours of both
+pub record IsAskedOverlay {I U : Type 0} (whole : I → ℤ) (limit rule fill : ℕ) (options : OptionNumbers U)
+    (subject clip : Contours I) (overlay_rule : OverlayRule) (fill_rule : FillRule) (b : Builder U) : Type 0 where
+  pub known : AreKnown rule fill options
+  pub subject_given : AreGiven whole limit subject
+  pub clip_given : AreGiven whole limit clip
+  pub rule_asked : overlay_rule ≡ rule_of rule
+  pub fill_asked : fill_rule ≡ fill_of fill
+  pub options_asked : b.options ≡ options_of options
+  pub solver_asked : b.solver ≡ solver_of options.solver
+  pub ready : b.failed ≡ false
+  pub holds : HoldsPaths (added_paths false (paths_given whole subject clip)) b.edges
 
 -- all that is given stands for something, and the shapes are the result that the numbers ask for, of the contours of
 -- both, split by the solver that they ask for

@@ -1,5 +1,9 @@
 //! What C passes: arrays of contours.
 
+ghost use Rattle.std.specs.Prelude.{◌≡◌};
+
+use crate::given::Contours;
+
 /// Contours of 64-bit coordinates: the points x y x y .., and the count of points up to the end of each contour.
 #[repr(C)]
 #[derive(Clone, Copy)]
@@ -18,4 +22,30 @@ pub struct Contours32<'a> {
     pub coordinates: &'a [i32],
     /// How many points there are up to the end of each contour.
     pub ends: &'a [usize],
+}
+
+impl<'a> Contours64<'a> {
+    /// Returns the contours.
+    pub(crate) fn given(&self) -> Contours<'a, i64>
+        ensures coordinates { result.coordinates.now ≡ self.now.coordinates.now }
+        ensures ends { result.ends.now ≡ self.now.ends.now }
+    {
+        Contours {
+            coordinates: self.coordinates,
+            ends: self.ends,
+        }
+    }
+}
+
+impl<'a> Contours32<'a> {
+    /// Returns the contours.
+    pub(crate) fn given(&self) -> Contours<'a, i32>
+        ensures coordinates { result.coordinates.now ≡ self.now.coordinates.now }
+        ensures ends { result.ends.now ≡ self.now.ends.now }
+    {
+        Contours {
+            coordinates: self.coordinates,
+            ends: self.ends,
+        }
+    }
 }

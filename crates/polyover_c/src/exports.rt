@@ -1,11 +1,13 @@
-//! Calls of C, each with both widths in a module of its own.
+//! The calls of C, by topics. Each stands at 64 and then at 32 bits.
 
 pub mod clip;
 pub mod edges;
-pub mod held_32;
-pub mod held_64;
+pub mod held;
 pub mod hierarchy;
 pub mod locate;
+pub mod overlay;
 pub mod prepared;
 pub mod relate;
+pub mod simplify;
 pub mod slice;
+pub mod test;

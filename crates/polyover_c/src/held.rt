@@ -167,34 +167,38 @@ pub(crate) fn lasting<'a, T: Drop + 'a>(items: Vec<T, Global>) -> &'a [T]
     &*items.leak()
 }
 
-/// Gives C the arrays, and returns the code of the status.
-pub(crate) fn give_64<'a>(outcome: &Outcome<'a, i64>, to: &mut Held64<'a>) -> u32
-    ensures held { arrays_at_64 to.new ≡ arrays_of outcome.now.held }
-    ensures code { result ≡ code_of outcome.now.status }
-{
-    let held = outcome.held;
-    *to = Held64 {
-        coordinates: held.coordinates,
-        contour_ends: held.contour_ends,
-        shape_ends: held.shape_ends,
-        links: held.links,
-        fills: held.fills,
-    };
-    outcome.status.code()
+impl<'a> Held64<'a> {
+    /// Gives C the arrays, and returns the code of the status.
+    pub(crate) fn give(&mut self, outcome: &Outcome<'a, i64>) -> u32
+        ensures held { arrays_at_64 self.new ≡ arrays_of outcome.now.held }
+        ensures code { result ≡ code_of outcome.now.status }
+    {
+        let held = outcome.held;
+        *self = Held64 {
+            coordinates: held.coordinates,
+            contour_ends: held.contour_ends,
+            shape_ends: held.shape_ends,
+            links: held.links,
+            fills: held.fills,
+        };
+        outcome.status.code()
+    }
 }
 
-/// Gives C the arrays, and returns the code of the status.
-pub(crate) fn give_32<'a>(outcome: &Outcome<'a, i32>, to: &mut Held32<'a>) -> u32
-    ensures held { arrays_at_32 to.new ≡ arrays_of outcome.now.held }
-    ensures code { result ≡ code_of outcome.now.status }
-{
-    let held = outcome.held;
-    *to = Held32 {
-        coordinates: held.coordinates,
-        contour_ends: held.contour_ends,
-        shape_ends: held.shape_ends,
-        links: held.links,
-        fills: held.fills,
-    };
-    outcome.status.code()
+impl<'a> Held32<'a> {
+    /// Gives C the arrays, and returns the code of the status.
+    pub(crate) fn give(&mut self, outcome: &Outcome<'a, i32>) -> u32
+        ensures held { arrays_at_32 self.new ≡ arrays_of outcome.now.held }
+        ensures code { result ≡ code_of outcome.now.status }
+    {
+        let held = outcome.held;
+        *self = Held32 {
+            coordinates: held.coordinates,
+            contour_ends: held.contour_ends,
+            shape_ends: held.shape_ends,
+            links: held.links,
+            fills: held.fills,
+        };
+        outcome.status.code()
+    }
 }

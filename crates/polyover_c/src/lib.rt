@@ -4,13 +4,12 @@
 mod answer;
 pub mod array_laws;
 pub mod arrays;
+mod asked;
 mod clip;
 pub mod clip_options;
 pub mod counts;
 mod edges;
 pub mod exports;
-pub mod exports_32;
-pub mod exports_64;
 mod fault;
 mod flatten;
 mod given;

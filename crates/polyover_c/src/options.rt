@@ -1,6 +1,9 @@
 //! What C passes: options.
 
-ghost use Rattle.std.specs.Prelude.{◌≡◌, ◌+◌, ◌*◌, ◌^◌};
+ghost use Rattle.std.specs.Prelude.{◌≡◌};
+ghost use Rattle.polyover_c.specs.Options.{options_32, options_64};
+
+use crate::numbers::OptionNumbers;
 
 /// Options at 64 bits, by their numbers.
 #[repr(C)]
@@ -36,9 +39,32 @@ pub struct Options32 {
     pub min_area: u64,
 }
 
-/// The area of these two parts.
-pub(crate) fn area_of(high: u64, low: u64) -> u128
-    ensures { result ≡ high * 2 ^ 64 + low }
-{
-    (high as u128) * (1 << 64) + (low as u128)
+impl Options64 {
+    /// Returns the numbers of the options. The smallest area has two parts.
+    pub(crate) fn numbers(&self) -> OptionNumbers<u128>
+        ensures { result ≡ options_64 self.now }
+    {
+        OptionNumbers {
+            direction: self.direction,
+            keep: self.keep,
+            touching: self.touching,
+            solver: self.solver,
+            min_area: (self.min_area_high as u128) * (1 << 64) + (self.min_area_low as u128),
+        }
+    }
+}
+
+impl Options32 {
+    /// Returns the numbers of the options.
+    pub(crate) fn numbers(&self) -> OptionNumbers<u64>
+        ensures { result ≡ options_32 self.now }
+    {
+        OptionNumbers {
+            direction: self.direction,
+            keep: self.keep,
+            touching: self.touching,
+            solver: self.solver,
+            min_area: self.min_area,
+        }
+    }
 }

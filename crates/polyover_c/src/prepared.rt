@@ -1,7 +1,11 @@
 //! Prepared shapes as C has them. It hands them back as they are, and looks at none of their numbers.
 
+ghost use Rattle.std.specs.Prelude.{◌≡◌};
 ghost use Rattle.polyover_c.specs.Prepared.{block_of_32, block_of_64, edge_of_32, edge_of_64};
+ghost use Rattle.polyover_c.specs.Prepared.{parts_at_32, parts_at_64, parts_of};
+ghost use Rattle.polyover_c.specs.Statuses.{code_of};
 
+use crate::prepare::{HeldParts, Preparation};
 use overlay_geom::edge::IntEdge;
 use overlay_geom::point::IntPoint;
 use overlay_relate::blocks::Block;
@@ -89,6 +93,64 @@ pub struct Prepared32<'a> {
     pub blocks: &'a [Block32],
     /// Blocks of 4096 of them.
     pub groups: &'a [Block32],
+}
+
+impl<'a> Prepared64<'a> {
+    /// Gives C the parts, and returns the code of the status.
+    pub(crate) fn give(&mut self, made: &Preparation<'a, Edge64, Block64>) -> u32
+        ensures parts { parts_at_64 self.new ≡ parts_of (λ z. z) edge_of_64 block_of_64 made.now.parts }
+        ensures code { result ≡ code_of made.now.status }
+    {
+        let parts = made.parts;
+        *self = Prepared64 {
+            edges: parts.edges,
+            blocks: parts.blocks,
+            groups: parts.groups,
+        };
+        made.status.code()
+    }
+
+    /// Returns the parts.
+    pub(crate) fn parts(&self) -> HeldParts<'a, Edge64, Block64>
+        ensures edges { result.edges.now ≡ self.now.edges.now }
+        ensures blocks { result.blocks.now ≡ self.now.blocks.now }
+        ensures groups { result.groups.now ≡ self.now.groups.now }
+    {
+        HeldParts {
+            edges: self.edges,
+            blocks: self.blocks,
+            groups: self.groups,
+        }
+    }
+}
+
+impl<'a> Prepared32<'a> {
+    /// Gives C the parts, and returns the code of the status.
+    pub(crate) fn give(&mut self, made: &Preparation<'a, Edge32, Block32>) -> u32
+        ensures parts { parts_at_32 self.new ≡ parts_of (λ z. z) edge_of_32 block_of_32 made.now.parts }
+        ensures code { result ≡ code_of made.now.status }
+    {
+        let parts = made.parts;
+        *self = Prepared32 {
+            edges: parts.edges,
+            blocks: parts.blocks,
+            groups: parts.groups,
+        };
+        made.status.code()
+    }
+
+    /// Returns the parts.
+    pub(crate) fn parts(&self) -> HeldParts<'a, Edge32, Block32>
+        ensures edges { result.edges.now ≡ self.now.edges.now }
+        ensures blocks { result.blocks.now ≡ self.now.blocks.now }
+        ensures groups { result.groups.now ≡ self.now.groups.now }
+    {
+        HeldParts {
+            edges: self.edges,
+            blocks: self.blocks,
+            groups: self.groups,
+        }
+    }
 }
 
 impl FormOf<IntEdge<i64>> for Edge64 {

@@ -1,4 +1,4 @@
-//! Clips from C, at 64 and at 32 bits.
+//! Clips of open paths.
 
 ghost use Rattle.std.specs.Prelude.{◌≡◌};
 ghost use Rattle.polyover_c.specs.Clipped.{ClipEnds};
@@ -10,7 +10,6 @@ ghost use Rattle.polyover_c.specs.declared.status.Status.{Status};
 use crate::arrays::{Contours32, Contours64};
 use crate::clip::clip_arrays;
 use crate::clip_options::ClipOptions;
-use crate::given::Contours;
 use crate::path_counts::PathCounts;
 use std::alloc::Global;
 
@@ -34,20 +33,12 @@ pub extern "C" fn polyover_clip_with(
         (path_room coordinates.new ends.new counts.new)
         s × (result ≡ code_of s) }
 {
-    let shape = Contours {
-        coordinates: shape.coordinates,
-        ends: shape.ends,
-    };
-    let lines = Contours {
-        coordinates: lines.coordinates,
-        ends: lines.ends,
-    };
     clip_arrays(
         alloc,
         fill,
         *options,
-        &shape,
-        &lines,
+        &shape.given(),
+        &lines.given(),
         coordinates,
         ends,
         counts,
@@ -55,7 +46,7 @@ pub extern "C" fn polyover_clip_with(
     .code()
 }
 
-/// The same at 32 bits.
+/// `polyover_clip_with` at 32 bits.
 #[unsafe(no_mangle)]
 pub extern "C" fn polyover_clip_with_32(
     alloc: Global,
@@ -74,20 +65,12 @@ pub extern "C" fn polyover_clip_with_32(
         (path_room coordinates.new ends.new counts.new)
         s × (result ≡ code_of s) }
 {
-    let shape = Contours {
-        coordinates: shape.coordinates,
-        ends: shape.ends,
-    };
-    let lines = Contours {
-        coordinates: lines.coordinates,
-        ends: lines.ends,
-    };
     clip_arrays(
         alloc,
         fill,
         *options,
-        &shape,
-        &lines,
+        &shape.given(),
+        &lines.given(),
         coordinates,
         ends,
         counts,

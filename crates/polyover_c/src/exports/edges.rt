@@ -8,7 +8,6 @@ ghost use Rattle.polyover_c.specs.declared.status.Status.{Status};
 
 use crate::arrays::{Contours32, Contours64};
 use crate::edges::edges_arrays;
-use crate::given::Contours;
 use std::alloc::Global;
 
 /// The edges of the arrangement of the subject and the clip, with the sides that are filled under the fill rule, put
@@ -31,20 +30,12 @@ pub extern "C" fn polyover_edges(
         (edge_room coordinates.new fills.new count.new)
         s × (result ≡ code_of s) }
 {
-    let subject = Contours {
-        coordinates: subject.coordinates,
-        ends: subject.ends,
-    };
-    let clip = Contours {
-        coordinates: clip.coordinates,
-        ends: clip.ends,
-    };
     edges_arrays(
         alloc,
         fill,
         solver,
-        &subject,
-        &clip,
+        &subject.given(),
+        &clip.given(),
         coordinates,
         fills,
         count,
@@ -52,7 +43,7 @@ pub extern "C" fn polyover_edges(
     .code()
 }
 
-/// The same of 32-bit coordinates.
+/// `polyover_edges` at 32 bits.
 #[unsafe(no_mangle)]
 pub extern "C" fn polyover_edges_32(
     alloc: Global,
@@ -71,20 +62,12 @@ pub extern "C" fn polyover_edges_32(
         (edge_room coordinates.new fills.new count.new)
         s × (result ≡ code_of s) }
 {
-    let subject = Contours {
-        coordinates: subject.coordinates,
-        ends: subject.ends,
-    };
-    let clip = Contours {
-        coordinates: clip.coordinates,
-        ends: clip.ends,
-    };
     edges_arrays(
         alloc,
         fill,
         solver,
-        &subject,
-        &clip,
+        &subject.given(),
+        &clip.given(),
         coordinates,
         fills,
         count,

@@ -1,4 +1,4 @@
-//! Overlays with the links between their shapes from C, at 64 and at 32 bits.
+//! Overlays with the links between their shapes.
 
 ghost use Rattle.std.specs.Prelude.{◌≡◌};
 ghost use Rattle.std.specs.Int.{w64, w128};
@@ -11,11 +11,9 @@ ghost use Rattle.polyover_c.specs.declared.status.Status.{Status};
 
 use crate::arrays::{Contours32, Contours64};
 use crate::counts::Counts;
-use crate::given::Contours;
 use crate::hierarchy::hierarchy_arrays;
 use crate::links::Link;
-use crate::numbers::OptionNumbers;
-use crate::options::{Options32, Options64, area_of};
+use crate::options::{Options32, Options64};
 use std::alloc::Global;
 
 /// The shapes of the overlay that the rules and options ask for, and for each of them that lies in a hole of another
@@ -43,28 +41,13 @@ pub extern "C" fn polyover_hierarchy_with(
         (linked_room coordinates.new contour_ends.new shape_ends.new links.new counts.new link_count.new)
         s × (result ≡ code_of s) }
 {
-    let numbers = OptionNumbers {
-        direction: options.direction,
-        keep: options.keep,
-        touching: options.touching,
-        solver: options.solver,
-        min_area: area_of(options.min_area_high, options.min_area_low),
-    };
-    let subject = Contours {
-        coordinates: subject.coordinates,
-        ends: subject.ends,
-    };
-    let clip = Contours {
-        coordinates: clip.coordinates,
-        ends: clip.ends,
-    };
     hierarchy_arrays(
         alloc,
         rule,
         fill,
-        numbers,
-        &subject,
-        &clip,
+        options.numbers(),
+        &subject.given(),
+        &clip.given(),
         coordinates,
         contour_ends,
         shape_ends,
@@ -75,7 +58,7 @@ pub extern "C" fn polyover_hierarchy_with(
     .code()
 }
 
-/// The same at 32 bits.
+/// `polyover_hierarchy_with` at 32 bits.
 #[unsafe(no_mangle)]
 pub extern "C" fn polyover_hierarchy_with_32(
     alloc: Global,
@@ -99,28 +82,13 @@ pub extern "C" fn polyover_hierarchy_with_32(
         (linked_room coordinates.new contour_ends.new shape_ends.new links.new counts.new link_count.new)
         s × (result ≡ code_of s) }
 {
-    let numbers = OptionNumbers {
-        direction: options.direction,
-        keep: options.keep,
-        touching: options.touching,
-        solver: options.solver,
-        min_area: options.min_area,
-    };
-    let subject = Contours {
-        coordinates: subject.coordinates,
-        ends: subject.ends,
-    };
-    let clip = Contours {
-        coordinates: clip.coordinates,
-        ends: clip.ends,
-    };
     hierarchy_arrays(
         alloc,
         rule,
         fill,
-        numbers,
-        &subject,
-        &clip,
+        options.numbers(),
+        &subject.given(),
+        &clip.given(),
         coordinates,
         contour_ends,
         shape_ends,

@@ -7,7 +7,6 @@ ghost use Rattle.polyover_c.specs.Statuses.{code_of};
 ghost use Rattle.polyover_c.specs.declared.status.Status.{Status};
 
 use crate::arrays::{Contours32, Contours64};
-use crate::given::Contours;
 use crate::locate::locate_arrays;
 use std::alloc::Global;
 
@@ -28,14 +27,10 @@ pub extern "C" fn polyover_locate(
         (record { locations = locations.new; unresolved = unresolved.new })
         s × (result ≡ code_of s) }
 {
-    let shape = Contours {
-        coordinates: shape.coordinates,
-        ends: shape.ends,
-    };
-    locate_arrays(alloc, &shape, points, locations, unresolved).code()
+    locate_arrays(alloc, &shape.given(), points, locations, unresolved).code()
 }
 
-/// The same of 32-bit coordinates.
+/// `polyover_locate` at 32 bits.
 #[unsafe(no_mangle)]
 pub extern "C" fn polyover_locate_32(
     alloc: Global,
@@ -51,9 +46,5 @@ pub extern "C" fn polyover_locate_32(
         (record { locations = locations.new; unresolved = unresolved.new })
         s × (result ≡ code_of s) }
 {
-    let shape = Contours {
-        coordinates: shape.coordinates,
-        ends: shape.ends,
-    };
-    locate_arrays(alloc, &shape, points, locations, unresolved).code()
+    locate_arrays(alloc, &shape.given(), points, locations, unresolved).code()
 }

@@ -7,8 +7,7 @@ ghost use Rattle.polyover_c.specs.Statuses.{code_of};
 ghost use Rattle.polyover_c.specs.declared.status.Status.{Status};
 
 use crate::arrays::{Contours32, Contours64};
-use crate::given::Contours;
-use crate::prepare::{HeldParts, prepared_held};
+use crate::prepare::prepared_held;
 use crate::prepared::{Prepared32, Prepared64};
 use crate::prepared_points::locate_prepared;
 use std::alloc::Global;
@@ -27,17 +26,23 @@ pub extern "C" fn polyover_prepare<'a>(
         (contours_of contours.now.coordinates.now contours.now.ends.now)
         (parts_at_64 prepared.new) result }
 {
-    let contours = Contours {
-        coordinates: contours.coordinates,
-        ends: contours.ends,
-    };
-    let made = prepared_held(alloc, fill, solver, &contours);
-    *prepared = Prepared64 {
-        edges: made.parts.edges,
-        blocks: made.parts.blocks,
-        groups: made.parts.groups,
-    };
-    made.status.code()
+    prepared.give(&prepared_held(alloc, fill, solver, &contours.given()))
+}
+
+/// `polyover_prepare` at 32 bits.
+#[unsafe(no_mangle)]
+pub extern "C" fn polyover_prepare_32<'a>(
+    alloc: Global,
+    fill: u32,
+    solver: u32,
+    contours: &Contours32,
+    prepared: &mut Prepared32<'a>,
+) -> u32
+    ensures { IsPreparedSo (λ z. z) 1073741823 fill solver
+        (contours_of contours.now.coordinates.now contours.now.ends.now)
+        (parts_at_32 prepared.new) result }
+{
+    prepared.give(&prepared_held(alloc, fill, solver, &contours.given()))
 }
 
 /// Where each point lies in a shape that `polyover_prepare` handed out, or in one without a boundary, written as a
@@ -52,41 +57,10 @@ pub extern "C" fn polyover_prepared_locate(
     ensures { (s : Status) × AskingEnds (λ z. z) 4611686018427387903 (parts_at_64 prepared.now) points.now
         locations.old locations.new s × (result ≡ code_of s) }
 {
-    let parts = HeldParts {
-        edges: prepared.edges,
-        blocks: prepared.blocks,
-        groups: prepared.groups,
-    };
-    locate_prepared(&parts, points, locations).code()
+    locate_prepared(&prepared.parts(), points, locations).code()
 }
 
-/// The same of 32-bit coordinates.
-#[unsafe(no_mangle)]
-pub extern "C" fn polyover_prepare_32<'a>(
-    alloc: Global,
-    fill: u32,
-    solver: u32,
-    contours: &Contours32,
-    prepared: &mut Prepared32<'a>,
-) -> u32
-    ensures { IsPreparedSo (λ z. z) 1073741823 fill solver
-        (contours_of contours.now.coordinates.now contours.now.ends.now)
-        (parts_at_32 prepared.new) result }
-{
-    let contours = Contours {
-        coordinates: contours.coordinates,
-        ends: contours.ends,
-    };
-    let made = prepared_held(alloc, fill, solver, &contours);
-    *prepared = Prepared32 {
-        edges: made.parts.edges,
-        blocks: made.parts.blocks,
-        groups: made.parts.groups,
-    };
-    made.status.code()
-}
-
-/// The same of 32-bit coordinates.
+/// `polyover_prepared_locate` at 32 bits.
 #[unsafe(no_mangle)]
 pub extern "C" fn polyover_prepared_locate_32(
     prepared: &Prepared32,
@@ -97,10 +71,5 @@ pub extern "C" fn polyover_prepared_locate_32(
     ensures { (s : Status) × AskingEnds (λ z. z) 1073741823 (parts_at_32 prepared.now) points.now
         locations.old locations.new s × (result ≡ code_of s) }
 {
-    let parts = HeldParts {
-        edges: prepared.edges,
-        blocks: prepared.blocks,
-        groups: prepared.groups,
-    };
-    locate_prepared(&parts, points, locations).code()
+    locate_prepared(&prepared.parts(), points, locations).code()
 }

@@ -7,7 +7,6 @@ ghost use Rattle.polyover_c.specs.Statuses.{code_of};
 ghost use Rattle.polyover_c.specs.declared.status.Status.{Status};
 
 use crate::arrays::{Contours32, Contours64};
-use crate::given::Contours;
 use crate::relate::relate_arrays;
 use std::alloc::Global;
 
@@ -27,18 +26,18 @@ pub extern "C" fn polyover_relate(
         (contours_of clip.now.coordinates.now clip.now.ends.now)
         relations.old relations.new s × (result ≡ code_of s) }
 {
-    let subject = Contours {
-        coordinates: subject.coordinates,
-        ends: subject.ends,
-    };
-    let clip = Contours {
-        coordinates: clip.coordinates,
-        ends: clip.ends,
-    };
-    relate_arrays(alloc, fill, solver, &subject, &clip, relations).code()
+    relate_arrays(
+        alloc,
+        fill,
+        solver,
+        &subject.given(),
+        &clip.given(),
+        relations,
+    )
+    .code()
 }
 
-/// The same of 32-bit coordinates.
+/// `polyover_relate` at 32 bits.
 #[unsafe(no_mangle)]
 pub extern "C" fn polyover_relate_32(
     alloc: Global,
@@ -53,13 +52,13 @@ pub extern "C" fn polyover_relate_32(
         (contours_of clip.now.coordinates.now clip.now.ends.now)
         relations.old relations.new s × (result ≡ code_of s) }
 {
-    let subject = Contours {
-        coordinates: subject.coordinates,
-        ends: subject.ends,
-    };
-    let clip = Contours {
-        coordinates: clip.coordinates,
-        ends: clip.ends,
-    };
-    relate_arrays(alloc, fill, solver, &subject, &clip, relations).code()
+    relate_arrays(
+        alloc,
+        fill,
+        solver,
+        &subject.given(),
+        &clip.given(),
+        relations,
+    )
+    .code()
 }

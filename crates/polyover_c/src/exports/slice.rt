@@ -1,4 +1,4 @@
-//! Slicing from C, at 64 and at 32 bits.
+//! Contours sliced by open paths.
 
 ghost use Rattle.std.specs.Prelude.{◌≡◌};
 ghost use Rattle.std.specs.Int.{w64, w128};
@@ -10,7 +10,6 @@ ghost use Rattle.polyover_c.specs.declared.status.Status.{Status};
 
 use crate::arrays::{Contours32, Contours64};
 use crate::counts::Counts;
-use crate::given::Contours;
 use crate::slice::slice_arrays;
 use std::alloc::Global;
 
@@ -35,20 +34,12 @@ pub extern "C" fn polyover_slice(
         (shape_room coordinates.new contour_ends.new shape_ends.new counts.new)
         s × (result ≡ code_of s) }
 {
-    let subject = Contours {
-        coordinates: subject.coordinates,
-        ends: subject.ends,
-    };
-    let lines = Contours {
-        coordinates: lines.coordinates,
-        ends: lines.ends,
-    };
     slice_arrays(
         alloc,
         fill,
         solver,
-        &subject,
-        &lines,
+        &subject.given(),
+        &lines.given(),
         coordinates,
         contour_ends,
         shape_ends,
@@ -57,7 +48,7 @@ pub extern "C" fn polyover_slice(
     .code()
 }
 
-/// The same at 32 bits.
+/// `polyover_slice` at 32 bits.
 #[unsafe(no_mangle)]
 pub extern "C" fn polyover_slice_32(
     alloc: Global,
@@ -77,20 +68,12 @@ pub extern "C" fn polyover_slice_32(
         (shape_room coordinates.new contour_ends.new shape_ends.new counts.new)
         s × (result ≡ code_of s) }
 {
-    let subject = Contours {
-        coordinates: subject.coordinates,
-        ends: subject.ends,
-    };
-    let lines = Contours {
-        coordinates: lines.coordinates,
-        ends: lines.ends,
-    };
     slice_arrays(
         alloc,
         fill,
         solver,
-        &subject,
-        &lines,
+        &subject.given(),
+        &lines.given(),
         coordinates,
         contour_ends,
         shape_ends,

@@ -1,30 +1,15 @@
--- The smallest area is that of its two parts.
-use Rattle.std.proofs.Common.{ℕ, ℤ, subst}
-use Rattle.std.specs.Int.{w128}
-use Rattle.polyover_c.specs.Given.{contours_of}
-use Rattle.polyover_c.specs.Hierarchies.{HierarchyEnds}
-use Rattle.polyover_c.specs.Linked.{linked_room}
+-- The options and contours that are handed on are those of C.
 use Rattle.polyover_c.proofs.exports.hierarchy.polyover_hierarchy_with.Goals as goal
 
 pub returns : goal.returns
 returns c = (
   c.hierarchy_arrays.result,
-  subst (λ area. HierarchyEnds {I = ℤ} {U = ℕ} (λ z. z) 4611686018427387903 w128 (λ n. n) c.args.rule c.args.fill
-      (record {
-        direction = c.args.options.now.direction;
-        keep = c.args.options.now.keep;
-        touching = c.args.options.now.touching;
-        solver = c.args.options.now.solver;
-        min_area = area;
-      })
-      (contours_of c.args.subject.now.coordinates.now c.args.subject.now.ends.now)
-      (contours_of c.args.clip.now.coordinates.now c.args.clip.now.ends.now)
-      (linked_room c.args.coordinates.now c.args.contour_ends.now c.args.shape_ends.now c.args.links.now
-      c.args.counts.now c.args.link_count.now)
-      (linked_room c.hierarchy_arrays.new.coordinates c.hierarchy_arrays.new.contour_ends
-      c.hierarchy_arrays.new.shape_ends
-      c.hierarchy_arrays.new.links c.hierarchy_arrays.new.counts c.hierarchy_arrays.new.link_count)
-      c.hierarchy_arrays.result)
-      c.area_of.ensures c.hierarchy_arrays.ensures,
+  rw (
+    c.numbers.ensures,
+    c.given.ensures.coordinates,
+    c.given.ensures.ends,
+    c.given-2.ensures.coordinates,
+    c.given-2.ensures.ends,
+  ) at c.hierarchy_arrays.ensures,
   c.code.ensures,
 )

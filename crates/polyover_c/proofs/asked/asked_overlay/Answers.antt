@@ -2,7 +2,7 @@
 use Rattle.std.proofs.lemmas.Result.{err_from_is_err_and}
 use Rattle.polyover_c.proofs.Overlays.{contours_refused}
 use Rattle.polyover_c.specs.Given.{contours_of}
-use Rattle.polyover_c.proofs.overlay.overlay_answer.Goals as goal
+use Rattle.polyover_c.proofs.asked.asked_overlay.Goals as goal
 
 pub returns-in_err-read : goal.returns-in_err-read
 returns-in_err-read g c =

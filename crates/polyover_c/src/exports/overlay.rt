@@ -1,0 +1,91 @@
+//! Overlays.
+
+ghost use Rattle.std.specs.Prelude.{◌≡◌};
+ghost use Rattle.std.specs.Int.{w64, w128};
+ghost use Rattle.polyover_c.specs.Given.{contours_of};
+ghost use Rattle.polyover_c.specs.Options.{options_32, options_64};
+ghost use Rattle.polyover_c.specs.Overlays.{OverlayEnds};
+ghost use Rattle.polyover_c.specs.Statuses.{code_of};
+ghost use Rattle.polyover_c.specs.Written.{shape_room};
+ghost use Rattle.polyover_c.specs.declared.status.Status.{Status};
+
+use crate::arrays::{Contours32, Contours64};
+use crate::counts::Counts;
+use crate::options::{Options32, Options64};
+use crate::overlay::overlay_arrays;
+use std::alloc::Global;
+
+/// The shapes of the overlay that the rules and options ask for, put into the arrays, and their counts: the code of a
+/// status.
+#[unsafe(no_mangle)]
+pub extern "C" fn polyover_overlay_with(
+    alloc: Global,
+    rule: u32,
+    fill: u32,
+    options: &Options64,
+    subject: &Contours64,
+    clip: &Contours64,
+    coordinates: &mut [i64],
+    contour_ends: &mut [usize],
+    shape_ends: &mut [usize],
+    counts: &mut Counts,
+) -> u32
+    ensures { (s : Status) × OverlayEnds (λ z. z) 4611686018427387903 w128 (λ n. n) rule fill
+        (options_64 options.now)
+        (contours_of subject.now.coordinates.now subject.now.ends.now)
+        (contours_of clip.now.coordinates.now clip.now.ends.now)
+        (shape_room coordinates.old contour_ends.old shape_ends.old counts.old)
+        (shape_room coordinates.new contour_ends.new shape_ends.new counts.new)
+        s × (result ≡ code_of s) }
+{
+    overlay_arrays(
+        alloc,
+        rule,
+        fill,
+        options.numbers(),
+        &subject.given(),
+        &clip.given(),
+        coordinates,
+        contour_ends,
+        shape_ends,
+        counts,
+    )
+    .code()
+}
+
+/// `polyover_overlay_with` at 32 bits.
+#[unsafe(no_mangle)]
+pub extern "C" fn polyover_overlay_with_32(
+    alloc: Global,
+    rule: u32,
+    fill: u32,
+    options: &Options32,
+    subject: &Contours32,
+    clip: &Contours32,
+    coordinates: &mut [i32],
+    contour_ends: &mut [usize],
+    shape_ends: &mut [usize],
+    counts: &mut Counts,
+) -> u32
+    ensures { (s : Status) × OverlayEnds (λ z. z) 1073741823 w64 (λ n. n) rule fill
+        (options_32 options.now)
+        (contours_of subject.now.coordinates.now subject.now.ends.now)
+        (contours_of clip.now.coordinates.now clip.now.ends.now)
+        (shape_room coordinates.old contour_ends.old shape_ends.old counts.old)
+        (shape_room coordinates.new contour_ends.new shape_ends.new counts.new)
+        s × (result ≡ code_of s) }
+{
+    overlay_arrays(
+        alloc,
+        rule,
+        fill,
+        options.numbers(),
+        &subject.given(),
+        &clip.given(),
+        coordinates,
+        contour_ends,
+        shape_ends,
+        counts,
+    )
+    .code()
+}
