@@ -19,7 +19,8 @@ returns-then-sort_neighbours-clause-order g c =
     (c.sort_neighbours.ensures.sorted c.if-sort_neighbours.true (starts_before (starting_ends whole) (λ s. s.forward))
     (starts_before-order (starting_ends whole) (λ s. s.forward))
     (λ e f o h.
-    let answer : is_lt o ≡ is_anchored_before (starting_ends whole e) (starting_ends whole f) = search rules in answer)))
+    let answer : is_lt o ≡ is_anchored_before (starting_ends whole e) (starting_ends whole f) =
+    search rules in answer)))
 
 pub returns-clause-order : goal.returns-clause-order
 returns-clause-order g c =

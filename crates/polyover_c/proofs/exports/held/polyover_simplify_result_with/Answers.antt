@@ -4,6 +4,7 @@ use Rattle.polyover_c.proofs.exports.held.polyover_simplify_result_with.Goals as
 pub returns : goal.returns
 returns c = record {
   status = c.simplification_held.result.status;
-  so = rw c.give.ensures.held (rw (c.numbers.ensures, c.given.ensures.coordinates, c.given.ensures.ends) at c.simplification_held.ensures);
+  so = rw c.give.ensures.held
+      (rw (c.numbers.ensures, c.given.ensures.coordinates, c.given.ensures.ends) at c.simplification_held.ensures);
   told = c.give.ensures.code;
 }
