@@ -20,3 +20,4 @@ pub mod split_edges;
 pub mod split_held;
 pub mod touching_holes;
 pub mod triangle_area;
+pub mod union_of;
