@@ -26,6 +26,7 @@ macro_rules! at_each_width {
     }};
 }
 
+mod asked_first;
 mod by_solver;
 mod edges;
 mod figures;

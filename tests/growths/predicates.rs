@@ -263,11 +263,12 @@ fn predicates_of_predicate_overlay(rt: HostRuntime) -> Result<(), Fail> {
     at_a_width!(rt, check_predicates)
 }
 
-// Answers found once serve each predicate without memory; under another rule they do not.
+// Answers of all predicates, found once, serve each without memory; under another rule they do not.
 fn check_asked_again<'m, I: Width>(trial: &Trial<'m, impl Abort>) -> Result<(), Fail> {
     let memory = trial.memory;
     let mut overlay = builder::<I>(memory, PATHS)?;
     overlay.within()?;
+    overlay.covers()?;
     let again = trial.needs_none("PredicateOverlay, asked again", || overlay.content())?;
     let mut wanted = builder::<I>(memory, PATHS)?;
     assert!(trial.rt; again == wanted.content()?);

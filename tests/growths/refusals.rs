@@ -69,8 +69,8 @@ impl<'a, R: Abort> Trial<'a, R> {
         Err(OverlayError::Memory.into())
     }
 
-    // Number of requests of a call where each is granted.
-    fn requests_of<
+    /// Number of requests of a call where each is granted.
+    pub(crate) fn requests_of<
         S: Drop,
         T: Drop,
         E: Into<OverlayError> + Drop,

@@ -10,33 +10,33 @@ use std::alloc::Global;
 use std::process::Abort;
 use std::test::Fail;
 
-const SQUARE: [[i16; 2]; 4] = [[0, 0], [4, 0], [4, 4], [0, 4]];
+pub(crate) const SQUARE: [[i16; 2]; 4] = [[0, 0], [4, 0], [4, 4], [0, 4]];
 
 const CLOCKWISE: [[i16; 2]; 4] = [[0, 0], [0, 4], [4, 4], [4, 0]];
 
-const AT_A_CORNER: [[i16; 2]; 4] = [[4, 4], [6, 4], [6, 6], [4, 6]];
+pub(crate) const AT_A_CORNER: [[i16; 2]; 4] = [[4, 4], [6, 4], [6, 6], [4, 6]];
 
-const ALONG: [[i16; 2]; 4] = [[4, 0], [6, 0], [6, 4], [4, 4]];
+pub(crate) const ALONG: [[i16; 2]; 4] = [[4, 0], [6, 0], [6, 4], [4, 4]];
 
-const INSIDE: [[i16; 2]; 4] = [[1, 1], [3, 1], [3, 3], [1, 3]];
+pub(crate) const INSIDE: [[i16; 2]; 4] = [[1, 1], [3, 1], [3, 3], [1, 3]];
 
 // Answers for shapes that are apart, that meet in a corner or along an edge, for a subject in the clip or round it, and
 // for equal shapes.
-const APART: [bool; 6] = [false, false, false, false, false, false];
+pub(crate) const APART: [bool; 6] = [false, false, false, false, false, false];
 
-const CORNERED: [bool; 6] = [true, false, true, true, false, false];
+pub(crate) const CORNERED: [bool; 6] = [true, false, true, true, false, false];
 
-const BORDERING: [bool; 6] = [true, false, true, false, false, false];
+pub(crate) const BORDERING: [bool; 6] = [true, false, true, false, false, false];
 
-const OVER: [bool; 6] = [true, true, false, false, false, false];
+pub(crate) const OVER: [bool; 6] = [true, true, false, false, false, false];
 
-const WITHIN: [bool; 6] = [true, true, false, false, true, false];
+pub(crate) const WITHIN: [bool; 6] = [true, true, false, false, true, false];
 
-const COVERING: [bool; 6] = [true, true, false, false, false, true];
+pub(crate) const COVERING: [bool; 6] = [true, true, false, false, false, true];
 
-const EQUAL: [bool; 6] = [true, true, false, false, true, true];
+pub(crate) const EQUAL: [bool; 6] = [true, true, false, false, true, true];
 
-type Built<I> = PredicateOverlay<I, Global>;
+pub(crate) type Built<I> = PredicateOverlay<I, Global>;
 
 /// Answers of the six predicates, in the order intersects, interiors_intersect, touches, point_intersects, within,
 /// covers.
@@ -59,7 +59,7 @@ fn is_answered<I: OverlayInt>(
     Ok(asked(overlay)? == wanted && asked(overlay)? == wanted)
 }
 
-fn add<I: OverlayInt + From<i16>>(
+pub(crate) fn add<I: OverlayInt + From<i16>>(
     rt: &impl Abort,
     overlay: &mut Built<I>,
     contour: &[[i16; 2]],

@@ -4,6 +4,7 @@ mod again;
 mod asked;
 mod borders;
 mod built;
+mod early;
 mod many;
 mod predicates;
 mod prepared;

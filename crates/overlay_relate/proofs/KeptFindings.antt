@@ -14,9 +14,11 @@ use Rattle.overlay_arrange.specs.Rules.{is_filled}
 use Rattle.overlay_arrange.proofs.ArrangedLists.{arranged_of_split}
 use Rattle.overlay_builder.specs.Held.{Held, AnswersQuery}
 use Rattle.overlay_builder.proofs.Queries.{answers_arranged, answers_after}
-use Rattle.overlay_relate.specs.Found.{IsFoundUnder, IsKept, answer_by, relations_by}
+use Rattle.overlay_relate.specs.Findings.{Tells, IsKept}
+use Rattle.overlay_relate.specs.Found.{IsFoundUnder, relations_by}
 use Rattle.overlay_relate.specs.PredicateBuilder.{PredicateBuilder, held_by}
 use Rattle.overlay_relate.specs.PredicateQueries.{Holds, AreRelations, TellsOfShapes, TellsRelation, TellsRelations}
+use Rattle.overlay_relate.specs.declared.finding.Finding.{Finding}
 use Rattle.overlay_relate.specs.declared.found.Found.{Found}
 use Rattle.overlay_relate.specs.declared.predicate.Predicate.{Predicate}
 use Rattle.overlay_relate.specs.declared.relations.Relations.{Relations}
@@ -36,7 +38,7 @@ arranged_of_itself limit solver es content was = arranged_of_split limit solver 
 })
 
 -- so a builder that keeps something answers a query as it is, whichever solver is set
-pub answers_as_it_is : (limit : ℕ) (solver : Solver) (b : Held CountedEdge) (kept : Option Found) →
+pub answers_as_it_is : (limit : ℕ) (solver : Solver) (b : Held CountedEdge) (kept : Option Finding) →
     is_some kept ≡ true → IfSome kept (IsKept b.failed b.edges) → IsContent limit b.edges →
     AnswersQuery {V = Unit {0}} limit solver b b (Ok tt)
 answers_as_it_is limit solver b None some right content = absurd (false≢true some)
@@ -64,28 +66,27 @@ module _ {U : Type 0} (limit : ℕ) (old mid new : PredicateBuilder) (u : U)
       ∙ ap {B = PredicateBuilder} (λ t. record old { edges = new.edges; failed = t }) (sym usable)
 
   -- what is right of the arranged edges answers a query
-  told_so : {V : Type 0} (IsRight : (ℤ → Bool) → List CountedEdge → V → Type 0) (f : Found) →
-      IsFoundUnder mid.fill_rule mid.edges f → (v : V) → IsRight (is_filled mid.fill_rule) mid.edges v →
+  told_so : {V : Type 0} (IsRight : (ℤ → Bool) → List CountedEdge → V → Type 0) →
+      IsFillable (is_filled mid.fill_rule) mid.edges → (v : V) → IsRight (is_filled mid.fill_rule) mid.edges v →
       TellsOfShapes limit IsRight old new (Ok v)
-  told_so IsRight f found v right = record {
+  told_so IsRight fillable v right = record {
     query = answers_after limit old.solver (held_by old) (held_by mid) (held_by new) u first (Ok v) edges usable tt;
     answer = subst (λ es. IsRight (is_filled old.fill_rule) es v) (sym edges)
         (subst (λ r. IsRight (is_filled r) mid.edges v) rule right);
     fillable = subst (IsFillable (is_filled old.fill_rule)) (sym edges)
-        (subst (λ r. IsFillable (is_filled r) mid.edges) rule found.fillable);
+        (subst (λ r. IsFillable (is_filled r) mid.edges) rule fillable);
     kept = all_else;
     untouched = λ same. absurd (false≢true (ap is_err same));
   }
 
-  -- what is found of them answers a query of a predicate
-  pub told_as_found : (p : Predicate) (f : Found) → IsFoundUnder mid.fill_rule mid.edges f → (b : Bool) →
-      b ≡ answer_by f p → TellsRelation limit (Holds p) old new (Ok b)
-  told_as_found p f found b is = told_so (λ filled es t. IsTrue t ↔ Holds p filled es) f found b
-      (subst (λ t. IsTrue t ↔ Holds p (is_filled mid.fill_rule) mid.edges) (sym is) (found.answers p))
+  -- an answer of them that is right is one of a query of a predicate
+  pub told_as_answered : (p : Predicate) (b : Bool) → Tells mid.fill_rule mid.edges p b →
+      TellsRelation limit (Holds p) old new (Ok b)
+  told_as_answered p b tells = told_so (λ filled es t. IsTrue t ↔ Holds p filled es) tells.fillable b tells.right
 
-  -- and one of all relations
+  -- what is found of them answers one of all relations
   pub relations_as_found : (f : Found) → IsFoundUnder mid.fill_rule mid.edges f → (r : Relations) →
       r ≡ relations_by f → TellsRelations limit old new (Ok r)
-  relations_as_found f found r is = told_so AreRelations f found r
+  relations_as_found f found r is = told_so AreRelations found.fillable r
       (subst (AreRelations (is_filled mid.fill_rule) mid.edges) (sym is)
       (relations_found mid.fill_rule mid.edges f found))

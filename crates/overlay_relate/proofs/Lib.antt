@@ -43,3 +43,4 @@ pub mod Swept
 pub mod SweptPoints
 pub mod Told
 pub mod ToldByEdges
+pub mod ToldEarly

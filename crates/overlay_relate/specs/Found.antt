@@ -1,11 +1,9 @@
--- What is found of the edges of an arrangement, from which each predicate is answered, and which a builder keeps.
-use Rattle.std.specs.Prelude.{◌≡◌, ◌↔◌, Bool, false, not, ◌&&◌, List, Option, IsTrue, IfSome}
+-- What is found of the edges of an arrangement, from which each predicate is answered.
+use Rattle.std.specs.Prelude.{◌↔◌, Bool, not, ◌&&◌, List, IsTrue}
 use Rattle.overlay_geom.specs.Edges.{CountedEdge}
 use Rattle.overlay_plane.specs.Predicates.{IsFillable}
-use Rattle.overlay_arrange.specs.Arranged.{WasArranged}
 use Rattle.overlay_arrange.specs.Rules.{is_filled}
 use Rattle.overlay_arrange.specs.declared.fill_rule.FillRule.{FillRule}
-use Rattle.overlay_builder.specs.GivenPaths.{IsBalancedUnlessFailed}
 use Rattle.overlay_relate.specs.PredicateQueries.{Holds}
 use Rattle.overlay_relate.specs.declared.found.Found.{Found}
 use Rattle.overlay_relate.specs.declared.predicate.Predicate.{Predicate}
@@ -38,16 +36,3 @@ relations_by f = record {
 pub record IsFoundUnder (rule : FillRule) (es : List CountedEdge) (f : Found) : Type 0 where
   pub fillable : IsFillable (is_filled rule) es
   pub answers : (p : Predicate) → IsTrue (answer_by f p) ↔ Holds p (is_filled rule) es
-
--- a builder that has not failed keeps what was found, under the rule of then, of the edges that it holds, which are an
--- arrangement
-pub record IsKept (failed : Bool) (es : List CountedEdge) (f : Found) : Type 0 where
-  pub usable : failed ≡ false
-  pub arranged : WasArranged es
-  pub found : IsFoundUnder f.fill_rule es f
-
--- what is always so of a builder for predicates: its counts are balanced, unless it has failed, and what it keeps, if
--- it does, is right of its edges
-pub record IsSound (failed : Bool) (es : List CountedEdge) (kept : Option Found) : Type 0 where
-  pub balanced : IsBalancedUnlessFailed failed es
-  pub right : IfSome kept (IsKept failed es)

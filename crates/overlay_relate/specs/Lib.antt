@@ -5,6 +5,7 @@ pub mod Bounded
 pub mod Determined
 pub mod EdgeTests
 pub mod Exchanged
+pub mod Findings
 pub mod Found
 pub mod Joined
 pub mod Laws

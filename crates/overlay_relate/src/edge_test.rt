@@ -4,6 +4,7 @@ ghost use Rattle.std.specs.Prelude.{◌≡◌, map};
 ghost use Rattle.std.specs.List.{list_any};
 ghost use Rattle.overlay_relate.specs.EdgeTests.{bits_pass, sides_pass};
 
+use overlay_arrange::fill_test::FillTest;
 use overlay_arrange::vector::{
     CLIP_LEFT, CLIP_RIGHT, DataVectorEdge, SUBJ_LEFT, SUBJ_RIGHT, SideFill,
 };
@@ -25,29 +26,32 @@ pub(crate) enum EdgeTest {
     ClipOutside,
 }
 
+impl FillTest for EdgeTest {
+    ghost use Rattle.overlay_relate.specs.EdgeTests.{bits_pass};
+
+    ghost passing = { bits_pass };
+
+    fn passes(self, fill: SideFill) -> bool {
+        sides_pass(
+            self,
+            fill & SUBJ_LEFT != 0,
+            fill & SUBJ_RIGHT != 0,
+            fill & CLIP_LEFT != 0,
+            fill & CLIP_RIGHT != 0,
+        )
+    }
+}
+
 /// Returns whether some edge passes the test. They are looked at in order, up to the first one that does.
 pub(crate) fn some_passes<I, D>(edges: &[DataVectorEdge<I, D>], test: EdgeTest) -> bool
     ensures { result ≡ list_any (bits_pass test) (map (λ v. v.fill) edges.now) }
 {
     for edge in edges {
-        if passes(edge.fill, test) {
+        if test.passes(edge.fill) {
             return true;
         }
     }
     false
-}
-
-// Whether these filled sides pass the test.
-fn passes(fill: SideFill, test: EdgeTest) -> bool
-    ensures { result ≡ bits_pass test fill }
-{
-    sides_pass(
-        test,
-        fill & SUBJ_LEFT != 0,
-        fill & SUBJ_RIGHT != 0,
-        fill & CLIP_LEFT != 0,
-        fill & CLIP_RIGHT != 0,
-    )
 }
 
 // Whether sides filled so pass it.

@@ -9,6 +9,7 @@ pub mod containment;
 mod contour_edges;
 mod edge_answers;
 mod edge_test;
+mod finding;
 pub mod form;
 mod found;
 pub mod in_contour;

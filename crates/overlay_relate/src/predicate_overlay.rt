@@ -1,6 +1,6 @@
 //! The builder for predicates: it holds the subject and the clip that predicates are asked of.
 
-use crate::found::Found;
+use crate::finding::Finding;
 use overlay_arrange::count::ShapeCountBoolean;
 use overlay_arrange::fill_rule::FillRule;
 use overlay_builder::builder_core::BuilderCore;
@@ -19,8 +19,9 @@ pub use overlay_arrange::options::ShapeType;
 /// A builder of counted edges of a subject and a clip that answers predicates: how the two shapes lie to each
 /// other. Points on one line with their two neighbours are always dropped from what is added.
 ///
-/// A query answers all predicates at once. The builder keeps the answers: until something is added, or `fill_rule`
-/// changes, further queries look at no edge, whatever `solver` is.
+/// The first query stops at the first edge that tells its answer. The second one, or `relations`, answers all
+/// predicates at once. The builder keeps these answers: until something is added, or `fill_rule` changes, further
+/// queries look at no edge, whatever `solver` is.
 ///
 /// A query that is refused leaves the builder failed: every call that returns a result then answers
 /// `Failed`, until `clear` or `reinit_with_subj_and_clip`.
@@ -32,13 +33,13 @@ pub struct PredicateOverlay<I: OverlayInt, A: Allocator> {
     pub fill_rule: FillRule,
     // the edges, and whether a query was refused since the builder was last cleared
     core: BuilderCore<I, ShapeCountBoolean, A>,
-    // what the last query found, under the rule of then, of the edges as they are since
-    found: Option<Found>,
+    // the finding of the last query, under the rule of then, about the edges as they are since
+    kept: Option<Finding>,
 }
 
 impl<I: OverlayInt, A: Allocator> Model for PredicateOverlay<I, A> {
     ghost use Rattle.overlay_plane.specs.Carried.{edges_in};
-    ghost use Rattle.overlay_relate.specs.Found.{IsSound};
+    ghost use Rattle.overlay_relate.specs.Findings.{IsSound};
     ghost use Rattle.overlay_relate.specs.PredicateBuilder.{PredicateBuilder};
 
     ghost Value = { PredicateBuilder };
@@ -50,5 +51,5 @@ impl<I: OverlayInt, A: Allocator> Model for PredicateOverlay<I, A> {
       failed = o.core.failed;
     } };
 
-    ghost invariant = { λ o. IsSound o.core.failed (edges_in o.core.edges) o.found };
+    ghost invariant = { λ o. IsSound o.core.failed (edges_in o.core.edges) o.kept };
 }

@@ -37,7 +37,7 @@ impl<I: OverlayInt, A: Allocator + Clone> PredicateOverlay<I, A> {
         ensures kept { self.new ≡ record self.old { edges = self.new.edges } }
     {
         let kind = PathKind::Thinned;
-        self.found = None;
+        self.kept = None;
         self.core.add_path(contour, kind, passing(shape_type))?;
         Ok(())
     }
@@ -80,7 +80,7 @@ impl<I: OverlayInt, A: Allocator + Clone> PredicateOverlay<I, A> {
         requires { All (AllInRange I.limit) (R0.paths resource.now) }
         ensures { PredicateBuilderAdds (paths_for shape_type (R0.paths resource.now)) self.old self.new result }
     {
-        self.found = None;
+        self.kept = None;
         self.core
             .add_paths(resource, PathKind::Thinned, passing(shape_type))
     }
@@ -89,7 +89,7 @@ impl<I: OverlayInt, A: Allocator + Clone> PredicateOverlay<I, A> {
     pub fn clear(&mut self)
         ensures { self.new ≡ cleared self.old }
     {
-        self.found = None;
+        self.kept = None;
         self.core.clear();
     }
 

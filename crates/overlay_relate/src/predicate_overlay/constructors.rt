@@ -84,7 +84,7 @@ impl<I: OverlayInt, A: Allocator + Clone> PredicateOverlay<I, A> {
             solver,
             fill_rule,
             core: BuilderCore::with_capacity(alloc, capacity)?,
-            found: None,
+            kept: None,
         })
     }
 }

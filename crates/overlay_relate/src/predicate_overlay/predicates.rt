@@ -1,17 +1,23 @@
 //! The predicates of a builder: how its subject and its clip lie to each other.
 
-ghost use Rattle.std.specs.Prelude.{◌≡◌, false, IfOk, IfSome, IsErrOf, is_err};
+ghost use Rattle.std.specs.Prelude.{◌≡◌, true, false, IfOk, IfSome, IsErrOf, is_err};
 ghost use Rattle.overlay_plane.specs.Predicates.{Intersects, InteriorsIntersect, Touches, PointIntersects};
 ghost use Rattle.overlay_plane.specs.Predicates.{IsWithin, Covers};
 ghost use Rattle.overlay_arrange.specs.Arranged.{WasArranged};
+ghost use Rattle.overlay_arrange.specs.Content.{IsContent};
+ghost use Rattle.overlay_arrange.specs.FillTests.{some_fill_passes, IsFoundUnless};
 ghost use Rattle.overlay_arrange.specs.Graphs.{graph_edges};
 ghost use Rattle.overlay_plane.specs.Balance.{HasBalancedCounts};
 ghost use Rattle.overlay_builder.specs.Held.{AnswersQuery};
+ghost use Rattle.overlay_relate.specs.EdgeTests.{bits_pass};
+ghost use Rattle.overlay_relate.specs.Findings.{IsAnswering, Tells};
 ghost use Rattle.overlay_relate.specs.Found.{IsFoundUnder};
 ghost use Rattle.overlay_relate.specs.PredicateBuilder.{held_by};
 ghost use Rattle.overlay_relate.specs.PredicateQueries.{Holds, TellsRelation, TellsRelations};
 
-use crate::edge_answers::found_in;
+use crate::edge_answers::{finding_in, found_in};
+use crate::edge_test::EdgeTest;
+use crate::finding::{Finding, Told};
 use crate::found::Found;
 use crate::predicate::Predicate;
 use crate::predicate_overlay::PredicateOverlay;
@@ -33,9 +39,10 @@ impl<I: OverlayInt, A: Allocator + Clone> PredicateOverlay<I, A> {
     /// edges which are held afterwards, which lead forward, meet in ends alone and have balanced counts; where
     /// there are none it is `false`.
     ///
-    /// The first query finds what answers all six predicates. Until something is added a further query under the
-    /// same rule, by either solver, looks at no edge and takes no memory; under another rule it looks at the sides
-    /// that shapes fill once more, and splits nothing.
+    /// The first query looks at the sides that shapes fill edge by edge, up to the first edge that tells its answer.
+    /// The second query finds what answers all six predicates, unless it repeats the first. Until something is added,
+    /// a further query under its rule, by either solver, looks at no edge and takes no memory. Under another rule it
+    /// looks at the sides that shapes fill once more, and splits nothing.
     ///
     /// Refusals: `Failed` before anything else, and then nothing is changed; `NotSettled` (never with
     /// `Solver::SNAPPED`) where edges still meet in points that are no ends of both after 64 rounds;
@@ -105,8 +112,75 @@ impl<I: OverlayInt, A: Allocator + Clone> PredicateOverlay<I, A> {
         ensures { TellsRelation I.limit (Holds predicate) self.old self.new result }
     {
         self.arrange()?;
+        let answer = self.answer(predicate)?;
+        Ok(answer)
+    }
+
+    // Tells whether the predicate holds of the arranged edges.
+    fn answer(&mut self, predicate: Predicate) -> Result<bool, AllocError>
+        requires usable { self.old.failed ≡ false }
+        requires arranged { WasArranged self.old.edges }
+        ensures ok { IfOk result (Tells self.old.fill_rule self.old.edges predicate) }
+        ensures kept { self.new ≡ record self.old { failed = is_err result } }
+    {
+        if self.kept.is_none() {
+            return self.answer_first(predicate);
+        }
+        if let Some(answer) = self.told_before(predicate) {
+            return Ok(answer);
+        }
         let found = self.find()?;
         Ok(found.answer(predicate))
+    }
+
+    // Answers a first query: tells whether the predicate holds of the arranged edges, and keeps the finding.
+    fn answer_first(&mut self, predicate: Predicate) -> Result<bool, AllocError>
+        requires usable { self.old.failed ≡ false }
+        requires arranged { WasArranged self.old.edges }
+        ensures ok { IfOk result (Tells self.old.fill_rule self.old.edges predicate) }
+        ensures kept { self.new ≡ record self.old { failed = is_err result } }
+    {
+        match self.find_first(predicate) {
+            Ok(finding) => {
+                self.kept = Some(finding);
+                Ok(finding.answer(predicate))
+            }
+            Err(error) => {
+                self.fail();
+                Err(error)
+            }
+        }
+    }
+
+    // Finds the answer of the predicate, up to the first edge that tells it. Where neither an edge nor the sides of all
+    // tell it, finds the answers of all predicates.
+    fn find_first(&self, predicate: Predicate) -> Result<Finding, AllocError>
+        requires usable { self.now.failed ≡ false }
+        requires arranged { WasArranged self.now.edges }
+        ensures { IfOk result (IsAnswering self.now.fill_rule self.now.edges predicate) }
+    {
+        let fill_rule = self.fill_rule;
+        match self.graph_unless(predicate.telling_test())? {
+            Some(graph) => finding_in(&graph, fill_rule, predicate),
+            None => Ok(Finding::One(Told {
+                predicate,
+                fill_rule,
+                answer: predicate.is_told(),
+            })),
+        }
+    }
+
+    // Returns the kept answer, if it is the predicate's alone, under the fill rule.
+    fn told_before(&self, predicate: Predicate) -> Option<bool>
+        ensures { IfSome result (Tells self.now.fill_rule self.now.edges predicate) }
+    {
+        match self.kept {
+            Some(Finding::One(told))
+                if told.predicate == predicate && told.fill_rule == self.fill_rule => {
+                Some(told.answer)
+            }
+            _ => None,
+        }
     }
 
     /// Splits the edges where they meet. Where something was found of them they are an arrangement.
@@ -116,14 +190,14 @@ impl<I: OverlayInt, A: Allocator + Clone> PredicateOverlay<I, A> {
         ensures untouched { IsErrOf result OverlayError.Failed → self.new ≡ self.old }
     {
         self.core.content().note_limits();
-        if self.found.is_some() {
+        if self.kept.is_some() {
             return Ok(());
         }
         self.core.arrange(self.solver, &mut ())?;
         Ok(())
     }
 
-    // What is found of the arranged edges, before or now, when it is kept.
+    // Finds the answers of all predicates of the arranged edges, unless they are kept, and keeps them.
     fn find(&mut self) -> Result<Found, AllocError>
         requires usable { self.old.failed ≡ false }
         requires arranged { WasArranged self.old.edges }
@@ -135,23 +209,30 @@ impl<I: OverlayInt, A: Allocator + Clone> PredicateOverlay<I, A> {
         }
         match self.find_anew() {
             Ok(found) => {
-                self.found = Some(found);
+                self.kept = Some(Finding::All(found));
                 Ok(found)
             }
             Err(error) => {
-                self.found = None;
-                self.core.set_failed(true);
+                self.fail();
                 Err(error)
             }
         }
+    }
+
+    // Marks the builder as failed. It keeps no finding then.
+    fn fail(&mut self)
+        ensures { self.new ≡ record self.old { failed = true } }
+    {
+        self.kept = None;
+        self.core.set_failed(true);
     }
 
     // What was found before under the fill rule.
     fn found_before(&self) -> Option<Found>
         ensures { IfSome result (IsFoundUnder self.now.fill_rule self.now.edges) }
     {
-        match self.found {
-            Some(found) if found.fill_rule == self.fill_rule => Some(found),
+        match self.kept {
+            Some(Finding::All(found)) if found.fill_rule == self.fill_rule => Some(found),
             _ => None,
         }
     }
@@ -176,5 +257,23 @@ impl<I: OverlayInt, A: Allocator + Clone> PredicateOverlay<I, A> {
         ensures balanced { HasBalancedCounts self.now.edges }
     {
         self.core.content().graph_of_balanced(self.fill_rule)
+    }
+
+    // Makes the graph of the arranged edges under the fill rule, unless the filled sides of some edge pass the test.
+    fn graph_unless(
+        &self,
+        test: EdgeTest,
+    ) -> Result<Option<Graph<I, ShapeCountBoolean, A>>, AllocError>
+        requires usable { self.now.failed ≡ false }
+        requires arranged { WasArranged self.now.edges }
+        ensures found { IfOk result (IsFoundUnless
+            (some_fill_passes (bits_pass test) self.now.fill_rule self.now.edges)
+            (λ g. (graph_edges g ≡ self.now.edges) × (g.fill_rule ≡ self.now.fill_rule))) }
+        ensures balanced { HasBalancedCounts self.now.edges }
+        ensures content { IsContent I.limit self.now.edges }
+    {
+        self.core
+            .content()
+            .graph_of_balanced_unless(self.fill_rule, test)
     }
 }
