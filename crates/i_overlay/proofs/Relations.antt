@@ -1,17 +1,23 @@
 -- What a new builder for predicates, to which paths were added, answers of the paths.
-use Rattle.std.proofs.Common.{◌≡◌, ℤ, Bool, false, not, List, subst}
+use Rattle.std.proofs.Common.{◌≡◌, ℕ, ℤ, Bool, false, not, List, ap, subst}
 use Rattle.std.specs.Prelude.{◌↔◌, Result, Ok, Err, IfOk, OnOk, IsTrue}
 use Rattle.overlay_geom.specs.declared.error.OverlayError.{OverlayError}
 use Rattle.overlay_geom.specs.Edges.{CountedEdge}
+use Rattle.overlay_geom.specs.Plane.{Point}
 use Rattle.overlay_geom.specs.declared.solver.Solver.{Solver}
+use Rattle.overlay_geom.specs.declared.solver.Solver.TheVariants.{Rounds}
 use Rattle.overlay_plane.specs.Predicates.{Intersects, IsDisjoint, IsFillable}
 use Rattle.overlay_arrange.specs.Arranged.{IsArranged}
 use Rattle.overlay_arrange.specs.Rules.{is_filled}
 use Rattle.overlay_arrange.specs.declared.fill_rule.FillRule.{FillRule}
-use Rattle.overlay_builder.specs.GivenPaths.{GivenPath, added_paths}
+use Rattle.overlay_arrange.specs.declared.fill_rule.FillRule.TheVariants.{EvenOdd}
+use Rattle.overlay_builder.specs.GivenPaths.{GivenPath, added_paths, subject_and_clip}
 use Rattle.overlay_builder.specs.PathLists.{HoldsPaths}
+use Rattle.overlay_relate.specs.PredicateBuilder.{PredicateBuilder, empty_builder, held_by}
+use Rattle.overlay_relate.specs.PredicateQueries.{TellsRelation}
 use Rattle.overlay_relate.proofs.ToldByEdges.{opposite_tells}
-use Rattle.i_overlay.specs.Relations.{TellsOfPaths}
+use Rattle.i_overlay.proofs.OneShots.{query_refused}
+use Rattle.i_overlay.specs.Relations.{TellsOfPaths, TellsOfTwo}
 
 -- the answer of a query on a content that the paths give is one of the paths
 pub answer_of_paths : {s : Solver} (solver : Solver) → s ≡ solver →
@@ -30,6 +36,24 @@ answer_of_paths solver by (Ok b) relation fill paths content edges holds arrange
   tells = tells;
 }
 answer_of_paths solver by (Err e) relation fill paths content edges holds arranged fillable tells = tt
+
+-- so it is where the builder is new, and holds the paths of a subject and of a clip
+pub answer_of_two : (limit : ℕ) (relation : (ℤ → Bool) → List CountedEdge → Type 0) (subj clip : List (List Point))
+    (old new : PredicateBuilder) (r : Result Bool OverlayError)
+    → HoldsPaths (added_paths false (subject_and_clip subj clip)) old.edges
+    → old ≡ record (empty_builder EvenOdd Rounds) { edges = old.edges }
+    → TellsRelation limit relation old new r → TellsOfTwo relation subj clip r
+answer_of_two limit relation subj clip old new r holds made told =
+    let paths = subject_and_clip subj clip in
+    let by = ap (λ o. o.solver) made in
+    let rule = ap (λ o. o.fill_rule) made in
+    record {
+      answer = answer_of_paths Rounds by r relation EvenOdd paths old.edges new.edges holds told.query.arranged
+          (subst (λ fill. OnOk r (IsFillable (is_filled fill) new.edges)) rule told.fillable)
+          (subst (λ fill. IfOk r (λ b. IsTrue b ↔ relation (is_filled fill) new.edges)) rule told.answer);
+      err = query_refused Rounds by limit paths (held_by old) (held_by new) r holds (ap (λ o. o.failed) made)
+          told.query;
+    }
 
 -- where one answer tells whether the shapes intersect, the opposite one tells whether they are disjoint
 pub disjoint_of_paths : (solver : Solver) (fill : FillRule) (paths : List GivenPath) (meets : Bool) →

@@ -1,14 +1,8 @@
 //! How two resources lie to each other: predicates in one call, and the builder that answers them, one or all.
 
-ghost use Rattle.std.specs.Prelude.{All, IfOk, IfErr};
-ghost use Rattle.overlay_arrange.specs.declared.fill_rule.FillRule.TheVariants.{EvenOdd};
-ghost use Rattle.overlay_geom.specs.Points.{AllInRange};
-ghost use Rattle.overlay_geom.specs.declared.solver.Solver.TheVariants.{Rounds};
-ghost use Rattle.overlay_builder.specs.GivenPaths.{subject_and_clip};
 ghost use Rattle.overlay_plane.specs.Predicates.{Intersects, InteriorsIntersect, Touches, PointIntersects};
 ghost use Rattle.overlay_plane.specs.Predicates.{IsWithin, IsDisjoint};
-ghost use Rattle.i_overlay.specs.OneShot.{MayRefusePaths};
-ghost use Rattle.i_overlay.specs.Relations.{TellsOfPaths};
+ghost use Rattle.i_overlay.specs.Relations.{AreBothInRange, TellsOfTwo};
 
 use overlay_geom::error::OverlayError;
 use overlay_geom::integer::OverlayInt;
@@ -30,12 +24,8 @@ pub trait IntRelate<I: OverlayInt>: IntShapeResource<I> {
         alloc: A,
         other: &R1,
     ) -> Result<bool, OverlayError>
-        requires self_in_range { All (AllInRange I.limit) (Self.paths self.now) }
-        requires other_in_range { All (AllInRange I.limit) (R1.paths other.now) }
-        ensures answer { IfOk result (TellsOfPaths Rounds Intersects EvenOdd
-            (subject_and_clip (Self.paths self.now) (R1.paths other.now))) }
-        ensures err { IfErr result (MayRefusePaths Rounds (subject_and_clip (Self.paths self.now)
-            (R1.paths other.now))) };
+        requires { AreBothInRange I.limit (Self.paths self.now) (R1.paths other.now) }
+        ensures { TellsOfTwo Intersects (Self.paths self.now) (R1.paths other.now) result };
 
     /// Returns whether both fill some point off the edges.
     fn interiors_intersect<R1: IntShapeResource<I>, A: Allocator + Clone>(
@@ -43,12 +33,8 @@ pub trait IntRelate<I: OverlayInt>: IntShapeResource<I> {
         alloc: A,
         other: &R1,
     ) -> Result<bool, OverlayError>
-        requires self_in_range { All (AllInRange I.limit) (Self.paths self.now) }
-        requires other_in_range { All (AllInRange I.limit) (R1.paths other.now) }
-        ensures answer { IfOk result (TellsOfPaths Rounds InteriorsIntersect EvenOdd
-            (subject_and_clip (Self.paths self.now) (R1.paths other.now))) }
-        ensures err { IfErr result (MayRefusePaths Rounds (subject_and_clip (Self.paths self.now)
-            (R1.paths other.now))) };
+        requires { AreBothInRange I.limit (Self.paths self.now) (R1.paths other.now) }
+        ensures { TellsOfTwo InteriorsIntersect (Self.paths self.now) (R1.paths other.now) result };
 
     /// Returns whether the two have a common point, and their interiors have none.
     fn touches<R1: IntShapeResource<I>, A: Allocator + Clone>(
@@ -56,12 +42,8 @@ pub trait IntRelate<I: OverlayInt>: IntShapeResource<I> {
         alloc: A,
         other: &R1,
     ) -> Result<bool, OverlayError>
-        requires self_in_range { All (AllInRange I.limit) (Self.paths self.now) }
-        requires other_in_range { All (AllInRange I.limit) (R1.paths other.now) }
-        ensures answer { IfOk result (TellsOfPaths Rounds Touches EvenOdd
-            (subject_and_clip (Self.paths self.now) (R1.paths other.now))) }
-        ensures err { IfErr result (MayRefusePaths Rounds (subject_and_clip (Self.paths self.now)
-            (R1.paths other.now))) };
+        requires { AreBothInRange I.limit (Self.paths self.now) (R1.paths other.now) }
+        ensures { TellsOfTwo Touches (Self.paths self.now) (R1.paths other.now) result };
 
     /// Returns whether the two meet in single points alone.
     fn point_intersects<R1: IntShapeResource<I>, A: Allocator + Clone>(
@@ -69,12 +51,8 @@ pub trait IntRelate<I: OverlayInt>: IntShapeResource<I> {
         alloc: A,
         other: &R1,
     ) -> Result<bool, OverlayError>
-        requires self_in_range { All (AllInRange I.limit) (Self.paths self.now) }
-        requires other_in_range { All (AllInRange I.limit) (R1.paths other.now) }
-        ensures answer { IfOk result (TellsOfPaths Rounds PointIntersects EvenOdd
-            (subject_and_clip (Self.paths self.now) (R1.paths other.now))) }
-        ensures err { IfErr result (MayRefusePaths Rounds (subject_and_clip (Self.paths self.now)
-            (R1.paths other.now))) };
+        requires { AreBothInRange I.limit (Self.paths self.now) (R1.paths other.now) }
+        ensures { TellsOfTwo PointIntersects (Self.paths self.now) (R1.paths other.now) result };
 
     /// Returns whether this resource lies within the other.
     fn within<R1: IntShapeResource<I>, A: Allocator + Clone>(
@@ -82,12 +60,8 @@ pub trait IntRelate<I: OverlayInt>: IntShapeResource<I> {
         alloc: A,
         other: &R1,
     ) -> Result<bool, OverlayError>
-        requires self_in_range { All (AllInRange I.limit) (Self.paths self.now) }
-        requires other_in_range { All (AllInRange I.limit) (R1.paths other.now) }
-        ensures answer { IfOk result (TellsOfPaths Rounds IsWithin EvenOdd
-            (subject_and_clip (Self.paths self.now) (R1.paths other.now))) }
-        ensures err { IfErr result (MayRefusePaths Rounds (subject_and_clip (Self.paths self.now)
-            (R1.paths other.now))) };
+        requires { AreBothInRange I.limit (Self.paths self.now) (R1.paths other.now) }
+        ensures { TellsOfTwo IsWithin (Self.paths self.now) (R1.paths other.now) result };
 
     /// Returns whether the two have no common point.
     fn disjoint<R1: IntShapeResource<I>, A: Allocator + Clone>(
@@ -95,12 +69,8 @@ pub trait IntRelate<I: OverlayInt>: IntShapeResource<I> {
         alloc: A,
         other: &R1,
     ) -> Result<bool, OverlayError>
-        requires self_in_range { All (AllInRange I.limit) (Self.paths self.now) }
-        requires other_in_range { All (AllInRange I.limit) (R1.paths other.now) }
-        ensures answer { IfOk result (TellsOfPaths Rounds IsDisjoint EvenOdd
-            (subject_and_clip (Self.paths self.now) (R1.paths other.now))) }
-        ensures err { IfErr result (MayRefusePaths Rounds (subject_and_clip (Self.paths self.now)
-            (R1.paths other.now))) };
+        requires { AreBothInRange I.limit (Self.paths self.now) (R1.paths other.now) }
+        ensures { TellsOfTwo IsDisjoint (Self.paths self.now) (R1.paths other.now) result };
 
     /// Returns whether the other resource lies within this resource: `within` of the two exchanged.
     fn covers<R1: IntShapeResource<I>, A: Allocator + Clone>(
@@ -108,12 +78,8 @@ pub trait IntRelate<I: OverlayInt>: IntShapeResource<I> {
         alloc: A,
         other: &R1,
     ) -> Result<bool, OverlayError>
-        requires self_in_range { All (AllInRange I.limit) (Self.paths self.now) }
-        requires other_in_range { All (AllInRange I.limit) (R1.paths other.now) }
-        ensures answer { IfOk result (TellsOfPaths Rounds IsWithin EvenOdd
-            (subject_and_clip (R1.paths other.now) (Self.paths self.now))) }
-        ensures err { IfErr result (MayRefusePaths Rounds (subject_and_clip (R1.paths other.now)
-            (Self.paths self.now))) };
+        requires { AreBothInRange I.limit (R1.paths other.now) (Self.paths self.now) }
+        ensures { TellsOfTwo IsWithin (R1.paths other.now) (Self.paths self.now) result };
 }
 
 impl<I: OverlayInt, R0: IntShapeResource<I>> IntRelate<I> for R0 {

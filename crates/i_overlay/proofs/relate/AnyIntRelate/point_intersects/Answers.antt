@@ -1,31 +1,10 @@
 -- The new builder answers of the paths that were added to it.
-use Rattle.std.proofs.Common.{ap, subst}
-use Rattle.std.specs.Prelude.{◌↔◌, IfOk, OnOk, IsTrue}
-use Rattle.overlay_plane.specs.Predicates.{PointIntersects, IsFillable}
-use Rattle.overlay_arrange.specs.Rules.{is_filled}
-use Rattle.overlay_arrange.specs.declared.fill_rule.FillRule.TheVariants.{EvenOdd}
-use Rattle.overlay_relate.specs.PredicateBuilder.{held_by}
-use Rattle.i_overlay.proofs.OneShots.{query_refused}
-use Rattle.i_overlay.proofs.Relations.{answer_of_paths}
+use Rattle.overlay_plane.specs.Predicates.{PointIntersects}
+use Rattle.i_overlay.proofs.Relations.{answer_of_two}
 use Rattle.i_overlay.proofs.relate.AnyIntRelate.point_intersects.Goals as goal
-use Rattle.overlay_geom.specs.declared.solver.Solver.TheVariants.{Rounds}
 
-pub returns-clause-answer : goal.returns-clause-answer
-returns-clause-answer g c =
+pub returns : goal.returns
+returns g c =
     let made = c.in_ok-overlay.ensures in
-    let new = c.point_intersects.new.self in
-    answer_of_paths Rounds (ap (λ o. o.solver) made.made) c.point_intersects.result PointIntersects EvenOdd _ _
-    new.edges made.ok
-    c.point_intersects.ensures.query.arranged
-    (subst (λ rule. OnOk c.point_intersects.result (IsFillable (is_filled rule) new.edges))
-    (ap (λ o. o.fill_rule) made.made) c.point_intersects.ensures.fillable)
-    (subst (λ rule. IfOk c.point_intersects.result (λ b. IsTrue b ↔ PointIntersects (is_filled rule) new.edges))
-    (ap (λ o. o.fill_rule) made.made) c.point_intersects.ensures.answer)
-
-pub returns-clause-err : goal.returns-clause-err
-returns-clause-err g c =
-    let made = c.in_ok-overlay.ensures in
-    query_refused Rounds (ap (λ o. o.solver) made.made) g.I.IntNumber.limit _ (held_by c.in_ok-overlay.overlay)
-    (held_by c.point_intersects.new.self)
-    c.point_intersects.result made.ok (ap (λ o. o.failed) made.made)
-    c.point_intersects.ensures.query
+    answer_of_two g.I.IntNumber.limit PointIntersects _ _ c.in_ok-overlay.overlay c.point_intersects.new.self
+    c.point_intersects.result made.ok made.made c.point_intersects.ensures
