@@ -45,7 +45,7 @@ one_alone t u tells also = (
 
 module _ (limit : ℕ) (es : List CountedEdge) (arranged : IsArrangement limit es) (balanced : HasBalancedCounts es)
     (rule : FillRule) where
-  fillable_arrangement : IsFillable (is_filled rule) es
+  pub fillable_arrangement : IsFillable (is_filled rule) es
   fillable_arrangement =
       fillable_content limit rule es arranged.content arranged.ascending arranged.settled balanced
 
