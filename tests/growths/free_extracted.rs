@@ -20,10 +20,12 @@ use overlay_extract::assemble::{assembled, contour};
 use overlay_extract::binding::anchor::hole_anchors;
 use overlay_extract::binding::bind::bind_contours;
 use overlay_extract::binding::islands::{hole_places, holes_round};
-use overlay_extract::binding::placed::{bound_places, placed_contours};
+use overlay_extract::binding::placed::{bound_places, placed_contours, placed_contours_of};
 use overlay_extract::binding::places::shape_places;
 use overlay_extract::binding::scans::{scan_for_holes, scan_for_islands};
-use overlay_extract::extract::{extract_contours, extract_shapes, extract_shapes_with_trees_from};
+use overlay_extract::extract::{
+    extract_contours, extract_shapes, extract_shapes_of, extract_shapes_with_trees_from,
+};
 use overlay_extract::hierarchy::{
     extract_shape_hierarchy, extract_shape_hierarchy_with_trees_from,
 };
@@ -43,10 +45,10 @@ use overlay_walk::contour::{Contour, Role};
 use overlay_walk::contour_cut::cut_into_contours;
 use overlay_walk::groups::cut_in_groups;
 use overlay_walk::hand::HandRule;
-use overlay_walk::kept_contours::kept_contours;
+use overlay_walk::kept_contours::{kept_contours, kept_contours_of};
 use overlay_walk::open_steps::OpenSteps;
 use overlay_walk::selected_steps::push_selected;
-use overlay_walk::selected_walks::{selected_contours, selected_walks};
+use overlay_walk::selected_walks::{selected_contours, selected_walks, selected_walks_of};
 use overlay_walk::step::Step;
 use std::alloc::AllocError;
 use std::process::Abort;
@@ -99,6 +101,29 @@ fn lends<
     trial.refuse_each(name, new, &call, |it| Ok(call(it).is_ok()))
 }
 
+// Refuses the growths of a function that is given a graph and lent room, and gives its answer.
+fn gives<
+    'm,
+    I: Width,
+    T: Drop,
+    G: Fn() -> Answer<Plain<'m, I>> + Drop,
+    C: Fn(Plain<'m, I>, &mut Buffer<'m, I>) -> Result<T, AllocError> + Drop,
+>(trial: &Trial<'m, impl Abort>, name: &str, graph: G, call: C) -> Result<T, Fail> {
+    let memory = trial.memory;
+    let new = || {
+        Ok((
+            Some(graph()?),
+            BooleanExtractionBuffer::default(memory),
+        ))
+    };
+    trial.refuse_each(
+        name,
+        new,
+        |it| call(it.0.take().ok_or(AllocError)?, &mut it.1),
+        |_| Ok(true),
+    )
+}
+
 // All selected steps.
 fn steps<'m, I: Width>(graph: &Plain<'m, I>) -> Answer<Vec<Step<I>, Memory<'m>>> {
     let mut steps = Vec::new(*graph.allocator());
@@ -121,6 +146,7 @@ fn cuts<
 fn check_walks<I: Width>(trial: &Trial<'_, impl Abort>) -> Result<(), Fail> {
     let memory = trial.memory;
     let (graph, options) = (plain_graph::<I>(memory)?, IntOverlayOptions::default());
+    let new_graph = || plain_graph::<I>(memory);
     let found = trial.refuse_call("overlay_walk::push_selected", || {
         let mut steps = Vec::new(memory);
         push_selected(&mut steps, graph.edges(), SUBJECT, DIRECTION).map(|_| steps)
@@ -131,8 +157,21 @@ fn check_walks<I: Width>(trial: &Trial<'_, impl Abort>) -> Result<(), Fail> {
         let kept = lends(trial, "overlay_walk::kept_contours", |it| {
             kept_contours(&graph, SUBJECT, options, it)
         })?;
-        assert!(trial.rt; kept.len() == 4);
+        let alike = gives(
+            trial,
+            "overlay_walk::kept_contours_of",
+            &new_graph,
+            |graph, it| kept_contours_of(graph, SUBJECT, options, it),
+        )?;
+        assert!(trial.rt; kept.len() == 4 && alike.len() == 4);
     }
+    let alike = gives(
+        trial,
+        "overlay_walk::selected_walks_of",
+        &new_graph,
+        |graph, it| selected_walks_of(graph, SUBJECT, DIRECTION, it),
+    )?;
+    assert!(trial.rt; alike.len() == 4);
     let walks = lends(trial, "overlay_walk::selected_walks", |it| {
         selected_walks(&graph, SUBJECT, DIRECTION, it)
     })?;
@@ -236,6 +275,7 @@ fn functions_of_binding(rt: HostRuntime) -> Result<(), Fail> {
 fn check_shapes<I: Width>(trial: &Trial<'_, impl Abort>) -> Result<(), Fail> {
     let memory = trial.memory;
     let (graph, options) = (plain_graph::<I>(memory)?, IntOverlayOptions::default());
+    let new_graph = || plain_graph::<I>(memory);
     let contours = kept(&graph)?;
     for tree_from in LIMITS {
         let placed = lends(trial, "overlay_extract::placed_contours", |it| {
@@ -245,6 +285,13 @@ fn check_shapes<I: Width>(trial: &Trial<'_, impl Abort>) -> Result<(), Fail> {
             bound_places(&graph, &contours, DIRECTION, tree_from)
         })?;
         assert!(trial.rt; placed.places.len() == 3 && places.len() == 3);
+        let placed = gives(
+            trial,
+            "overlay_extract::placed_contours_of",
+            &new_graph,
+            |graph, it| placed_contours_of(graph, SUBJECT, options, it, tree_from),
+        )?;
+        assert!(trial.rt; placed.places.len() == 3);
         let shapes = lends(
             trial,
             "overlay_extract::extract_shapes_with_trees_from",
@@ -262,6 +309,13 @@ fn check_shapes<I: Width>(trial: &Trial<'_, impl Abort>) -> Result<(), Fail> {
     let shapes = lends(trial, "overlay_extract::extract_shapes", |it| {
         extract_shapes(&graph, SUBJECT, options, it)
     })?;
+    let alike = gives(
+        trial,
+        "overlay_extract::extract_shapes_of",
+        &new_graph,
+        |graph, it| extract_shapes_of(graph, SUBJECT, options, it),
+    )?;
+    assert!(trial.rt; alike == shapes);
     let linked = lends(trial, "overlay_extract::extract_shape_hierarchy", |it| {
         extract_shape_hierarchy(&graph, SUBJECT, options, it)
     })?;

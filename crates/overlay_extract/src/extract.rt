@@ -14,7 +14,7 @@ ghost use Rattle.overlay_walk.specs.Walks.{plain_walks};
 ghost use Rattle.overlay_extract.specs.Results.{asked, AreKeptWalks, IsResult, IsContoursResult};
 
 use crate::assemble::{assembled, contour};
-use crate::binding::placed::placed_contours;
+use crate::binding::placed::{placed_contours, placed_contours_of};
 use crate::binding::scans::TREE_FROM_PARENTS;
 use overlay_arrange::count::EdgeCount;
 use overlay_arrange::graph::Graph;
@@ -65,6 +65,24 @@ pub fn extract_shapes_with_trees_from<I: IntNumber, C: EdgeCount, A: Allocator +
 {
     let placed = placed_contours(graph, overlay_rule, options, buffer, tree_from)?;
     let alloc = graph.allocator().clone()?;
+    let keeps_points = options.preserve_output_collinear;
+    assembled(alloc, &placed.contours, &placed.places, keeps_points)
+}
+
+/// Returns the shapes that [`extract_shapes`] gives. It drops the graph before it puts the shapes together.
+pub fn extract_shapes_of<I: IntNumber, C: EdgeCount, A: Allocator + Clone>(
+    graph: Graph<I, C, A>,
+    overlay_rule: OverlayRule,
+    options: IntOverlayOptions<I::WideUInt>,
+    buffer: &mut BooleanExtractionBuffer<I, A>,
+) -> Result<IntShapes<I, A>, AllocError>
+    requires { HasBalancedCounts (graph_edges graph) }
+    ensures result { IfOk result (λ v. IsResult
+        (asked I.Wide.width I.WideUInt.natural graph.fill_rule overlay_rule options)
+        (graph_edges graph) (plain_shapes I.whole v.items)) }
+{
+    let alloc = graph.allocator().clone()?;
+    let placed = placed_contours_of(graph, overlay_rule, options, buffer, TREE_FROM_PARENTS)?;
     let keeps_points = options.preserve_output_collinear;
     assembled(alloc, &placed.contours, &placed.places, keeps_points)
 }

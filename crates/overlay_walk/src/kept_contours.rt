@@ -16,7 +16,7 @@ use crate::area::large_walks;
 use crate::buffer::BooleanExtractionBuffer;
 use crate::contour::{Contour, Role};
 use crate::filled_side::is_hole;
-use crate::selected_walks::{selected_contours, selected_walks};
+use crate::selected_walks::{selected_contours, selected_walks, selected_walks_of};
 use crate::step::Step;
 use overlay_arrange::count::EdgeCount;
 use overlay_arrange::graph::Graph;
@@ -61,6 +61,30 @@ pub fn kept_contours<I: IntNumber, C: EdgeCount, A: Allocator + Clone>(
     roled(graph.allocator().clone()?, large, direction)
 }
 
+/// Returns the contours that [`kept_contours`] gives. Without `ogc` it drops the graph once the steps are selected.
+pub fn kept_contours_of<I: IntNumber, C: EdgeCount, A: Allocator + Clone>(
+    graph: Graph<I, C, A>,
+    overlay_rule: OverlayRule,
+    options: IntOverlayOptions<I::WideUInt>,
+    buffer: &mut BooleanExtractionBuffer<I, A>,
+) -> Result<Vec<Contour<I, A>, A>, AllocError>
+    requires { HasBalancedCounts (graph_edges graph) }
+    ensures kept { IfOk result (λ cs. AreKeptResults
+        (asked I.Wide.width I.WideUInt.natural graph.fill_rule overlay_rule options)
+        (graph_edges graph) (plain_contours I.whole cs.items)) }
+    ensures long { IfOk result (λ cs. All (All (IsLong I.limit)) (walks_in (plain_contours I.whole cs.items))) }
+{
+    if options.ogc {
+        return kept_contours(&graph, overlay_rule, options, buffer);
+    }
+    graph.note_arrangement();
+    let alloc = graph.allocator().clone()?;
+    let direction = options.output_direction;
+    let walks = selected_walks_of(graph, overlay_rule, direction, buffer)?;
+    let large = large_walks(alloc.clone()?, walks, options.min_output_area)?;
+    roled(alloc, large, direction)
+}
+
 // Returns the walks as contours: the outlines, numbered from 0, and the holes, whose shape is to be found.
 fn roled<I: IntNumber, A: Allocator>(
     alloc: A,
@@ -71,7 +95,7 @@ fn roled<I: IntNumber, A: Allocator>(
         ≡ contours_from (filled_hand direction) 0 (plain_walks I.whole walks.items)) }
     ensures steps { IfOk result (λ cs. map (λ c. c.steps) cs.items ≡ walks.items) }
 {
-    let mut contours = Vec::new(alloc);
+    let mut contours = Vec::with_capacity(alloc, walks.len())?;
     let mut number = 0;
     for steps in walks {
         if is_hole(&steps, direction) {

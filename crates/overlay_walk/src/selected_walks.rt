@@ -58,6 +58,28 @@ pub fn selected_walks<I: IntNumber, C: EdgeCount, A: Allocator + Clone>(
     Ok(walks)
 }
 
+/// Returns the walks that [`selected_walks`] gives. It drops the graph as soon as the steps are selected.
+pub fn selected_walks_of<I: IntNumber, C: EdgeCount, A: Allocator + Clone>(
+    graph: Graph<I, C, A>,
+    overlay_rule: OverlayRule,
+    direction: ContourDirection,
+    buffer: &mut BooleanExtractionBuffer<I, A>,
+) -> Result<Vec<Vec<Step<I>, A>, A>, AllocError>
+    requires { HasBalancedCounts (graph_edges graph) }
+    ensures cut { IfOk result (λ ws. AreCutFrom (rules_hold graph.fill_rule overlay_rule) subj_of clip_of
+        (graph_edges graph) (filled_hand direction) (plain_walks I.whole ws.items)) }
+    ensures long { IfOk result (λ ws. All (All (IsLong I.limit)) (plain_walks I.whole ws.items)) }
+{
+    graph.note_arrangement();
+    let alloc = graph.allocator().clone()?;
+    let room = buffer.take_room(alloc.clone()?);
+    let rule = HandRule::OutlineOrHole(direction);
+    let mut open = open_selected_of(graph, overlay_rule, direction, room)?;
+    let walks = cut_into_contours(alloc, &mut open, rule)?;
+    buffer.put_room(open.into_room());
+    Ok(walks)
+}
+
 /// Returns the contours of a cut of the graph's selected steps with groups that reach the minimum area, as
 /// [`cut_in_groups`] tells. The steps are those of [`selected_walks`]. No contour visits a point twice. The counts of
 /// the edges are balanced.
@@ -100,5 +122,22 @@ fn open_selected<I: IntNumber, C: EdgeCount, A: Allocator + Clone>(
 {
     let edges = graph.edges();
     push_selected(&mut steps, edges, overlay_rule, direction)?;
+    OpenSteps::new(steps)
+}
+
+// Returns the steps that [`open_selected`] gives, and drops the graph before it puts them in order.
+fn open_selected_of<I: IntNumber, C: EdgeCount, A: Allocator + Clone>(
+    graph: Graph<I, C, A>,
+    overlay_rule: OverlayRule,
+    direction: ContourDirection,
+    mut steps: Vec<Step<I>, A>,
+) -> Result<OpenSteps<I, A>, AllocError>
+    requires { steps.items ≡ [] }
+    ensures { IfOk result (λ o. IsPermutation (selected_steps (rules_hold graph.fill_rule overlay_rule)
+        subj_of clip_of (filled_hand direction) (graph_edges graph)) (plain_steps I.whole o)) }
+{
+    let edges = graph.edges();
+    push_selected(&mut steps, edges, overlay_rule, direction)?;
+    drop(graph);
     OpenSteps::new(steps)
 }

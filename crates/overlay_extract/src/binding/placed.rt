@@ -22,7 +22,7 @@ use overlay_arrange::overlay_rule::OverlayRule;
 use overlay_geom::number::IntNumber;
 use overlay_walk::buffer::BooleanExtractionBuffer;
 use overlay_walk::contour::Contour;
-use overlay_walk::kept_contours::kept_contours;
+use overlay_walk::kept_contours::{kept_contours, kept_contours_of};
 use std::alloc::{AllocError, Allocator};
 
 /// Contours and their places in shapes.
@@ -55,6 +55,27 @@ pub fn placed_contours<I: IntNumber, C: EdgeCount, A: Allocator + Clone>(
     Ok(PlacedContours { contours, places })
 }
 
+/// Returns the contours and the places that [`placed_contours`] gives. It drops the graph before it looks for shapes.
+pub fn placed_contours_of<I: IntNumber, C: EdgeCount, A: Allocator + Clone>(
+    graph: Graph<I, C, A>,
+    overlay_rule: OverlayRule,
+    options: IntOverlayOptions<I::WideUInt>,
+    buffer: &mut BooleanExtractionBuffer<I, A>,
+    tree_from: usize,
+) -> Result<PlacedContours<I, A>, AllocError>
+    requires { HasBalancedCounts (graph_edges graph) }
+    ensures placed { IfOk result (λ p. ArePlacedResults
+        (asked I.Wide.width I.WideUInt.natural graph.fill_rule overlay_rule options)
+        (graph_edges graph) (plain_contours I.whole p.contours.items) (place_lists p.places.items)) }
+    ensures long { IfOk result
+        (λ p. All (All (IsLong I.limit)) (walks_in (plain_contours I.whole p.contours.items))) }
+{
+    let alloc = graph.allocator().clone()?;
+    let contours = kept_contours_of(graph, overlay_rule, options, buffer)?;
+    let places = places_found(alloc, &contours, options.output_direction, tree_from)?;
+    Ok(PlacedContours { contours, places })
+}
+
 /// Returns the places of the contours in the shapes found for them. With `tree_from` or more shapes the live edges are
 /// kept in a tree, else in a list; the answer does not depend on it.
 pub fn bound_places<I: IntNumber, C: EdgeCount, A: Allocator + Clone>(
@@ -71,7 +92,24 @@ pub fn bound_places<I: IntNumber, C: EdgeCount, A: Allocator + Clone>(
     ensures placed { IfOk result (λ v.
         ArePlacedSomehow (filled_hand direction) (plain_contours I.whole contours.now) (place_lists v.items)) }
 {
-    let alloc = graph.allocator().clone()?;
+    places_found(graph.allocator().clone()?, contours, direction, tree_from)
+}
+
+// Returns the places that [`bound_places`] gives.
+fn places_found<I: IntNumber, A: Allocator + Clone>(
+    alloc: A,
+    contours: &[Contour<I, A>],
+    direction: ContourDirection,
+    tree_from: usize,
+) -> Result<Vec<Vec<usize, A>, A>, AllocError>
+    requires long { All (All (IsLong I.limit)) (walks_in (plain_contours I.whole contours.now)) }
+    requires bindable { CanBeBound (filled_hand direction) (walks_in (plain_contours I.whole contours.now)) }
+    requires placeable { (shapes : _)
+        → AreShapesFound (filled_hand direction) (plain_contours I.whole contours.now) shapes
+        → CanBePlaced (plain_contours I.whole contours.now) shapes }
+    ensures placed { IfOk result (λ v.
+        ArePlacedSomehow (filled_hand direction) (plain_contours I.whole contours.now) (place_lists v.items)) }
+{
     let mut scan = scan_for_holes(alloc.clone()?, contours, tree_from);
     let found = bind_contours(alloc.clone()?, &mut scan, contours, direction)?;
     shape_places(alloc, contours, &found)

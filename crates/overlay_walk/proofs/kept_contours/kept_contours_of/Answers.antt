@@ -1,0 +1,41 @@
+-- The walks without groups are kept as the options ask, so the facts of kept contours hold of them.
+use Rattle.std.proofs.Common.{All}
+use Rattle.std.proofs.lemmas.Result.{IfOk-weaker}
+use Rattle.overlay_plane.specs.BoundContours.{walks_in}
+use Rattle.overlay_arrange.specs.Graphs.{graph_edges}
+use Rattle.overlay_walk.specs.Asked.{Asked, asked}
+use Rattle.overlay_walk.specs.GroupedContours.{plain_contours}
+use Rattle.overlay_walk.specs.KeptResults.{AreKeptResults}
+use Rattle.overlay_walk.specs.Steps.{IsLong}
+use Rattle.overlay_walk.specs.Walks.{plain_walks}
+use Rattle.overlay_walk.proofs.KeptOnes.{kept_without, kept_results, kept_are_long, large_alike}
+use Rattle.overlay_walk.proofs.kept_contours.kept_contours_of.Goals as goal
+
+pub returns-clause-kept : goal.returns-clause-kept
+returns-clause-kept g c =
+    let whole = g.I.IntNumber.whole in
+    let q : Asked = asked g.I.Wide.WideIntNumber.width g.I.WideUInt.UIntNumber.natural c.args.graph.fill_rule
+    c.args.overlay_rule c.args.options in
+    let es = graph_edges c.args.graph in
+    IfOk-weaker c.roled.result _ (λ cs. AreKeptResults q es (plain_contours whole cs.items))
+    (λ cs are. kept_results q es (plain_contours whole cs.items)
+    (kept_without q es (plain_walks whole c.in_ok-walks.walks.items) (plain_contours whole cs.items) c.if-options.false
+    c.in_ok-walks.ensures.cut
+    (large_alike whole q c.in_ok-walks.walks.items c.in_ok-large.large.items (plain_contours whole cs.items)
+    c.in_ok-large.ensures.ok are)))
+    c.roled.ensures.ok
+
+pub returns-clause-long : goal.returns-clause-long
+returns-clause-long g c =
+    let whole = g.I.IntNumber.whole in
+    let limit = g.I.IntNumber.limit in
+    let q : Asked = asked g.I.Wide.WideIntNumber.width g.I.WideUInt.UIntNumber.natural c.args.graph.fill_rule
+    c.args.overlay_rule c.args.options in
+    let es = graph_edges c.args.graph in
+    IfOk-weaker c.roled.result _ (λ cs. All (All (IsLong limit)) (walks_in (plain_contours whole cs.items)))
+    (λ cs are. kept_are_long q es (plain_contours whole cs.items)
+    (kept_without q es (plain_walks whole c.in_ok-walks.walks.items) (plain_contours whole cs.items) c.if-options.false
+    c.in_ok-walks.ensures.cut
+    (large_alike whole q c.in_ok-walks.walks.items c.in_ok-large.large.items (plain_contours whole cs.items)
+    c.in_ok-large.ensures.ok are)) limit c.note_arrangement.ensures.content)
+    c.roled.ensures.ok

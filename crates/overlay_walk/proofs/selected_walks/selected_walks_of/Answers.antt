@@ -1,0 +1,55 @@
+-- The steps that are cut are a permutation of the selected steps.
+use Rattle.overlay_geom.specs.Edges.{subj_of, clip_of}
+use Rattle.overlay_plane.specs.Contours.{alternating}
+use Rattle.overlay_plane.proofs.ShuffledCuts.{shuffled_alternate, shuffled_once, shuffled_cut}
+use Rattle.overlay_arrange.specs.Graphs.{graph_edges}
+use Rattle.overlay_arrange.specs.Rules.{rules_hold}
+use Rattle.overlay_arrange.proofs.RuledContents.{ruled_content}
+use Rattle.overlay_walk.specs.Steps.{filled_hand, plain_steps}
+use Rattle.overlay_walk.specs.Walks.{plain_walks}
+use Rattle.overlay_walk.proofs.SelectedLong.{walks_are_long}
+use Rattle.overlay_walk.proofs.selected_walks.selected_walks_of.Goals as goal
+
+pub cut_into_contours-requires-clause-cuttable : goal.cut_into_contours-requires-clause-cuttable
+cut_into_contours-requires-clause-cuttable g c =
+    let es = graph_edges c.args.graph in
+    let ruled = ruled_content g.I.IntNumber.limit es c.note_arrangement.ensures.content
+    c.note_arrangement.ensures.ascending c.note_arrangement.ensures.settled c.requires c.args.graph.fill_rule
+    c.args.overlay_rule in
+    alternating (shuffled_alternate (rules_hold c.args.graph.fill_rule c.args.overlay_rule) subj_of clip_of es
+    (filled_hand c.args.direction) ruled
+    (plain_steps g.I.IntNumber.whole c.in_ok-open.open) c.in_ok-open.ensures)
+
+pub cut_into_contours-requires-clause-once : goal.cut_into_contours-requires-clause-once
+cut_into_contours-requires-clause-once g c =
+    let es = graph_edges c.args.graph in
+    let ruled = ruled_content g.I.IntNumber.limit es c.note_arrangement.ensures.content
+    c.note_arrangement.ensures.ascending c.note_arrangement.ensures.settled c.requires c.args.graph.fill_rule
+    c.args.overlay_rule in
+    shuffled_once (rules_hold c.args.graph.fill_rule c.args.overlay_rule) subj_of clip_of es
+    (filled_hand c.args.direction) ruled
+    (plain_steps g.I.IntNumber.whole c.in_ok-open.open) c.in_ok-open.ensures
+
+pub returns-clause-cut : goal.returns-clause-cut
+returns-clause-cut g c =
+    let es = graph_edges c.args.graph in
+    let ruled = ruled_content g.I.IntNumber.limit es c.note_arrangement.ensures.content
+    c.note_arrangement.ensures.ascending c.note_arrangement.ensures.settled c.requires c.args.graph.fill_rule
+    c.args.overlay_rule in
+    shuffled_cut (rules_hold c.args.graph.fill_rule c.args.overlay_rule) subj_of clip_of es
+    (filled_hand c.args.direction) ruled
+    (plain_steps g.I.IntNumber.whole c.in_ok-open.open) c.in_ok-open.ensures
+    (plain_walks g.I.IntNumber.whole c.in_ok-walks.walks.items) c.in_ok-walks.ensures.cut
+
+pub returns-clause-long : goal.returns-clause-long
+returns-clause-long g c =
+    let es = graph_edges c.args.graph in
+    let holds = rules_hold c.args.graph.fill_rule c.args.overlay_rule in
+    let filled = filled_hand c.args.direction in
+    let ruled = ruled_content g.I.IntNumber.limit es c.note_arrangement.ensures.content
+    c.note_arrangement.ensures.ascending c.note_arrangement.ensures.settled c.requires c.args.graph.fill_rule
+    c.args.overlay_rule in
+    let walks = plain_walks g.I.IntNumber.whole c.in_ok-walks.walks.items in
+    walks_are_long g.I.IntNumber.limit es c.note_arrangement.ensures.content holds subj_of clip_of filled walks
+    (shuffled_cut holds subj_of clip_of es filled ruled (plain_steps g.I.IntNumber.whole c.in_ok-open.open)
+    c.in_ok-open.ensures walks c.in_ok-walks.ensures.cut)
