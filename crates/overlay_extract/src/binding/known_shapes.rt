@@ -17,7 +17,7 @@ pub fn shapes_known<I: IntNumber, A: Allocator>(
 ) -> Result<Vec<Option<usize>, A>, AllocError>
     ensures ok { IfOk result (λ v. v.items ≡ known_in (plain_contours I.whole contours.now)) }
 {
-    let mut known = Vec::new(alloc);
+    let mut known = Vec::with_capacity(alloc, contours.len())?;
     for i in 0..contours.len() {
         known.push(contours[i].role.shape())?;
     }

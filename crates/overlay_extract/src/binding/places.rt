@@ -8,6 +8,7 @@ ghost use Rattle.overlay_plane.specs.RoledContours.{is_outline};
 ghost use Rattle.overlay_walk.specs.GroupedContours.{plain_contours, plain_role};
 ghost use Rattle.overlay_extract.specs.Places.{place_lists, number_as, with_place, AreInside, HasHolesAdded};
 
+use crate::binding::known_shapes::shape_count;
 use overlay_geom::number::IntNumber;
 use overlay_walk::contour::{Contour, Role};
 use std::alloc::{AllocError, Allocator};
@@ -49,7 +50,7 @@ fn outline_places<I: IntNumber, A: Allocator + Clone>(
     ensures begun { IfOk result (λ v. walks_at (plain_contours I.whole contours.now) (place_lists v.items) ≡
         map (λ c. c.steps ∷ []) (filter (λ c. is_outline c.role) (plain_contours I.whole contours.now))) }
 {
-    let mut places = Vec::new(alloc.clone()?);
+    let mut places = Vec::with_capacity(alloc.clone()?, shape_count(contours))?;
     for i in 0..contours.len() {
         if contours[i].role.is_outline() {
             push_alone(alloc.clone()?, &mut places, i)?;
@@ -67,7 +68,7 @@ fn push_alone<A: Allocator>(
     ensures ok { OnOk result
         (place_lists places.new.items ≡ place_lists places.old.items ++ (place ∷ []) ∷ []) }
 {
-    let mut alone = Vec::new(alloc);
+    let mut alone = Vec::with_capacity(alloc, 1)?;
     alone.push(place)?;
     places.push(alone)?;
     Ok(())
