@@ -19,7 +19,7 @@ use overlay_arrange::graph::Graph;
 use overlay_arrange::overlay_rule::OverlayRule;
 use overlay_arrange::vector::DataVectorEdge;
 use overlay_builder::builder_core::BuilderCore;
-use overlay_extract::extract::{emptied, extract_contours, extract_shapes};
+use overlay_extract::extract::{emptied, extract_contours, extract_shapes_of};
 use overlay_geom::error::OverlayError;
 use overlay_geom::flat::contours::FlatContoursBuffer;
 use overlay_geom::integer::OverlayInt;
@@ -213,7 +213,7 @@ impl<I: OverlayInt, A: Allocator + Clone> Overlay<I, A> {
             &mut self.boolean_buffer,
             graph.allocator(),
         )?;
-        let shapes = extract_shapes(&graph, overlay_rule, self.options, &mut buffer);
+        let shapes = extract_shapes_of(graph, overlay_rule, self.options, &mut buffer);
         self.boolean_buffer = Some(buffer);
         Ok(shapes?)
     }
