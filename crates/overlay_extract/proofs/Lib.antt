@@ -1,6 +1,7 @@
 pub mod AlongSides
 pub mod AnchorSteps
 pub mod AnchorsFound
+pub mod AnyWidth
 pub mod BoundLoops
 pub mod BoundRoles
 pub mod BoundSlices
