@@ -110,12 +110,7 @@ fn gives<
     C: Fn(Plain<'m, I>, &mut Buffer<'m, I>) -> Result<T, AllocError> + Drop,
 >(trial: &Trial<'m, impl Abort>, name: &str, graph: G, call: C) -> Result<T, Fail> {
     let memory = trial.memory;
-    let new = || {
-        Ok((
-            Some(graph()?),
-            BooleanExtractionBuffer::default(memory),
-        ))
-    };
+    let new = || { Ok((Some(graph()?), BooleanExtractionBuffer::default(memory))) };
     trial.refuse_each(
         name,
         new,
