@@ -1,6 +1,7 @@
 /* Tests of the calls for C, at both widths. */
 #define AT_WIDTH "tests_of_width.h"
 #include "tests_of_both_widths.h"
+#include "tests_of_far.h"
 
 /* Each status has its own text, and all other numbers share a further text. */
 static void texts(void) {
@@ -26,5 +27,7 @@ int main(void) {
     ends_of_ranges();
     all_at_64();
     all_at_32();
+    far_coordinates();
+    one_far_list();
     return told("c");
 }

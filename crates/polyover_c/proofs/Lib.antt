@@ -5,9 +5,15 @@ pub mod ComeBack
 pub mod EachFault
 pub mod EarlyFaults
 pub mod Endings
+pub mod FittedOverlays
+pub mod FittedQueries
+pub mod FittedSimplifications
 pub mod Hierarchies
 pub mod Listed
 pub mod Located
+pub mod NarrowedAnswers
+pub mod NarrowedCalls
+pub mod NarrowedPaths
 pub mod OneFault
 pub mod OnePacking
 pub mod OnePut

@@ -13,6 +13,7 @@ pub mod Lines
 pub mod Linked
 pub mod Listed
 pub mod Located
+pub mod Narrowed
 pub mod Options
 pub mod Overlays
 pub mod Prepared

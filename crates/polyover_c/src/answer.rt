@@ -1,11 +1,12 @@
 //! Shapes as arrays, and these put into arrays of a caller.
 
-ghost use Rattle.std.specs.Prelude.{◌≡◌, IfOk, IsOkUnless};
+ghost use Rattle.std.specs.Prelude.{◌≡◌, map, IfOk, IsOkUnless};
 ghost use Rattle.overlay_geom.specs.Paths.{plain_shapes};
 ghost use Rattle.polyover_c.specs.Written.{AreFlattened, ArePut, flat_shapes, shape_room};
 
 use crate::counts::Counts;
 use crate::flatten::{coordinates_of, ends_of};
+use crate::narrowed::ArrayInt;
 use crate::status::Status;
 use crate::write::write_over;
 use overlay_geom::flat::shapes::FlatShapesBuffer;
@@ -38,6 +39,21 @@ pub(crate) fn flattened<I: IntNumber>(
         coordinates,
         contour_ends,
         shape_ends,
+    })
+}
+
+/// Returns the answer at 32 bits in this type. The only refusal is `Memory`.
+pub(crate) fn widened<I: ArrayInt>(alloc: Global, answer: Answer<i32>) -> Result<Answer<I>, Status>
+    ensures coordinates { IfOk result (λ a. map I.whole a.coordinates.items ≡ answer.coordinates.items) }
+    ensures contour_ends { IfOk result (λ a. a.contour_ends.items ≡ answer.contour_ends.items) }
+    ensures shape_ends { IfOk result (λ a. a.shape_ends.items ≡ answer.shape_ends.items) }
+    ensures only { IsOkUnless result Status.Memory }
+{
+    let coordinates = I::widened(alloc, answer.coordinates)?;
+    Ok(Answer {
+        coordinates,
+        contour_ends: answer.contour_ends,
+        shape_ends: answer.shape_ends,
     })
 }
 

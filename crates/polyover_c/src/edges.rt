@@ -1,6 +1,6 @@
 //! The edges of the arrangement of contours in arrays.
 
-ghost use Rattle.std.specs.Prelude.{◌≡◌, All, IfOk, IfErr, MatchResult, map};
+ghost use Rattle.std.specs.Prelude.{◌≡◌, All, IfOk, IfErr, IsOkUnless, MatchResult, map};
 ghost use Rattle.overlay_arrange.specs.Vectors.{plain_vector};
 ghost use Rattle.overlay_builder.specs.GivenPaths.{subject_and_clip};
 ghost use Rattle.overlay_geom.specs.Flat.{paths_in};
@@ -11,7 +11,8 @@ ghost use Rattle.polyover_c.specs.Listed.{AreEdgesIn, AreEdgesPut, AreListed, ed
 ghost use Rattle.polyover_c.specs.Listed.{IsListingRefused, ListingEnds};
 
 use crate::given::{Contours, read_both};
-use crate::numbers::{fill_of, solver_of};
+use crate::narrowed::{ArrayInt, narrowed_both};
+use crate::numbers::{are_query_numbers, fill_of, solver_of};
 use crate::status::Status;
 use crate::write::write_over;
 use i_overlay::fill_rule::FillRule;
@@ -34,7 +35,7 @@ pub(crate) struct ListedEdges<I> {
 /// The edges of the arrangement of both shapes, with the sides that are filled under the fill rule with the number, put
 /// into the arrays.
 #[tactic(auto, using(crate::proofs::Endings::put_ends, crate::proofs::Endings::refused_ends))]
-pub(crate) fn edges_arrays<I: OverlayInt>(
+pub(crate) fn edges_arrays<I: ArrayInt>(
     alloc: Global,
     fill: u32,
     solver: u32,
@@ -51,7 +52,7 @@ pub(crate) fn edges_arrays<I: OverlayInt>(
         (edge_room coordinates.new fills.new count.new)
         result }
 {
-    match edges_listed(alloc, fill, solver, subject, clip) {
+    match fitted_edges(alloc, fill, solver, subject, clip) {
         Ok(listed) => put(&listed, coordinates, fills, count),
         Err(status) => status,
     }
@@ -81,7 +82,7 @@ fn put<I: IntNumber>(
 
 // The edges as arrays, or why there are none.
 #[tactic(auto, using(crate::proofs::Listed::contours_unlisted, crate::proofs::Listed::memory_unlisted, crate::proofs::Listed::listing_refused, crate::proofs::Listed::edges_answered))]
-pub(crate) fn edges_listed<I: OverlayInt>(
+fn edges_listed<I: OverlayInt>(
     alloc: Global,
     fill: u32,
     solver: u32,
@@ -146,4 +147,55 @@ fn listed<I: IntNumber>(
         fills.push(edge.fill)?;
     }
     Ok(ListedEdges { coordinates, fills })
+}
+
+// The same, at 32 bits where all coordinates fit.
+pub(crate) fn fitted_edges<I: ArrayInt>(
+    alloc: Global,
+    fill: u32,
+    solver: u32,
+    subject: &Contours<I>,
+    clip: &Contours<I>,
+) -> Result<ListedEdges<I>, Status>
+    ensures { MatchResult result
+        (λ l. AreEdgesIn I.whole I.limit fill solver
+        (contours_of subject.now.coordinates.now subject.now.ends.now)
+        (contours_of clip.now.coordinates.now clip.now.ends.now)
+        (flat_edges l.coordinates.items l.fills.items))
+        (IsListingRefused I.whole I.limit fill solver
+        (contours_of subject.now.coordinates.now subject.now.ends.now)
+        (contours_of clip.now.coordinates.now clip.now.ends.now)) }
+{
+    if are_query_numbers(fill, solver) {
+        if let Some(both) = narrowed_both(alloc, subject, clip) {
+            let first = Contours {
+                coordinates: &both.first,
+                ends: subject.ends,
+            };
+            let second = Contours {
+                coordinates: &both.second,
+                ends: clip.ends,
+            };
+            let listed = edges_listed(alloc, fill, solver, &first, &second)?;
+            let listed = widened_edges(alloc, listed)?;
+            return Ok(listed);
+        }
+    }
+    edges_listed(alloc, fill, solver, subject, clip)
+}
+
+// The edges at 32 bits in this type. The only refusal is `Memory`.
+fn widened_edges<I: ArrayInt>(
+    alloc: Global,
+    listed: ListedEdges<i32>,
+) -> Result<ListedEdges<I>, Status>
+    ensures coordinates { IfOk result (λ l. map I.whole l.coordinates.items ≡ listed.coordinates.items) }
+    ensures fills { IfOk result (λ l. l.fills.items ≡ listed.fills.items) }
+    ensures only { IsOkUnless result Status.Memory }
+{
+    let coordinates = I::widened(alloc, listed.coordinates)?;
+    Ok(ListedEdges {
+        coordinates,
+        fills: listed.fills,
+    })
 }

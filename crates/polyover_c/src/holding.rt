@@ -5,22 +5,22 @@ ghost use Rattle.polyover_c.specs.Held.{arrays_of};
 ghost use Rattle.polyover_c.specs.Holding.{ClipsAreHeld, EdgesAreHeld, HierarchyIsHeld, OverlayIsHeld};
 ghost use Rattle.polyover_c.specs.Holding.{SimplificationIsHeld, SlicesAreHeld};
 
-use crate::clip::clip_answer;
+use crate::clip::fitted_clip;
 use crate::clip_options::ClipOptions;
-use crate::edges::edges_listed;
+use crate::edges::fitted_edges;
 use crate::given::Contours;
 use crate::held::{Outcome, hold_edges, hold_linked, hold_nothing, hold_paths, hold_shapes};
-use crate::hierarchy::hierarchy_answer;
+use crate::hierarchy::fitted_hierarchy;
+use crate::narrowed::ArrayInt;
 use crate::numbers::OptionNumbers;
-use crate::overlay::overlay_answer;
-use crate::simplify::simplify_answer;
-use crate::slice::slice_answer;
-use overlay_geom::integer::OverlayInt;
+use crate::overlay::fitted_overlay;
+use crate::simplify::fitted_simplification;
+use crate::slice::fitted_slices;
 use std::alloc::Global;
 
 /// The shapes of the overlay that the numbers ask for.
 #[tactic(auto, using(crate::proofs::Endings::put_ends, crate::proofs::Endings::refused_ends))]
-pub(crate) fn overlay_held<'a, I: OverlayInt + 'a>(
+pub(crate) fn overlay_held<'a, I: ArrayInt + 'a>(
     alloc: Global,
     rule: u32,
     fill: u32,
@@ -33,7 +33,7 @@ pub(crate) fn overlay_held<'a, I: OverlayInt + 'a>(
         (contours_of clip.now.coordinates.now clip.now.ends.now)
         (arrays_of result.held) result.status }
 {
-    match overlay_answer(alloc, rule, fill, options, subject, clip) {
+    match fitted_overlay(alloc, rule, fill, options, subject, clip) {
         Ok(answer) => hold_shapes(answer),
         Err(status) => hold_nothing(status),
     }
@@ -41,7 +41,7 @@ pub(crate) fn overlay_held<'a, I: OverlayInt + 'a>(
 
 /// The shapes that the contours are simplified to.
 #[tactic(auto, using(crate::proofs::Endings::put_ends, crate::proofs::Endings::refused_ends))]
-pub(crate) fn simplification_held<'a, I: OverlayInt + 'a>(
+pub(crate) fn simplification_held<'a, I: ArrayInt + 'a>(
     alloc: Global,
     fill: u32,
     options: OptionNumbers<I::WideUInt>,
@@ -51,7 +51,7 @@ pub(crate) fn simplification_held<'a, I: OverlayInt + 'a>(
         (contours_of given.now.coordinates.now given.now.ends.now)
         (arrays_of result.held) result.status }
 {
-    match simplify_answer(alloc, fill, options, given) {
+    match fitted_simplification(alloc, fill, options, given) {
         Ok(answer) => hold_shapes(answer),
         Err(status) => hold_nothing(status),
     }
@@ -59,7 +59,7 @@ pub(crate) fn simplification_held<'a, I: OverlayInt + 'a>(
 
 /// The shapes of the overlay that the numbers ask for, with the links between them.
 #[tactic(auto, using(crate::proofs::Endings::put_ends, crate::proofs::Endings::refused_ends))]
-pub(crate) fn hierarchy_held<'a, I: OverlayInt + 'a>(
+pub(crate) fn hierarchy_held<'a, I: ArrayInt + 'a>(
     alloc: Global,
     rule: u32,
     fill: u32,
@@ -72,7 +72,7 @@ pub(crate) fn hierarchy_held<'a, I: OverlayInt + 'a>(
         (contours_of clip.now.coordinates.now clip.now.ends.now)
         (arrays_of result.held) result.status }
 {
-    match hierarchy_answer(alloc, rule, fill, options, subject, clip) {
+    match fitted_hierarchy(alloc, rule, fill, options, subject, clip) {
         Ok(answer) => hold_linked(answer),
         Err(status) => hold_nothing(status),
     }
@@ -80,7 +80,7 @@ pub(crate) fn hierarchy_held<'a, I: OverlayInt + 'a>(
 
 /// The shapes into which the lines, which are open paths, slice the subject.
 #[tactic(auto, using(crate::proofs::Endings::put_ends, crate::proofs::Endings::refused_ends))]
-pub(crate) fn slices_held<'a, I: OverlayInt + 'a>(
+pub(crate) fn slices_held<'a, I: ArrayInt + 'a>(
     alloc: Global,
     fill: u32,
     solver: u32,
@@ -92,7 +92,7 @@ pub(crate) fn slices_held<'a, I: OverlayInt + 'a>(
         (contours_of lines.now.coordinates.now lines.now.ends.now)
         (arrays_of result.held) result.status }
 {
-    match slice_answer(alloc, fill, solver, subject, lines) {
+    match fitted_slices(alloc, fill, solver, subject, lines) {
         Ok(answer) => hold_shapes(answer),
         Err(status) => hold_nothing(status),
     }
@@ -100,7 +100,7 @@ pub(crate) fn slices_held<'a, I: OverlayInt + 'a>(
 
 /// The parts of the lines, which are open paths, that a clip by the shape keeps.
 #[tactic(auto, using(crate::proofs::Endings::put_ends, crate::proofs::Endings::refused_ends))]
-pub(crate) fn clips_held<'a, I: OverlayInt + 'a>(
+pub(crate) fn clips_held<'a, I: ArrayInt + 'a>(
     alloc: Global,
     fill: u32,
     options: ClipOptions,
@@ -112,7 +112,7 @@ pub(crate) fn clips_held<'a, I: OverlayInt + 'a>(
         (contours_of lines.now.coordinates.now lines.now.ends.now)
         (arrays_of result.held) result.status }
 {
-    match clip_answer(alloc, fill, options, shape, lines) {
+    match fitted_clip(alloc, fill, options, shape, lines) {
         Ok(answer) => hold_paths(answer),
         Err(status) => hold_nothing(status),
     }
@@ -120,7 +120,7 @@ pub(crate) fn clips_held<'a, I: OverlayInt + 'a>(
 
 /// The edges of the arrangement of both shapes, with the sides that are filled.
 #[tactic(auto, using(crate::proofs::Endings::put_ends, crate::proofs::Endings::refused_ends))]
-pub(crate) fn edges_held<'a, I: OverlayInt + 'a>(
+pub(crate) fn edges_held<'a, I: ArrayInt + 'a>(
     alloc: Global,
     fill: u32,
     solver: u32,
@@ -132,7 +132,7 @@ pub(crate) fn edges_held<'a, I: OverlayInt + 'a>(
         (contours_of clip.now.coordinates.now clip.now.ends.now)
         (arrays_of result.held) result.status }
 {
-    match edges_listed(alloc, fill, solver, subject, clip) {
+    match fitted_edges(alloc, fill, solver, subject, clip) {
         Ok(answer) => hold_edges(answer),
         Err(status) => hold_nothing(status),
     }

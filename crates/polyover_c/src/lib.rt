@@ -20,6 +20,7 @@ pub mod laws;
 mod linked_answer;
 pub mod links;
 mod locate;
+mod narrowed;
 mod numbers;
 pub mod only_faults;
 pub mod only_puts;

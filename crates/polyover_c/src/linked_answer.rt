@@ -6,10 +6,11 @@ ghost use Rattle.overlay_geom.specs.FlatShapes.{AreShapesPacked};
 ghost use Rattle.polyover_c.specs.Linked.{link_of, ArePutLinked, flat_linked, linked_room};
 ghost use Rattle.polyover_c.specs.Written.{AreFlattened, flat_shapes};
 
-use crate::answer::Answer;
+use crate::answer::{Answer, widened};
 use crate::counts::Counts;
 use crate::flatten::{coordinates_of, ends_of};
 use crate::links::{Link, links_of};
+use crate::narrowed::ArrayInt;
 use crate::status::Status;
 use crate::write::write_over;
 use i_overlay::hierarchy::FlatShapeHierarchy;
@@ -47,6 +48,25 @@ pub(crate) fn flattened_hierarchy<I: IntNumber>(
         shape_ends,
     };
     Ok(LinkedAnswer { shapes, links })
+}
+
+/// Returns the answer at 32 bits in this type. The only refusal is `Memory`.
+pub(crate) fn widened_linked<I: ArrayInt>(
+    alloc: Global,
+    answer: LinkedAnswer<i32>,
+) -> Result<LinkedAnswer<I>, Status>
+    ensures coordinates { IfOk result
+        (λ a. map I.whole a.shapes.coordinates.items ≡ answer.shapes.coordinates.items) }
+    ensures contour_ends { IfOk result (λ a. a.shapes.contour_ends.items ≡ answer.shapes.contour_ends.items) }
+    ensures shape_ends { IfOk result (λ a. a.shapes.shape_ends.items ≡ answer.shapes.shape_ends.items) }
+    ensures links { IfOk result (λ a. a.links.items ≡ answer.links.items) }
+    ensures only { IsOkUnless result Status.Memory }
+{
+    let shapes = widened(alloc, answer.shapes)?;
+    Ok(LinkedAnswer {
+        shapes,
+        links: answer.links,
+    })
 }
 
 /// Puts the answer into the arrays, and its counts: `Done`; or `TooSmall`, and the arrays stay as they are.

@@ -1,7 +1,9 @@
 //! Rules and options by the numbers that C knows them by.
 
-ghost use Rattle.std.specs.Prelude.{◌≡◌, ◌<◌, ◌≤◌, MatchResult};
-ghost use Rattle.polyover_c.specs.Asked.{rule_of, fill_of, solver_of, options_of, AreChoices};
+ghost use Rattle.std.specs.Prelude.{◌≡◌, ◌<◌, ◌≤◌, ◌↔◌, IsTrue, MatchResult};
+ghost use Rattle.polyover_c.specs.Asked.{rule_of, fill_of, solver_of, options_of, AreChoices, AreKnown};
+ghost use Rattle.polyover_c.specs.Narrowed.{without_minimum};
+ghost use Rattle.polyover_c.specs.Refusals.{AreQueryNumbers};
 ghost use Rattle.polyover_c.specs.declared.status.Status.TheVariants.{BadRule, BadFill, BadOption};
 
 use crate::status::Status;
@@ -21,6 +23,49 @@ pub(crate) struct OptionNumbers<U> {
     pub(crate) touching: u32,
     pub(crate) solver: u32,
     pub(crate) min_area: U,
+}
+
+impl<U: UIntNumber> OptionNumbers<U> {
+    /// Returns whether contours of all areas are kept.
+    pub(crate) fn keep_all(&self) -> bool
+        ensures { IsTrue result ↔ (U.natural self.now.min_area ≡ 0) }
+    {
+        U::zero().is_at_least(self.min_area)
+    }
+
+    /// Returns whether each choice has a number below 2.
+    pub(crate) fn are_choices(&self) -> bool
+        ensures { IsTrue result ↔ AreChoices self.now }
+    {
+        self.direction < 2 && self.keep < 2 && self.touching < 2 && self.solver < 2
+    }
+
+    /// Returns the numbers at 32 bits, with the smallest area zero.
+    pub(crate) fn without_minimum(&self) -> OptionNumbers<u64>
+        ensures { result ≡ without_minimum self.now }
+    {
+        OptionNumbers {
+            direction: self.direction,
+            keep: self.keep,
+            touching: self.touching,
+            solver: self.solver,
+            min_area: 0,
+        }
+    }
+}
+
+/// Returns whether the numbers of an overlay all stand for something.
+pub(crate) fn are_known<U: UIntNumber>(rule: u32, fill: u32, options: &OptionNumbers<U>) -> bool
+    ensures { IsTrue result ↔ AreKnown rule fill options.now }
+{
+    rule < 7 && fill < 4 && options.are_choices()
+}
+
+/// Returns whether the numbers of another query stand for something.
+pub(crate) fn are_query_numbers(fill: u32, solver: u32) -> bool
+    ensures { IsTrue result ↔ AreQueryNumbers fill solver }
+{
+    fill < 4 && solver < 2
 }
 
 /// The overlay rule with the number; `BadRule` from 7 on.
@@ -82,7 +127,7 @@ pub(crate) fn options_of<U: UIntNumber>(
     ensures { MatchResult result (λ o. AreChoices numbers × (o ≡ options_of numbers))
         (λ s. (s ≡ BadOption) × ¬ (AreChoices numbers)) }
 {
-    if numbers.direction > 1 || numbers.keep > 1 || numbers.touching > 1 || numbers.solver > 1 {
+    if !numbers.are_choices() {
         return Err(Status::BadOption);
     }
     let output_direction = if numbers.direction == 0 {

@@ -1,10 +1,11 @@
 //! Paths as arrays, and these put into arrays of a caller.
 
-ghost use Rattle.std.specs.Prelude.{IfOk, IsOkUnless};
+ghost use Rattle.std.specs.Prelude.{◌≡◌, map, IfOk, IsOkUnless};
 ghost use Rattle.overlay_geom.specs.Paths.{paths_of_shape};
 ghost use Rattle.polyover_c.specs.WrittenPaths.{ArePathsFlattened, ArePathsPut, flat_paths, path_room};
 
 use crate::flatten::{coordinates_of, ends_of};
+use crate::narrowed::ArrayInt;
 use crate::path_counts::PathCounts;
 use crate::status::Status;
 use crate::write::write_over;
@@ -36,6 +37,22 @@ pub(crate) fn flattened_paths<I: IntNumber>(
     let coordinates = coordinates_of(alloc, &flat.points)?;
     let ends = ends_of(alloc, &flat.ranges)?;
     Ok(PathAnswer { coordinates, ends })
+}
+
+/// Returns the paths at 32 bits in this type. The only refusal is `Memory`.
+pub(crate) fn widened_paths<I: ArrayInt>(
+    alloc: Global,
+    answer: PathAnswer<i32>,
+) -> Result<PathAnswer<I>, Status>
+    ensures coordinates { IfOk result (λ a. map I.whole a.coordinates.items ≡ answer.coordinates.items) }
+    ensures ends { IfOk result (λ a. a.ends.items ≡ answer.ends.items) }
+    ensures only { IsOkUnless result Status.Memory }
+{
+    let coordinates = I::widened(alloc, answer.coordinates)?;
+    Ok(PathAnswer {
+        coordinates,
+        ends: answer.ends,
+    })
 }
 
 /// Puts the paths into the arrays, and their counts: `Done`; or `TooSmall`, and the arrays stay as they are.

@@ -11,7 +11,8 @@ ghost use Rattle.polyover_c.specs.Given.{contours_of};
 ghost use Rattle.polyover_c.specs.Related.{AreRelated, IsRelatingRefused, RelatingEnds, bits_of};
 
 use crate::given::{Contours, read_both};
-use crate::numbers::{fill_of, solver_of};
+use crate::narrowed::{ArrayInt, narrowed_both};
+use crate::numbers::{are_query_numbers, fill_of, solver_of};
 use crate::status::Status;
 use i_overlay::fill_rule::FillRule;
 use i_overlay::relate::{PredicateOverlay, Relations};
@@ -45,7 +46,7 @@ fn bit_if(holds: bool, value: u32) -> u32
 /// How the contours of the subject and those of the clip lie to each other, under the fill rule with the number,
 /// written as bits.
 #[tactic(auto, using(crate::proofs::Related::told_ends, crate::proofs::Related::untold_ends))]
-pub(crate) fn relate_arrays<I: OverlayInt>(
+pub(crate) fn relate_arrays<I: ArrayInt>(
     alloc: Global,
     fill: u32,
     solver: u32,
@@ -58,7 +59,7 @@ pub(crate) fn relate_arrays<I: OverlayInt>(
         (contours_of clip.now.coordinates.now clip.now.ends.now)
         relations.old relations.new result }
 {
-    match relation_bits(alloc, fill, solver, subject, clip) {
+    match fitted_bits(alloc, fill, solver, subject, clip) {
         Ok(bits) => {
             *relations = bits;
             Status::Done
@@ -116,4 +117,36 @@ fn relations_between<I: OverlayInt>(
         alloc, subject, clip, fill, solver,
     )?;
     overlay.relations()
+}
+
+// The same bits, told at 32 bits where all coordinates fit.
+fn fitted_bits<I: ArrayInt>(
+    alloc: Global,
+    fill: u32,
+    solver: u32,
+    subject: &Contours<I>,
+    clip: &Contours<I>,
+) -> Result<u32, Status>
+    ensures { MatchResult result
+        (AreRelated I.whole I.limit fill solver
+        (contours_of subject.now.coordinates.now subject.now.ends.now)
+        (contours_of clip.now.coordinates.now clip.now.ends.now))
+        (IsRelatingRefused I.whole I.limit fill solver
+        (contours_of subject.now.coordinates.now subject.now.ends.now)
+        (contours_of clip.now.coordinates.now clip.now.ends.now)) }
+{
+    if are_query_numbers(fill, solver) {
+        if let Some(both) = narrowed_both(alloc, subject, clip) {
+            let first = Contours {
+                coordinates: &both.first,
+                ends: subject.ends,
+            };
+            let second = Contours {
+                coordinates: &both.second,
+                ends: clip.ends,
+            };
+            return relation_bits(alloc, fill, solver, &first, &second);
+        }
+    }
+    relation_bits(alloc, fill, solver, subject, clip)
 }

@@ -13,10 +13,11 @@ ghost use Rattle.polyover_c.specs.Given.{contours_of};
 ghost use Rattle.polyover_c.specs.Simplified.{IsSimplification, IsSimplifyingRefused, SimplifyingEnds};
 ghost use Rattle.polyover_c.specs.Written.{IsFlat, flat_shapes, shape_room};
 
-use crate::answer::{Answer, flattened, put};
+use crate::answer::{Answer, flattened, put, widened};
 use crate::counts::Counts;
 use crate::given::Contours;
-use crate::numbers::{OptionNumbers, fill_of, known_solver, options_of};
+use crate::narrowed::{ArrayInt, narrowed_one};
+use crate::numbers::{OptionNumbers, are_known, fill_of, known_solver, options_of};
 use crate::read::read_contours;
 use crate::status::Status;
 use i_overlay::fill_rule::FillRule;
@@ -31,7 +32,7 @@ use std::alloc::Global;
 
 /// The shapes that the contours are simplified to, put into the arrays.
 #[tactic(auto, using(crate::proofs::Endings::put_ends, crate::proofs::Endings::refused_ends))]
-pub(crate) fn simplify_arrays<I: OverlayInt>(
+pub(crate) fn simplify_arrays<I: ArrayInt>(
     alloc: Global,
     fill: u32,
     options: OptionNumbers<I::WideUInt>,
@@ -47,7 +48,7 @@ pub(crate) fn simplify_arrays<I: OverlayInt>(
         (shape_room coordinates.new contour_ends.new shape_ends.new counts.new)
         result }
 {
-    match simplify_answer(alloc, fill, options, given) {
+    match fitted_simplification(alloc, fill, options, given) {
         Ok(answer) => put(&answer, coordinates, contour_ends, shape_ends, counts),
         Err(status) => status,
     }
@@ -55,7 +56,7 @@ pub(crate) fn simplify_arrays<I: OverlayInt>(
 
 // The shapes that the contours are simplified to, as arrays.
 #[tactic(auto, using(crate::proofs::Simplified::contours_refused, crate::proofs::Simplified::memory_refused, crate::proofs::Simplified::simplifying_refused, crate::proofs::Simplified::contours_simplified))]
-pub(crate) fn simplify_answer<I: OverlayInt>(
+fn simplify_answer<I: OverlayInt>(
     alloc: Global,
     fill: u32,
     options: OptionNumbers<I::WideUInt>,
@@ -94,4 +95,32 @@ fn simplified_shapes<I: OverlayInt>(
 {
     let mut overlay = Overlay::new_custom(alloc, 0, options, solver)?;
     overlay.simplify_source(contours, fill)
+}
+
+// The same, at 32 bits where all coordinates fit and contours of all areas are kept.
+pub(crate) fn fitted_simplification<I: ArrayInt>(
+    alloc: Global,
+    fill: u32,
+    options: OptionNumbers<I::WideUInt>,
+    given: &Contours<I>,
+) -> Result<Answer<I>, Status>
+    ensures { MatchResult result
+        (λ a. IsFlat (IsSimplification I.whole I.limit I.Wide.width I.WideUInt.natural fill options
+        (contours_of given.now.coordinates.now given.now.ends.now)) I.whole
+        (flat_shapes a.coordinates.items a.contour_ends.items a.shape_ends.items))
+        (IsSimplifyingRefused I.whole I.limit fill options
+        (contours_of given.now.coordinates.now given.now.ends.now)) }
+{
+    if options.keep_all() && are_known(0, fill, &options) {
+        if let Some(narrowed) = narrowed_one(alloc, given) {
+            let contours = Contours {
+                coordinates: &narrowed,
+                ends: given.ends,
+            };
+            let answer = simplify_answer(alloc, fill, options.without_minimum(), &contours)?;
+            let answer = widened(alloc, answer)?;
+            return Ok(answer);
+        }
+    }
+    simplify_answer(alloc, fill, options, given)
 }
