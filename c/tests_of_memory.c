@@ -10,13 +10,15 @@ void *__real_realloc(void *old, size_t size);
 
 static int passed = 0;
 static int failed = 0;
-/* the number of requests that are still granted, and the number of refused requests */
+/* the number of requests that are still granted, the number of refused requests, and whether one alone is refused */
 static size_t granted = SIZE_MAX;
 static size_t refused = 0;
+static int refuses_once = 0;
 
 static int grants(void) {
     if (granted == 0) {
         refused++;
+        granted = refuses_once ? SIZE_MAX : 0;
         return 0;
     }
     granted--;
@@ -219,6 +221,9 @@ static void tested_first(call made, const asked *of, polyover_status wanted, int
 
 static const int64_t left[] = {0, 0, 4, 0, 4, 4, 0, 4}, right[] = {2, 2, 6, 2, 6, 6, 2, 6};
 static const int64_t beyond[] = {0, 0, 4, 0, 4, INT64_MAX};
+#define WIDE ((int64_t)1 << 40)
+static const int64_t wide_left[] = {0, 0, 4 * WIDE, 0, 4 * WIDE, 4 * WIDE, 0, 4 * WIDE};
+static const int64_t wide_right[] = {2 * WIDE, 2 * WIDE, 6 * WIDE, 2 * WIDE, 6 * WIDE, 6 * WIDE, 2 * WIDE, 6 * WIDE};
 static const size_t four[] = {4}, three[] = {3}, falling[] = {4, 3};
 static const polyover_contours far = {beyond, 6, three, 1}, bad = {right, 8, falling, 2};
 
@@ -226,22 +231,37 @@ static void choose_solver(asked *of, polyover_solver solver) {
     of->solver = of->options.solver = of->kept.solver = solver;
 }
 
-static asked squares(void) {
+static asked squares_at(const int64_t *subject, const int64_t *clip) {
     asked of = {.rule = POLYOVER_XOR, .fill = POLYOVER_NON_ZERO, .point_coordinates = 6, .location_room = 3};
-    of.subject = (polyover_contours){left, 8, four, 1};
-    of.clip = (polyover_contours){right, 8, four, 1};
+    of.subject = (polyover_contours){subject, 8, four, 1};
+    of.clip = (polyover_contours){clip, 8, four, 1};
     return of;
+}
+
+static asked squares(void) {
+    return squares_at(left, right);
 }
 
 static void answered(void) {
     const call all[] = {overlay, hierarchy, simplify, slice, clip, relate, edges, locate, resolved, overlay_result,
                         hierarchy_result, simplify_result, slice_result, clip_result, edges_result, prepare};
-    asked of = squares();
+    const call with_more[] = {overlay, hierarchy, simplify, slice, clip, relate, edges, overlay_result,
+                              hierarchy_result, simplify_result, slice_result, clip_result, edges_result};
+    asked of = squares(), wide = squares_at(wide_left, wide_right);
     for (size_t at = 0; at < COUNT(all); at++) {
         choose_solver(&of, POLYOVER_SNAPPED);
         REFUSE_EACH(all[at], &of);
         choose_solver(&of, POLYOVER_ROUNDS);
         REFUSE_EACH(all[at], &of);
+    }
+    /* (coordinates beyond the range of 32 bits; and where memory is refused for coordinates of 32 bits alone) */
+    for (size_t at = 0; at < COUNT(with_more); at++) {
+        choose_solver(&wide, POLYOVER_SNAPPED);
+        REFUSE_EACH(with_more[at], &wide);
+        refuses_once = 1;
+        check(status_with(with_more[at], &of, 0, __LINE__) == POLYOVER_OK && refused == 1, "it is answered at 64 bits",
+              0, __LINE__);
+        refuses_once = 0;
     }
 }
 
