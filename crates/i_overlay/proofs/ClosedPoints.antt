@@ -12,15 +12,7 @@ use Rattle.overlay_geom.proofs.Orders.{point_eq-same, point_eq-of_same}
 use Rattle.overlay_plane.specs.Groups.{HasEachPointOnce}
 use Rattle.overlay_plane.proofs.LaterEntries.{Each, Each-from_all_pairs, Each-push}
 use Rattle.overlay_plane.specs.Turn.{no_step}
-
--- the two points differ
-abbrev pub Differ : Point → Point → Type 0
-Differ p q = point_eq p q ≡ false
-
--- in either order
-pub differ_back : (p q : Point) → Differ p q → Differ q p
-differ_back p q apart = false_from_ne_true (point_eq q p)
-    (λ same. both_ways (point_eq p q) apart (point_eq-of_same p q (sym (point_eq-same q p same))))
+use Rattle.overlay_walk.proofs.OnceSorted.{Differ}
 
 -- points that differ are not one
 pub differ_apart : (p q : Point) → Differ p q → ¬ (p ≡ q)

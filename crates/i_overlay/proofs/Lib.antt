@@ -5,7 +5,6 @@ pub mod ClosedPoints
 pub mod DirectionRead
 pub mod HeldAlone
 pub mod LeastPoints
-pub mod OnceSorted
 pub mod OneOutcome
 pub mod OneQuery
 pub mod OneShots

@@ -13,7 +13,7 @@ use Rattle.overlay_plane.proofs.EdgesOfSteps.{edge_by}
 use Rattle.overlay_plane.proofs.StepsAlong.{turns_round}
 use Rattle.overlay_plane.proofs.StraightOn.{part_between, winding-around}
 use Rattle.overlay_plane.proofs.Walks.{along, around, along-parts, around-rotated}
-use Rattle.i_overlay.proofs.ClosedPoints.{differ_back}
+use Rattle.overlay_walk.proofs.OnceSorted.{differ_back}
 
 module _ (f : Point → Point → ℤ) (back : (u v : Point) → f v u ≡ neg_ℤ (f u v)) where
   -- a walk back through points

@@ -20,7 +20,8 @@ use Rattle.overlay_plane.proofs.Entries.{all_of_entries, Contains-map, Contains-
 use Rattle.overlay_plane.proofs.LaterEntries.{Each, Each-from_all_pairs, Each-map}
 use Rattle.overlay_plane.proofs.StepsAlong.{edge_eq-either, turns_round}
 use Rattle.overlay_plane.proofs.WholeCuts.{ends_of_merged, same_merged}
-use Rattle.i_overlay.proofs.ClosedPoints.{Differ, differ_apart, differ_back, starts, none_back}
+use Rattle.i_overlay.proofs.ClosedPoints.{differ_apart, starts, none_back}
+use Rattle.overlay_walk.proofs.OnceSorted.{Differ, differ_back}
 
 -- ---- merging edges with different ends
 

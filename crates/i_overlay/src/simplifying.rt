@@ -5,6 +5,5 @@ mod direction;
 pub(crate) mod flat;
 pub mod laws;
 pub mod outcome;
-mod points_once;
 pub mod shapes;
 pub mod simple;

@@ -7,8 +7,10 @@ pub mod KeptOnes
 pub mod NearestPoints
 pub mod NextPlaces
 pub mod NextTaken
+pub mod OnceSorted
 pub mod OneSide
 pub mod OpenPlaces
+pub mod OwnOrbits
 pub mod PointsRead
 pub mod RoledWalks
 pub mod Runs

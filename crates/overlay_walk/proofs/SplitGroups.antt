@@ -26,7 +26,8 @@ use Rattle.overlay_plane.proofs.ShuffledSteps.{Differ}
 use Rattle.overlay_walk.specs.declared.step.Step.{Step as StepTaken}
 use Rattle.overlay_walk.specs.GroupedContours.{plain_groups}
 use Rattle.overlay_walk.specs.Steps.{plain_step, plain_steps, IsLong}
-use Rattle.overlay_walk.specs.Walks.{plain_walks}
+use Rattle.overlay_walk.specs.Walks.{plain_walks, IsOwnOrbit}
+use Rattle.overlay_walk.proofs.OwnOrbits.{own_orbit}
 
 module _ {I A : Type 0} (whole : I → ℤ) where
   -- groups with the walks that they are cut into, as whole numbers
@@ -87,6 +88,12 @@ module _ (limit : ℕ) (steps : List Step) (good : AreGood limit steps) (filled 
   pub outlines_good : All (AreGood limit) (filter (λ g. not (is_hole filled g)) groups)
   outlines_good = all_of_entries (AreGood limit) (filter (λ g. not (is_hole filled g)) groups)
       (λ g c. group_good g (Contains-from_filter (λ h. not (is_hole filled h)) groups g c).0)
+
+  -- each of them is an orbit from its start
+  pub outlines_own : All IsOwnOrbit (filter (λ g. not (is_hole filled g)) groups)
+  outlines_own = all_of_entries IsOwnOrbit (filter (λ g. not (is_hole filled g)) groups)
+      (λ g c. own_orbit steps good.alternate filled g (group_of steps good.alternate filled groups grouped g
+      (Contains-from_filter (λ h. not (is_hole filled h)) groups g c).0))
 
   -- the facts hold of the steps of all other groups
   pub holes_good : AreGood limit (all_steps (filter (is_hole filled) groups))

@@ -4,6 +4,7 @@ pub mod Kept
 pub mod KeptResults
 pub mod Nearest
 pub mod Places
+pub mod PointsOnce
 pub mod Selection
 pub mod Starts
 pub mod Steps

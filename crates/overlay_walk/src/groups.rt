@@ -10,7 +10,7 @@ ghost use Rattle.overlay_plane.specs.Contours.{IsCutInto};
 ghost use Rattle.overlay_plane.specs.MinimumArea.{reaches};
 ghost use Rattle.overlay_plane.specs.RoledContours.{IsCutInGroups};
 ghost use Rattle.overlay_walk.specs.Steps.{filled_hand, plain_hand, plain_steps, IsLong};
-ghost use Rattle.overlay_walk.specs.Walks.{plain_walks};
+ghost use Rattle.overlay_walk.specs.Walks.{plain_walks, IsOwnOrbit};
 ghost use Rattle.overlay_walk.specs.GroupedContours.{plain_contours};
 
 use crate::area::large_walks;
@@ -20,6 +20,7 @@ use crate::filled_side::is_hole;
 use crate::group_contours::{group_contours, push_free_holes};
 use crate::hand::{Hand, HandRule};
 use crate::open_steps::OpenSteps;
+use crate::points_once::leave_each_point_once;
 use crate::step::Step;
 use overlay_arrange::options::ContourDirection;
 use overlay_geom::number::{IntNumber, UIntNumber, WideIntNumber};
@@ -81,7 +82,7 @@ fn split_groups<I: IntNumber, A: Allocator + Clone>(
     Ok((outline_groups, hole_steps))
 }
 
-// Returns the walks of each group by a hand.
+// Returns the walks of each group by a hand. Each group is an orbit from its start.
 fn cut_each<I: IntNumber, A: Allocator + Clone>(
     alloc: A,
     groups: Vec<Vec<Step<I>, A>, A>,
@@ -90,15 +91,39 @@ fn cut_each<I: IntNumber, A: Allocator + Clone>(
     requires alternate { All Alternates (plain_walks I.whole groups.items) }
     requires once { All HasEachOnce (plain_walks I.whole groups.items) }
     requires long { All (All (IsLong I.limit)) (plain_walks I.whole groups.items) }
+    requires own { All IsOwnOrbit (plain_walks I.whole groups.items) }
     ensures cut { IfOk result (λ r. AllZip (λ g ws. IsCutInto (λ s. plain_hand hand) (plain_steps I.whole g.items)
         (plain_walks I.whole ws.items)) groups.items r.items) }
     ensures long { IfOk result (λ r. All (λ ws. All (All (IsLong I.limit)) (plain_walks I.whole ws.items)) r.items) }
 {
     let mut cut = Vec::new(alloc.clone()?);
     for group in groups {
-        cut.push(cut_again(alloc.clone()?, group, hand)?)?;
+        cut.push(cut_group(alloc.clone()?, group, hand)?)?;
     }
     Ok(cut)
+}
+
+// Returns the walks of a group by a hand. The group is an orbit from its start: where it visits no point twice, it is
+// its one walk by either hand.
+fn cut_group<I: IntNumber, A: Allocator + Clone>(
+    alloc: A,
+    group: Vec<Step<I>, A>,
+    hand: Hand,
+) -> Result<Vec<Vec<Step<I>, A>, A>, AllocError>
+    requires alternate { Alternates (plain_steps I.whole group.items) }
+    requires once { HasEachOnce (plain_steps I.whole group.items) }
+    requires long { All (IsLong I.limit) (plain_steps I.whole group.items) }
+    requires own { IsOwnOrbit (plain_steps I.whole group.items) }
+    ensures cut { IfOk result (λ ws. IsCutInto (λ s. plain_hand hand) (plain_steps I.whole group.items)
+        (plain_walks I.whole ws.items)) }
+    ensures long { IfOk result (λ ws. All (All (IsLong I.limit)) (plain_walks I.whole ws.items)) }
+{
+    if !leave_each_point_once(alloc.clone()?, &group)? {
+        return cut_again(alloc, group, hand);
+    }
+    let mut walks = Vec::with_capacity(alloc, 1)?;
+    walks.push(group)?;
+    Ok(walks)
 }
 
 // Returns the walks of steps by a hand.

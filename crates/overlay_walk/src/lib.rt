@@ -17,6 +17,7 @@ pub mod numbered_edge;
 mod onward;
 mod open_places;
 pub mod open_steps;
+pub mod points_once;
 pub mod selected_steps;
 pub mod selected_walks;
 pub mod step;

@@ -13,7 +13,6 @@ ghost use Rattle.i_overlay.specs.Outcome.{IsOutcome};
 
 use crate::simplifying::direction::direction_of;
 use crate::simplifying::outcome::{Outcome, outcome_of};
-use crate::simplifying::points_once::has_each_point_once;
 use overlay_arrange::data::CountWithData;
 use overlay_arrange::fill_rule::FillRule;
 use overlay_arrange::options::{ContourDirection, ShapeType};
@@ -24,6 +23,7 @@ use overlay_geom::error::OverlayError;
 use overlay_geom::number::IntNumber;
 use overlay_geom::point::IntPoint;
 use overlay_geom::solver::Solver;
+use overlay_walk::points_once::has_each_point_once;
 use std::alloc::{AllocError, Allocator};
 
 /// Drops what the core holds and mends it, adds the contour as the subject's, brings it into an

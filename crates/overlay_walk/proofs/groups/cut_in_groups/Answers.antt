@@ -12,8 +12,9 @@ use Rattle.overlay_plane.specs.MinimumArea.{reaches}
 use Rattle.overlay_plane.specs.RoledContours.{hole_to_bind}
 use Rattle.overlay_walk.specs.GroupedContours.{plain_groups}
 use Rattle.overlay_walk.specs.Steps.{filled_hand, plain_hand, plain_steps, IsLong}
-use Rattle.overlay_walk.specs.Walks.{plain_walks}
+use Rattle.overlay_walk.specs.Walks.{plain_walks, IsOwnOrbit}
 use Rattle.overlay_walk.proofs.SplitGroups.{cut_plain, outlines_plain, holes_plain, AreGood, outlines_good, holes_good}
+use Rattle.overlay_walk.proofs.SplitGroups.{outlines_own}
 use Rattle.overlay_walk.proofs.groups.cut_in_groups.Goals as goal
 
 pub cut_each-requires-clause-alternate : goal.cut_each-requires-clause-alternate
@@ -57,6 +58,19 @@ cut_each-requires-clause-long g c =
     (outlines_good g.I.IntNumber.limit (plain_steps whole c.args.steps.now)
     (record { alternate = c.requires.alternate; once = c.requires.once; long = c.requires.long }) filled
     (plain_walks whole c.in_ok-groups.groups.items) grouped))
+
+pub cut_each-requires-clause-own : goal.cut_each-requires-clause-own
+cut_each-requires-clause-own g c =
+    let whole = g.I.IntNumber.whole in
+    let filled = filled_hand c.args.direction in
+    let grouped = subst (λ h. IsCutInto (λ s. h) (plain_steps whole c.args.steps.now)
+    (plain_walks whole c.in_ok-groups.groups.items)) c.filled_hand.ensures c.in_ok-groups.ensures.cut in
+    subst (λ gs. All IsOwnOrbit gs)
+    (sym (outlines_plain whole filled c.in_ok-groups.groups.items c.in_ok-outline_groups.outline_groups.items
+    c.in_ok-outline_groups.ensures.outlines))
+    (outlines_own g.I.IntNumber.limit (plain_steps whole c.args.steps.now)
+    (record { alternate = c.requires.alternate; once = c.requires.once; long = c.requires.long }) filled
+    (plain_walks whole c.in_ok-groups.groups.items) grouped)
 
 pub cut_again-requires-clause-alternate : goal.cut_again-requires-clause-alternate
 cut_again-requires-clause-alternate g c =

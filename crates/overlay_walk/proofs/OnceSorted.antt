@@ -18,9 +18,17 @@ use Rattle.overlay_geom.proofs.PointOrder.{point_lt-before_up_to}
 use Rattle.overlay_plane.specs.Groups.{HasEachPointOnce}
 use Rattle.overlay_plane.proofs.LaterEntries.{Each, Each-from_all_pairs, AllPairs-from_each}
 use Rattle.overlay_plane.proofs.ShuffledPairs.{pairs_shuffled}
-use Rattle.i_overlay.specs.Points.{differ_along, all_next_differ}
-use Rattle.i_overlay.proofs.ClosedPoints.{Differ, differ_back}
+use Rattle.overlay_walk.specs.PointsOnce.{differ_along, all_next_differ}
 use Rattle.std.proofs.lemmas.Bool.{not-true}
+
+-- the two points differ
+abbrev pub Differ : Point → Point → Type 0
+Differ p q = point_eq p q ≡ false
+
+-- in either order
+pub differ_back : (p q : Point) → Differ p q → Differ q p
+differ_back p q apart = false_from_ne_true (point_eq q p)
+    (λ same. both_ways (point_eq p q) apart (point_eq-of_same p q (sym (point_eq-same q p same))))
 
 -- the second point is not smaller
 abbrev pub InOrder : Point → Point → Type 0

@@ -1,8 +1,8 @@
 -- The points to come differ one from another as all do.
 use Rattle.std.proofs.Common.{◌≡◌, drop}
 use Rattle.overlay_geom.specs.Points.{plain_point, plain_points}
-use Rattle.i_overlay.specs.Points.{differ_along, all_next_differ}
-use Rattle.i_overlay.proofs.simplifying.points_once.all_next_differ.Given as goal
+use Rattle.overlay_walk.specs.PointsOnce.{differ_along, all_next_differ}
+use Rattle.overlay_walk.proofs.points_once.all_next_differ.Given as goal
 
 abbrev pub invariant-loop-number : goal.invariant-loop-number
 invariant-loop-number g l =

@@ -1,0 +1,10 @@
+-- The points so far are those that the steps so far leave.
+use Rattle.std.proofs.Common.{◌≡◌, take}
+use Rattle.overlay_geom.specs.Plane.{points_of}
+use Rattle.overlay_geom.specs.Points.{plain_points}
+use Rattle.overlay_walk.specs.Steps.{plain_steps}
+use Rattle.overlay_walk.proofs.points_once.points_left.Given as goal
+
+abbrev pub invariant-loop-step : goal.invariant-loop-step
+invariant-loop-step g l = plain_points g.I.IntNumber.whole l.points.items
+    ≡ points_of (plain_steps g.I.IntNumber.whole (take l.step-index l.steps))
