@@ -31,10 +31,11 @@ pub fn cut_into_contours<I: IntNumber, A: Allocator + Clone>(
     ensures among { IfOk result (λ ws. All (λ w. All (Contains steps.old) w.items) ws.items) }
     ensures none_left { OnOk result (steps.new ≡ []) }
 {
+    let mut room = Vec::new(alloc.clone()?);
     let mut contours = Vec::new(alloc);
     while let Some(start) = steps.start() {
         let hand = hand_by(rule, start);
-        contours.push(steps.walk(start, hand)?)?;
+        contours.push(steps.walk(&mut room, start, hand)?)?;
     }
     Ok(contours)
 }

@@ -18,6 +18,7 @@ use crate::onward::{noted, onward_places};
 use crate::step::Step;
 use overlay_arrange::edge::compare_points;
 use overlay_arrange::sort_points::order_by_points;
+use overlay_geom::flat::copied;
 use overlay_geom::number::IntNumber;
 use std::alloc::{AllocError, Allocator};
 use std::marker::Model;
@@ -124,8 +125,14 @@ impl<I: IntNumber, A: Allocator + Clone> OpenSteps<I, A> {
 
     /// Takes the orbit of a step by a hand, in the steps left. A ray that turns by the hand at the end of a step, from
     /// the way back, meets the next step first. The steps left lead on by the hand: a step leaves the end of each, and
-    /// no two have the same next step. After a refusal, the steps left are open.
-    pub fn walk(&mut self, start: Step<I>, hand: Hand) -> Result<Vec<Step<I>, A>, AllocError>
+    /// no two have the same next step. The steps are gathered in the room that is lent, and its content is lost. After a
+    /// refusal, the steps left are open.
+    pub fn walk(
+        &mut self,
+        room: &mut Vec<Step<I>, A>,
+        start: Step<I>,
+        hand: Hand,
+    ) -> Result<Vec<Step<I>, A>, AllocError>
         requires leads_on { LeadsOn (plain_steps I.whole self.old) (plain_hand hand) }
         requires once { HasEachOnce (plain_steps I.whole self.old) }
         requires left { Contains self.old start }
@@ -137,12 +144,14 @@ impl<I: IntNumber, A: Allocator + Clone> OpenSteps<I, A> {
             plain_steps I.whole self.new ≡ without (plain_steps I.whole self.old) (plain_steps I.whole w.items)) }
         ensures fewer { OnOk result (All (Contains self.old) self.new) }
     {
-        let mut walk = Vec::new(self.steps.allocator().clone()?);
+        let alloc = self.steps.allocator().clone()?;
+        room.clear();
         let mut step = start;
         loop {
-            walk.push(step)?;
+            room.push(step)?;
             step = self.take_next(step, hand);
             if is_same(step, start) {
+                let walk = copied(alloc, room)?;
                 return Ok(walk);
             }
         }
