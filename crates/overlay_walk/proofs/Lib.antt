@@ -15,6 +15,7 @@ pub mod PointsRead
 pub mod RoledWalks
 pub mod Runs
 pub mod SelectedByBits
+pub mod SelectedGroups
 pub mod SelectedLong
 pub mod SplitGroups
 pub mod StartOrder

@@ -1,7 +1,7 @@
 //! The cut with groups. Groups are the orbits by the hand of the filled side. Each group is cut once more by the hand
 //! of the empty side, into contours that visit no point twice.
 
-ghost use Rattle.std.specs.Prelude.{◌≡◌, not, filter, All, IfOk};
+ghost use Rattle.std.specs.Prelude.{◌≡◌, [], not, filter, All, IfOk};
 ghost use Rattle.std.specs.List.{AllZip, flat_map};
 ghost use Rattle.overlay_plane.specs.Alternates.{Alternates};
 ghost use Rattle.overlay_plane.specs.BesideOrbits.{HasEachOnce};
@@ -27,36 +27,39 @@ use overlay_geom::number::{IntNumber, UIntNumber, WideIntNumber};
 use std::alloc::{AllocError, Allocator};
 
 /// Walks all steps left, in groups: orbits by the hand of the filled side. This is the left hand where the direction is
-/// counterclockwise. The steps alternate round every node. After a refusal, the steps left are open.
+/// counterclockwise. The steps alternate round every node.
 ///
 /// A group that begins with an edge filled below belongs to an outline. It is walked again by the hand of the empty
 /// side, from the same start; the other walks in it are holes of that shape. The steps of all other groups together are
 /// walked by that hand last. Their walks are holes whose shape is still to be found.
 ///
-/// Contours with three points or more that reach the minimum area are returned; a hole of an outline's group only with
-/// its outline.
+/// Returns the contours with three points or more that reach the minimum area, a hole of an outline's group only with
+/// its outline. Also returns the memory of the steps, as a list without steps.
 pub fn cut_in_groups<I: IntNumber, A: Allocator + Clone>(
     alloc: A,
-    steps: &mut OpenSteps<I, A>,
+    mut steps: OpenSteps<I, A>,
     direction: ContourDirection,
     min_output_area: I::WideUInt,
-) -> Result<Vec<Contour<I, A>, A>, AllocError>
-    requires alternate { Alternates (plain_steps I.whole steps.old) }
-    requires once { HasEachOnce (plain_steps I.whole steps.old) }
-    requires long { All (IsLong I.limit) (plain_steps I.whole steps.old) }
-    ensures cut { IfOk result (λ cs. IsCutInGroups (filled_hand direction)
-        (λ w. reaches I.Wide.width (I.WideUInt.natural min_output_area) w) (plain_steps I.whole steps.old)
-        (plain_contours I.whole cs.items)) }
+) -> Result<(Vec<Contour<I, A>, A>, Vec<Step<I>, A>), AllocError>
+    requires alternate { Alternates (plain_steps I.whole steps) }
+    requires once { HasEachOnce (plain_steps I.whole steps) }
+    requires long { All (IsLong I.limit) (plain_steps I.whole steps) }
+    ensures cut { IfOk result (λ r. IsCutInGroups (filled_hand direction)
+        (λ w. reaches I.Wide.width (I.WideUInt.natural min_output_area) w) (plain_steps I.whole steps)
+        (plain_contours I.whole r.0.items)) }
+    ensures room { IfOk result (λ r. r.1.items ≡ []) }
 {
     let rule = HandRule::Always(filled_hand(direction));
-    let groups = cut_into_contours(alloc.clone()?, steps, rule)?;
+    let groups = cut_into_contours(alloc.clone()?, &mut steps, rule)?;
+    // (the marks and places of the steps go before the groups are cut)
+    let room = steps.into_room();
     let (outline_groups, hole_steps) = split_groups(alloc.clone()?, groups, direction)?;
     let empty = empty_hand(direction);
     let inside = cut_each(alloc.clone()?, outline_groups, empty)?;
     let others = cut_again(alloc.clone()?, hole_steps, empty)?;
     let mut contours = group_contours(alloc.clone()?, inside, min_output_area)?;
     push_free_holes(&mut contours, large_walks(alloc, others, min_output_area)?)?;
-    Ok(contours)
+    Ok((contours, room))
 }
 
 // Returns the groups that are outlines, and the steps of all groups that are holes.

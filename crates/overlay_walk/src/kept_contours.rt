@@ -16,7 +16,9 @@ use crate::area::large_walks;
 use crate::buffer::BooleanExtractionBuffer;
 use crate::contour::{Contour, Role};
 use crate::filled_side::is_hole;
-use crate::selected_walks::{selected_contours, selected_walks, selected_walks_of};
+use crate::selected_walks::{
+    selected_contours, selected_contours_of, selected_walks, selected_walks_of,
+};
 use crate::step::Step;
 use overlay_arrange::count::EdgeCount;
 use overlay_arrange::graph::Graph;
@@ -61,7 +63,7 @@ pub fn kept_contours<I: IntNumber, C: EdgeCount, A: Allocator + Clone>(
     roled(graph.allocator().clone()?, large, direction)
 }
 
-/// Returns the contours that [`kept_contours`] gives. Without `ogc` it drops the graph once the steps are selected.
+/// Returns the contours that [`kept_contours`] gives. It drops the graph once the steps are selected.
 pub fn kept_contours_of<I: IntNumber, C: EdgeCount, A: Allocator + Clone>(
     graph: Graph<I, C, A>,
     overlay_rule: OverlayRule,
@@ -74,14 +76,15 @@ pub fn kept_contours_of<I: IntNumber, C: EdgeCount, A: Allocator + Clone>(
         (graph_edges graph) (plain_contours I.whole cs.items)) }
     ensures long { IfOk result (λ cs. All (All (IsLong I.limit)) (walks_in (plain_contours I.whole cs.items))) }
 {
-    if options.ogc {
-        return kept_contours(&graph, overlay_rule, options, buffer);
-    }
     graph.note_arrangement();
-    let alloc = graph.allocator().clone()?;
     let direction = options.output_direction;
+    let least = options.min_output_area;
+    if options.ogc {
+        return selected_contours_of(graph, overlay_rule, direction, least, buffer);
+    }
+    let alloc = graph.allocator().clone()?;
     let walks = selected_walks_of(graph, overlay_rule, direction, buffer)?;
-    let large = large_walks(alloc.clone()?, walks, options.min_output_area)?;
+    let large = large_walks(alloc.clone()?, walks, least)?;
     roled(alloc, large, direction)
 }
 

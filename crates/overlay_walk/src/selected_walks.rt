@@ -101,10 +101,33 @@ pub fn selected_contours<I: IntNumber, C: EdgeCount, A: Allocator + Clone>(
 {
     graph.note_arrangement();
     let room = buffer.take_room(graph.allocator().clone()?);
-    let mut open = open_selected(graph, overlay_rule, direction, room)?;
+    let open = open_selected(graph, overlay_rule, direction, room)?;
     let alloc = graph.allocator().clone()?;
-    let contours = cut_in_groups(alloc, &mut open, direction, min_output_area)?;
-    buffer.put_room(open.into_room());
+    let (contours, room) = cut_in_groups(alloc, open, direction, min_output_area)?;
+    buffer.put_room(room);
+    Ok(contours)
+}
+
+/// Returns the contours that [`selected_contours`] gives. It drops the graph as soon as the steps are selected.
+pub fn selected_contours_of<I: IntNumber, C: EdgeCount, A: Allocator + Clone>(
+    graph: Graph<I, C, A>,
+    overlay_rule: OverlayRule,
+    direction: ContourDirection,
+    min_output_area: I::WideUInt,
+    buffer: &mut BooleanExtractionBuffer<I, A>,
+) -> Result<Vec<Contour<I, A>, A>, AllocError>
+    requires { HasBalancedCounts (graph_edges graph) }
+    ensures cut { IfOk result (λ cs. IsCutInGroups (filled_hand direction)
+        (λ w. reaches I.Wide.width (I.WideUInt.natural min_output_area) w)
+        (selected_steps (rules_hold graph.fill_rule overlay_rule) subj_of clip_of (filled_hand direction)
+        (graph_edges graph)) (plain_contours I.whole cs.items)) }
+{
+    graph.note_arrangement();
+    let alloc = graph.allocator().clone()?;
+    let room = buffer.take_room(alloc.clone()?);
+    let open = open_selected_of(graph, overlay_rule, direction, room)?;
+    let (contours, room) = cut_in_groups(alloc, open, direction, min_output_area)?;
+    buffer.put_room(room);
     Ok(contours)
 }
 

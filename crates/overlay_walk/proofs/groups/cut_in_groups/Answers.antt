@@ -21,13 +21,13 @@ pub cut_each-requires-clause-alternate : goal.cut_each-requires-clause-alternate
 cut_each-requires-clause-alternate g c =
     let whole = g.I.IntNumber.whole in
     let filled = filled_hand c.args.direction in
-    let grouped = subst (λ h. IsCutInto (λ s. h) (plain_steps whole c.args.steps.now)
+    let grouped = subst (λ h. IsCutInto (λ s. h) (plain_steps whole c.args.steps)
     (plain_walks whole c.in_ok-groups.groups.items)) c.filled_hand.ensures c.in_ok-groups.ensures.cut in
     subst (λ gs. All Alternates gs)
     (sym (outlines_plain whole filled c.in_ok-groups.groups.items c.in_ok-outline_groups.outline_groups.items
     c.in_ok-outline_groups.ensures.outlines))
     (All-weaker (AreGood g.I.IntNumber.limit) Alternates (λ h good. good.alternate) _
-    (outlines_good g.I.IntNumber.limit (plain_steps whole c.args.steps.now)
+    (outlines_good g.I.IntNumber.limit (plain_steps whole c.args.steps)
     (record { alternate = c.requires.alternate; once = c.requires.once; long = c.requires.long }) filled
     (plain_walks whole c.in_ok-groups.groups.items) grouped))
 
@@ -35,13 +35,13 @@ pub cut_each-requires-clause-once : goal.cut_each-requires-clause-once
 cut_each-requires-clause-once g c =
     let whole = g.I.IntNumber.whole in
     let filled = filled_hand c.args.direction in
-    let grouped = subst (λ h. IsCutInto (λ s. h) (plain_steps whole c.args.steps.now)
+    let grouped = subst (λ h. IsCutInto (λ s. h) (plain_steps whole c.args.steps)
     (plain_walks whole c.in_ok-groups.groups.items)) c.filled_hand.ensures c.in_ok-groups.ensures.cut in
     subst (λ gs. All HasEachOnce gs)
     (sym (outlines_plain whole filled c.in_ok-groups.groups.items c.in_ok-outline_groups.outline_groups.items
     c.in_ok-outline_groups.ensures.outlines))
     (All-weaker (AreGood g.I.IntNumber.limit) HasEachOnce (λ h good. good.once) _
-    (outlines_good g.I.IntNumber.limit (plain_steps whole c.args.steps.now)
+    (outlines_good g.I.IntNumber.limit (plain_steps whole c.args.steps)
     (record { alternate = c.requires.alternate; once = c.requires.once; long = c.requires.long }) filled
     (plain_walks whole c.in_ok-groups.groups.items) grouped))
 
@@ -49,13 +49,13 @@ pub cut_each-requires-clause-long : goal.cut_each-requires-clause-long
 cut_each-requires-clause-long g c =
     let whole = g.I.IntNumber.whole in
     let filled = filled_hand c.args.direction in
-    let grouped = subst (λ h. IsCutInto (λ s. h) (plain_steps whole c.args.steps.now)
+    let grouped = subst (λ h. IsCutInto (λ s. h) (plain_steps whole c.args.steps)
     (plain_walks whole c.in_ok-groups.groups.items)) c.filled_hand.ensures c.in_ok-groups.ensures.cut in
     subst (λ gs. All (All (IsLong g.I.IntNumber.limit)) gs)
     (sym (outlines_plain whole filled c.in_ok-groups.groups.items c.in_ok-outline_groups.outline_groups.items
     c.in_ok-outline_groups.ensures.outlines))
     (All-weaker (AreGood g.I.IntNumber.limit) (All (IsLong g.I.IntNumber.limit)) (λ h good. good.long) _
-    (outlines_good g.I.IntNumber.limit (plain_steps whole c.args.steps.now)
+    (outlines_good g.I.IntNumber.limit (plain_steps whole c.args.steps)
     (record { alternate = c.requires.alternate; once = c.requires.once; long = c.requires.long }) filled
     (plain_walks whole c.in_ok-groups.groups.items) grouped))
 
@@ -63,12 +63,12 @@ pub cut_each-requires-clause-own : goal.cut_each-requires-clause-own
 cut_each-requires-clause-own g c =
     let whole = g.I.IntNumber.whole in
     let filled = filled_hand c.args.direction in
-    let grouped = subst (λ h. IsCutInto (λ s. h) (plain_steps whole c.args.steps.now)
+    let grouped = subst (λ h. IsCutInto (λ s. h) (plain_steps whole c.args.steps)
     (plain_walks whole c.in_ok-groups.groups.items)) c.filled_hand.ensures c.in_ok-groups.ensures.cut in
     subst (λ gs. All IsOwnOrbit gs)
     (sym (outlines_plain whole filled c.in_ok-groups.groups.items c.in_ok-outline_groups.outline_groups.items
     c.in_ok-outline_groups.ensures.outlines))
-    (outlines_own g.I.IntNumber.limit (plain_steps whole c.args.steps.now)
+    (outlines_own g.I.IntNumber.limit (plain_steps whole c.args.steps)
     (record { alternate = c.requires.alternate; once = c.requires.once; long = c.requires.long }) filled
     (plain_walks whole c.in_ok-groups.groups.items) grouped)
 
@@ -76,12 +76,12 @@ pub cut_again-requires-clause-alternate : goal.cut_again-requires-clause-alterna
 cut_again-requires-clause-alternate g c =
     let whole = g.I.IntNumber.whole in
     let filled = filled_hand c.args.direction in
-    let grouped = subst (λ h. IsCutInto (λ s. h) (plain_steps whole c.args.steps.now)
+    let grouped = subst (λ h. IsCutInto (λ s. h) (plain_steps whole c.args.steps)
     (plain_walks whole c.in_ok-groups.groups.items)) c.filled_hand.ensures c.in_ok-groups.ensures.cut in
     subst (λ ss. Alternates ss) (sym
     (holes_plain whole filled c.in_ok-groups.groups.items c.in_ok-outline_groups.hole_steps.items
     c.in_ok-outline_groups.ensures.holes))
-    (holes_good g.I.IntNumber.limit (plain_steps whole c.args.steps.now)
+    (holes_good g.I.IntNumber.limit (plain_steps whole c.args.steps)
     (record { alternate = c.requires.alternate; once = c.requires.once; long = c.requires.long }) filled
     (plain_walks whole c.in_ok-groups.groups.items) grouped).alternate
 
@@ -89,12 +89,12 @@ pub cut_again-requires-clause-once : goal.cut_again-requires-clause-once
 cut_again-requires-clause-once g c =
     let whole = g.I.IntNumber.whole in
     let filled = filled_hand c.args.direction in
-    let grouped = subst (λ h. IsCutInto (λ s. h) (plain_steps whole c.args.steps.now)
+    let grouped = subst (λ h. IsCutInto (λ s. h) (plain_steps whole c.args.steps)
     (plain_walks whole c.in_ok-groups.groups.items)) c.filled_hand.ensures c.in_ok-groups.ensures.cut in
     subst (λ ss. HasEachOnce ss) (sym
     (holes_plain whole filled c.in_ok-groups.groups.items c.in_ok-outline_groups.hole_steps.items
     c.in_ok-outline_groups.ensures.holes))
-    (holes_good g.I.IntNumber.limit (plain_steps whole c.args.steps.now)
+    (holes_good g.I.IntNumber.limit (plain_steps whole c.args.steps)
     (record { alternate = c.requires.alternate; once = c.requires.once; long = c.requires.long }) filled
     (plain_walks whole c.in_ok-groups.groups.items) grouped).once
 
@@ -102,12 +102,12 @@ pub cut_again-requires-clause-long : goal.cut_again-requires-clause-long
 cut_again-requires-clause-long g c =
     let whole = g.I.IntNumber.whole in
     let filled = filled_hand c.args.direction in
-    let grouped = subst (λ h. IsCutInto (λ s. h) (plain_steps whole c.args.steps.now)
+    let grouped = subst (λ h. IsCutInto (λ s. h) (plain_steps whole c.args.steps)
     (plain_walks whole c.in_ok-groups.groups.items)) c.filled_hand.ensures c.in_ok-groups.ensures.cut in
     subst (λ ss. All (IsLong g.I.IntNumber.limit) ss)
     (sym (holes_plain whole filled c.in_ok-groups.groups.items c.in_ok-outline_groups.hole_steps.items
     c.in_ok-outline_groups.ensures.holes))
-    (holes_good g.I.IntNumber.limit (plain_steps whole c.args.steps.now)
+    (holes_good g.I.IntNumber.limit (plain_steps whole c.args.steps)
     (record { alternate = c.requires.alternate; once = c.requires.once; long = c.requires.long }) filled
     (plain_walks whole c.in_ok-groups.groups.items) grouped).long
 
@@ -125,7 +125,7 @@ returns g c = record {
       c.in_ok-outline_groups.ensures.holes in
       record {
         groups = plain_walks whole groups;
-        grouped = subst (λ h. IsCutInto (λ s. h) (plain_steps whole c.args.steps.now) (plain_walks whole groups))
+        grouped = subst (λ h. IsCutInto (λ s. h) (plain_steps whole c.args.steps) (plain_walks whole groups))
             c.filled_hand.ensures c.in_ok-groups.ensures.cut;
         inside = plain_groups whole c.in_ok-inside.inside.items;
         cut_inside = subst (λ h. AllZip (λ v ws. IsCutInto (λ s. h) v ws)
@@ -146,4 +146,5 @@ returns g c = record {
             (ap (plain_walks whole) c.in_ok-large_walks.ensures.ok
             ∙ map-filter (λ (w : _). plain_steps whole w.items) keeps others);
       };
+  room = c.into_room-room.ensures;
 }

@@ -1,15 +1,46 @@
--- The walks without groups are kept as the options ask, so the facts of kept contours hold of them.
+-- The contours are kept as the options ask, so the facts of kept contours hold of them.
 use Rattle.std.proofs.Common.{All}
 use Rattle.std.proofs.lemmas.Result.{IfOk-weaker}
 use Rattle.overlay_plane.specs.BoundContours.{walks_in}
 use Rattle.overlay_arrange.specs.Graphs.{graph_edges}
+use Rattle.overlay_arrange.proofs.RuledContents.{ruled_content}
 use Rattle.overlay_walk.specs.Asked.{Asked, asked}
 use Rattle.overlay_walk.specs.GroupedContours.{plain_contours}
 use Rattle.overlay_walk.specs.KeptResults.{AreKeptResults}
 use Rattle.overlay_walk.specs.Steps.{IsLong}
 use Rattle.overlay_walk.specs.Walks.{plain_walks}
-use Rattle.overlay_walk.proofs.KeptOnes.{kept_without, kept_results, kept_are_long, large_alike}
+use Rattle.overlay_walk.proofs.KeptOnes.{kept_with_groups, kept_without, kept_results, kept_are_long, large_alike}
 use Rattle.overlay_walk.proofs.kept_contours.kept_contours_of.Goals as goal
+
+pub returns-then-options-clause-kept : goal.returns-then-options-clause-kept
+returns-then-options-clause-kept g c =
+    let whole = g.I.IntNumber.whole in
+    let q : Asked = asked g.I.Wide.WideIntNumber.width g.I.WideUInt.UIntNumber.natural c.args.graph.fill_rule
+    c.args.overlay_rule c.args.options in
+    let es = graph_edges c.args.graph in
+    let ruled = ruled_content g.I.IntNumber.limit es c.note_arrangement.ensures.content
+    c.note_arrangement.ensures.ascending c.note_arrangement.ensures.settled c.requires c.args.graph.fill_rule
+    c.args.overlay_rule in
+    IfOk-weaker c.selected_contours_of.result _ (λ cs. AreKeptResults q es (plain_contours whole cs.items))
+    (λ cs cut. kept_results q es (plain_contours whole cs.items)
+    (kept_with_groups q es (plain_contours whole cs.items) c.if-options.true ruled cut))
+    c.selected_contours_of.ensures.cut
+
+pub returns-then-options-clause-long : goal.returns-then-options-clause-long
+returns-then-options-clause-long g c =
+    let whole = g.I.IntNumber.whole in
+    let limit = g.I.IntNumber.limit in
+    let q : Asked = asked g.I.Wide.WideIntNumber.width g.I.WideUInt.UIntNumber.natural c.args.graph.fill_rule
+    c.args.overlay_rule c.args.options in
+    let es = graph_edges c.args.graph in
+    let ruled = ruled_content limit es c.note_arrangement.ensures.content
+    c.note_arrangement.ensures.ascending c.note_arrangement.ensures.settled c.requires c.args.graph.fill_rule
+    c.args.overlay_rule in
+    IfOk-weaker c.selected_contours_of.result _ (λ cs. All (All (IsLong limit)) (walks_in (plain_contours whole cs.items)))
+    (λ cs cut. kept_are_long q es (plain_contours whole cs.items)
+    (kept_with_groups q es (plain_contours whole cs.items) c.if-options.true ruled cut) limit
+    c.note_arrangement.ensures.content)
+    c.selected_contours_of.ensures.cut
 
 pub returns-clause-kept : goal.returns-clause-kept
 returns-clause-kept g c =

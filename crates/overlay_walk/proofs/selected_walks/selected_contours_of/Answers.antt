@@ -1,0 +1,34 @@
+-- The steps that are cut are a permutation of the selected steps.
+use Rattle.std.proofs.Common.{Bool, List}
+use Rattle.overlay_geom.specs.Plane.{Step}
+use Rattle.overlay_plane.specs.MinimumArea.{reaches}
+use Rattle.overlay_arrange.specs.Graphs.{graph_edges}
+use Rattle.overlay_walk.specs.GroupedContours.{plain_contours}
+use Rattle.overlay_walk.specs.Steps.{filled_hand, plain_steps}
+use Rattle.overlay_walk.proofs.SelectedGroups.{open_alternate, open_once, open_long, cut_of_selected}
+use Rattle.overlay_walk.proofs.selected_walks.selected_contours_of.Goals as goal
+
+pub cut_in_groups-requires-clause-alternate : goal.cut_in_groups-requires-clause-alternate
+cut_in_groups-requires-clause-alternate g c = open_alternate g.I.IntNumber.limit (graph_edges c.args.graph)
+    c.note_arrangement.ensures c.requires c.args.graph.fill_rule c.args.overlay_rule (filled_hand c.args.direction)
+    (plain_steps g.I.IntNumber.whole c.in_ok-open.open) c.in_ok-open.ensures
+
+pub cut_in_groups-requires-clause-once : goal.cut_in_groups-requires-clause-once
+cut_in_groups-requires-clause-once g c = open_once g.I.IntNumber.limit (graph_edges c.args.graph)
+    c.note_arrangement.ensures c.requires c.args.graph.fill_rule c.args.overlay_rule (filled_hand c.args.direction)
+    (plain_steps g.I.IntNumber.whole c.in_ok-open.open) c.in_ok-open.ensures
+
+pub cut_in_groups-requires-clause-long : goal.cut_in_groups-requires-clause-long
+cut_in_groups-requires-clause-long g c = open_long g.I.IntNumber.limit (graph_edges c.args.graph)
+    c.note_arrangement.ensures c.requires c.args.graph.fill_rule c.args.overlay_rule (filled_hand c.args.direction)
+    (plain_steps g.I.IntNumber.whole c.in_ok-open.open) c.in_ok-open.ensures
+
+pub returns : goal.returns
+returns g c = record {
+  cut = let keeps : List Step → Bool = λ w. reaches g.I.Wide.WideIntNumber.width
+      (g.I.WideUInt.UIntNumber.natural c.args.min_output_area) w in
+      cut_of_selected g.I.IntNumber.limit (graph_edges c.args.graph) c.note_arrangement.ensures c.requires c.args.graph.fill_rule
+      c.args.overlay_rule (filled_hand c.args.direction) (plain_steps g.I.IntNumber.whole c.in_ok-open.open)
+      c.in_ok-open.ensures keeps (plain_contours g.I.IntNumber.whole c.in_ok-contours.contours.items)
+      c.in_ok-contours.ensures.cut;
+}
