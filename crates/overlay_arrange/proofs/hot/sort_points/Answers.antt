@@ -25,7 +25,8 @@ returns-clause-members g c =
     sorted _ c.dedup_by.ensures.filtered in
     subst (λ vs. HaveSameMembers (plain_points whole c.args.points.now.items) (plain_points whole vs)) (sym left)
     (members-deduped whole g.met.I.IntNumber.same c.args.points.now.items sorted
-    (IsPermutation-trans _ _ _ c.order_by_points.ensures.items c.sort_by.ensures.permutation))
+    (IsPermutation-trans c.args.points.now.items c.order_by_points.new.items.items sorted
+    c.order_by_points.ensures.items c.sort_by.ensures.permutation))
 
 pub returns-clause-ascending : goal.returns-clause-ascending
 returns-clause-ascending g c =
