@@ -75,8 +75,8 @@ fn push_points<I: IntNumber, A: Allocator>(
     Ok(())
 }
 
-/// Sorts the points by x and then by y, and drops repeated points. Many points are put in order by digits first, so that
-/// the sort takes one pass.
+/// Sorts the points by x and then by y, and drops repeated points. Many points are put in order by digits first, so
+/// that the sort takes one pass.
 fn sort_points<I: IntNumber, A: Allocator + Clone>(
     points: &mut Vec<IntPoint<I>, A>,
 ) -> Result<(), AllocError>

@@ -1,5 +1,5 @@
--- A loop over the near edges of an edge. Each adds the points through which the two lead each other, and is marked if it
--- meets the edge elsewhere than in ends.
+-- A loop over the near edges of an edge. Each adds the points through which the two lead each other, and is marked if
+-- it meets the edge elsewhere than in ends.
 use Rattle.std.proofs.Common.{◌<◌, length, get_or, inl, inr, take, sym, subst, arith}
 use Rattle.std.proofs.lemmas.List.{get_or_default, length-map, take_all, take_more}
 use Rattle.overlay_geom.proofs.Mapped.{All-mapped_at}
