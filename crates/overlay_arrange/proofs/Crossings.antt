@@ -1,20 +1,15 @@
 -- Edges that go across each other's lines: how far along each edge the other crosses it, and the point through which it
 -- leads it.
-use Rattle.std.proofs.Common.{◌≡◌, ◌≢◌, inl, inr, Bool, true, false, cond, not, ◌∷◌, [], refl, sym, ap, ◌∙◌}
+use Rattle.std.proofs.Common.{◌≡◌, inl, inr, Bool, true, false, cond, not, ◌∷◌, [], refl, sym, ap, ◌∙◌}
 use Rattle.std.specs.Ordering.{is_ge}
 use Rattle.std.specs.declared.cmp.Ordering.{Ordering}
 use Rattle.std.specs.declared.cmp.Ordering.TheVariants.{Less, Equal, Greater}
 use Rattle.overlay_geom.specs.Plane.{Point, Edge, point_lt}
 use Rattle.overlay_geom.specs.Placed.{IsAlong, IsBeside, IsAcross}
-use Rattle.overlay_geom.proofs.Meeting.{across_not_along}
-use Rattle.overlay_geom.proofs.PointOrder.{IsBefore}
 use Rattle.overlay_geom.proofs.Signs.{linear}
 use Rattle.overlay_plane.specs.CutPoints.{crossing, met_at}
-use Rattle.overlay_plane.proofs.Placements.{met_beside, met_across}
+use Rattle.overlay_plane.proofs.Placements.{met_across}
 use Rattle.overlay_arrange.specs.Content.{point_cmp}
-use Rattle.overlay_geom.specs.Resolved.{IsPlaced}
-use Rattle.overlay_geom.specs.declared.edge_pair.Place.{Place}
-use Rattle.overlay_geom.specs.declared.edge_pair.Place.TheVariants.{Along, Beside, Across}
 
 -- a point is found at least another point exactly where it is not smaller
 pub is_ge-point_cmp : (p q : Point) → is_ge (point_cmp p q) ≡ not (point_lt p q)
@@ -51,15 +46,3 @@ met_where_both_across e f forth back = met_across e f
       not_back =
           across_is_not_beside f e back;
     })
-
--- where f goes across e's line, but e not across f's, they meet nowhere
-pub met_where_one_across : (e f : Edge) (place : Place) → IsBefore f.a f.b → IsAcross e f → IsPlaced place f e →
-    place ≢ Across → met_at e f ≡ []
-met_where_one_across e f Along forward forth placed other = absurd (across_not_along e f forward forth placed)
-met_where_one_across e f Beside forward forth placed other = met_beside e f (across_is_not_along e f forth) (inr placed)
-met_where_one_across e f Across forward forth placed other = absurd (other refl)
-
--- an edge beside e's line has no end on it
-pub beside_is_not_along : (e f : Edge) → IsBeside e f → ¬ (IsAlong e f)
-beside_is_not_along e f (inl (left, too)) (at_a, at_b) = omega linear
-beside_is_not_along e f (inr (right, too)) (at_a, at_b) = omega linear

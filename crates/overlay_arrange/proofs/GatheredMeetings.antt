@@ -20,7 +20,6 @@ use Rattle.overlay_arrange.specs.Cut.{IsEndOf}
 use Rattle.overlay_arrange.specs.Meetings.{AddsBoth, AreGathered, AreMeetings, HasBefore, IsAt, IsEndOrMet}
 use Rattle.overlay_arrange.specs.Meetings.{Meeting}
 use Rattle.overlay_arrange.specs.Near.{AreNear}
-use Rattle.overlay_arrange.specs.Settle.{AreSettled}
 use Rattle.overlay_arrange.proofs.LedToEnds.{leads_to_ends, led_to_ends, IsLedBy, LeadsNowhere}
 
 -- at one place stands one entry
@@ -145,33 +144,6 @@ module _ (es : List CountedEdge) where
           by k l g h at_g at_h (inr (inr (l_is, has))) v at = ⊎_elim
               (λ (so_far : Contains js k). earlier k l g h at_g at_h (inr (inr (l_is, so_far))) v at)
               (λ (is : j ≡ k). back k l g h at_g at_h (sym is) l_is v at) (Contains-push_cases js j k has)
-
-    -- a pair that meets in ends alone may be left out
-    pub pair_left_out : (limit : ℕ) (js : List ℕ) (j : ℕ) (f : CountedEdge) → IsHeld limit e → IsHeld limit f →
-        IsAt es j f → AreSettled e f → {ms : List Meeting} → AreGathered es (IsLookedAt i js) ms →
-        AreGathered es (IsLookedAt i (js ++ j ∷ [])) ms
-    pair_left_out limit js j f e_held f_held at_f settled gathered = gathered_of_more gathered
-        (λ k l g h at_g at_h pair. by k l g h at_g at_h pair)
-      where
-        is_e : (k : ℕ) (g : CountedEdge) → IsAt es k g → k ≡ i → e ≡ g
-        is_e k g at_g k_is = one_entry es i e g at_e (subst (λ n. IsAt es n g) k_is at_g)
-
-        is_f : (l : ℕ) (h : CountedEdge) → IsAt es l h → j ≡ l → f ≡ h
-        is_f l h at_h is = one_entry es j f h at_f (subst (λ n. IsAt es n h) (sym is) at_h)
-
-        by : (k l : ℕ) (g h : CountedEdge) → IsAt es k g → IsAt es l h → IsLookedAt i (js ++ j ∷ []) k l →
-            IsLookedAt i js k l ⊎ LeadsNowhere g h
-        by k l g h at_g at_h (inl before) = inl (inl before)
-        by k l g h at_g at_h (inr (inl (k_is, has))) = ⊎_elim
-            (λ (so_far : Contains js l). inl (inr (inl (k_is, so_far))))
-            (λ (is : j ≡ l). inr (subst (λ u. LeadsNowhere u h) (is_e k g at_g k_is)
-            (subst (LeadsNowhere e) (is_f l h at_h is) (leads_to_ends limit e f e_held f_held settled))))
-            (Contains-push_cases js j l has)
-        by k l g h at_g at_h (inr (inr (l_is, has))) = ⊎_elim
-            (λ (so_far : Contains js k). inl (inr (inr (l_is, so_far))))
-            (λ (is : j ≡ k). inr (subst (λ u. LeadsNowhere u h) (is_f k g at_g is)
-            (subst (LeadsNowhere f) (is_e l h at_h l_is) (led_to_ends limit e f e_held f_held settled))))
-            (Contains-push_cases js j k has)
 
     -- where all edges near e have been looked at, the pairs with e have: the other later ones lead it to its ends
     -- alone, and it them; and so an edge leads itself

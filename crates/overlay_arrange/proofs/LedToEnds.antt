@@ -1,5 +1,5 @@
 -- Two edges that meet in ends alone lead each other only through their own ends.
-use Rattle.std.proofs.Common.{◌≡◌, ◌⊎◌, inl, inr, ℕ, Contains, sym, ◌∙◌, subst, arith}
+use Rattle.std.proofs.Common.{◌≡◌, ◌⊎◌, inl, inr, ℕ, List, Contains, sym, ◌∙◌, subst, arith}
 use Rattle.overlay_geom.specs.Plane.{Point, PlanePoint, IsEnd, in_plane}
 use Rattle.overlay_geom.specs.Edges.{CountedEdge, ends_of}
 use Rattle.overlay_geom.specs.Placed.{IsAlong, IsBeside}
@@ -16,8 +16,9 @@ use Rattle.overlay_plane.proofs.WholeOnEdges.{at_whole}
 use Rattle.overlay_plane.proofs.WholePlaces.{rounded_whole}
 use Rattle.overlay_arrange.specs.Content.{IsHeld}
 use Rattle.overlay_arrange.specs.Cut.{IsEndOf}
+use Rattle.overlay_arrange.specs.Meetings.{AddsBoth, Meeting}
 use Rattle.overlay_arrange.specs.Settle.{AreSettled}
-use Rattle.overlay_arrange.proofs.PairMeetings.{only_entry}
+use Rattle.overlay_arrange.proofs.PairMeetings.{ends_left_out, only_entry}
 
 -- h leads g through v
 abbrev pub IsLedBy : CountedEdge → CountedEdge → Point → Type 0
@@ -71,3 +72,12 @@ leads_to_ends limit e f e_held f_held settled v met = by_placement (ends_of e) (
 pub led_to_ends : (limit : ℕ) (e f : CountedEdge) → IsHeld limit e → IsHeld limit f → AreSettled e f → LeadsNowhere f e
 led_to_ends limit e f e_held f_held settled =
     leads_to_ends limit f e f_held e_held (meet_in_ends_exchanged (ends_of f) (ends_of e) settled)
+
+-- two edges that meet in ends alone need no meetings
+pub none_where_settled : (limit : ℕ) (i : ℕ) (e : CountedEdge) (j : ℕ) (f : CountedEdge) → IsHeld limit e →
+    IsHeld limit f → AreSettled e f → (ms : List Meeting) → AddsBoth i e j f ms ms
+none_where_settled limit i e j f e_held f_held settled ms = record {
+  between = ms;
+  one = ends_left_out i e (met_at (ends_of e) (ends_of f)) ms (leads_to_ends limit e f e_held f_held settled);
+  other = ends_left_out j f (met_at (ends_of f) (ends_of e)) ms (led_to_ends limit e f e_held f_held settled);
+}

@@ -1,25 +1,21 @@
 -- The meetings of two edges with each other: the points that pushing adds, and the points to add in each position of
 -- the two.
-use Rattle.std.proofs.Common.{◌≡◌, ◌≢◌, ⊎_elim, inl, inr, ℕ, Bool, List, [], ◌∷◌, ◌++◌, Contains, filter, refl, sym, ap}
+use Rattle.std.proofs.Common.{◌≡◌, ⊎_elim, inl, inr, ℕ, Bool, List, [], ◌∷◌, ◌++◌, Contains, filter, sym, ap}
 use Rattle.std.proofs.Common.{◌∙◌, subst, arith}
 use Rattle.std.proofs.lemmas.List.Elements.{Contains-append_left, Contains-append_right, Contains-append_cases}
 use Rattle.std.proofs.lemmas.List.Elements.{Contains-push, Contains-push_cases, filter-append}
 use Rattle.overlay_geom.specs.Plane.{Point}
 use Rattle.overlay_geom.specs.Edges.{CountedEdge, ends_of}
-use Rattle.overlay_geom.specs.Placed.{IsAlong, IsBeside, IsAcross}
-use Rattle.overlay_geom.specs.Resolved.{IsPlaced}
-use Rattle.overlay_geom.specs.declared.edge_pair.Place.{Place}
-use Rattle.overlay_geom.specs.declared.edge_pair.Place.TheVariants.{Along, Beside, Across}
+use Rattle.overlay_geom.specs.Placed.{IsAlong, IsAcross}
 use Rattle.overlay_geom.proofs.Entries.{Contains-cases}
-use Rattle.overlay_geom.proofs.Meeting.{across_not_along}
 use Rattle.overlay_geom.proofs.OneLine.{along_exchanged}
 use Rattle.overlay_geom.proofs.PointOrder.{IsBefore}
 use Rattle.overlay_plane.specs.CutPoints.{crossing, met_at}
-use Rattle.overlay_plane.proofs.Placements.{ends_between, met_along, met_beside, not_along_back}
+use Rattle.overlay_plane.proofs.Placements.{ends_between, met_along}
 use Rattle.overlay_plane.proofs.SharedCrossings.{crossing_alike}
 use Rattle.overlay_arrange.specs.Cut.{IsEndOf}
 use Rattle.overlay_arrange.specs.Meetings.{AddsBoth, AddsPoints, Meeting}
-use Rattle.overlay_arrange.proofs.Crossings.{beside_is_not_along, met_where_both_across, met_where_one_across}
+use Rattle.overlay_arrange.proofs.Crossings.{met_where_both_across}
 
 -- ---- meetings that pushing adds
 
@@ -28,9 +24,10 @@ pub only_entry : (v w : Point) → Contains (v ∷ []) w → v ≡ w
 only_entry v w at = ⊎_elim (λ is. is) (λ none. absurd (omega (arith, none.1))) (Contains-cases v [] w at)
 
 module _ (i : ℕ) (e : CountedEdge) where
-  -- no points add nothing
-  pub no_points_added : (ms : List Meeting) → AddsPoints i e [] ms ms
-  no_points_added ms = record { kept = λ m at. at; led = λ m at. inl at; all = λ v at. absurd (omega (arith, at.1)) }
+  -- points that are ends of the edge may be left out
+  pub ends_left_out : (vs : List Point) (ms : List Meeting) → ((v : Point) → Contains vs v → IsEndOf e v) →
+      AddsPoints i e vs ms ms
+  ends_left_out vs ms ends = record { kept = λ m at. at; led = λ m at. inl at; all = λ v at. inl (ends v at) }
 
   -- an end of the edge may be left out
   pub end_left_out : (v : Point) (ms : List Meeting) → IsEndOf e v → AddsPoints i e (v ∷ []) ms ms
@@ -84,39 +81,6 @@ module _ (i : ℕ) (e : CountedEdge) where
 -- ---- meetings to add
 
 module _ (i : ℕ) (e : CountedEdge) (j : ℕ) (f : CountedEdge) where
-  -- where neither leads the other anywhere there is nothing
-  none_added : (ms : List Meeting) → met_at (ends_of e) (ends_of f) ≡ [] → met_at (ends_of f) (ends_of e) ≡ [] →
-      AddsBoth i e j f ms ms
-  none_added ms forth back = record {
-    between = ms;
-    one = subst (λ vs. AddsPoints i e vs ms ms) (sym forth) (no_points_added i e ms);
-    other = subst (λ vs. AddsPoints j f vs ms ms) (sym back) (no_points_added j f ms);
-  }
-
-  -- nothing is added if one lies beside the other's line
-  pub none_where_beside : (ms : List Meeting) → IsBefore f.a f.b → IsBeside (ends_of e) (ends_of f) →
-      AddsBoth i e j f ms ms
-  none_where_beside ms f_forward beside =
-      none_added ms (met_beside (ends_of e) (ends_of f) off (inl beside))
-      (met_beside (ends_of f) (ends_of e) (λ along. off (along_exchanged (ends_of f) (ends_of e) f_forward along))
-      (inr beside))
-    where
-      off : ¬ (IsAlong (ends_of e) (ends_of f))
-      off = beside_is_not_along (ends_of e) (ends_of f) beside
-
-  -- nothing is added if one goes across the other's line, but not the other across its
-  pub none_where_one_across : (ms : List Meeting) (place : Place) → IsBefore f.a f.b →
-      IsAcross (ends_of e) (ends_of f) → IsPlaced place (ends_of f) (ends_of e) → place ≢ Across →
-      AddsBoth i e j f ms ms
-  none_where_one_across ms place f_forward forth placed other =
-      none_added ms (met_where_one_across (ends_of e) (ends_of f) place f_forward forth placed other)
-      (by place placed other)
-    where
-      by : (p : Place) → IsPlaced p (ends_of f) (ends_of e) → p ≢ Across → met_at (ends_of f) (ends_of e) ≡ []
-      by Along back isnt = absurd (across_not_along (ends_of e) (ends_of f) f_forward forth back)
-      by Beside back isnt = met_beside (ends_of f) (ends_of e) (not_along_back (ends_of e) (ends_of f) forth) (inl back)
-      by Across back isnt = absurd (isnt refl)
-
   -- where they are collinear there are their ends
   pub ends_added : {old mid new : List Meeting} → IsBefore e.a e.b → IsAlong (ends_of e) (ends_of f) →
       AddsPoints i e (ends_between (ends_of e) (ends_of f)) old mid →

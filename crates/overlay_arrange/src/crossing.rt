@@ -1,20 +1,21 @@
 //! The whole points through which two edges lead each other.
 
-ghost use Rattle.std.specs.Prelude.{◌≡◌, ◌↔◌, ◌∷◌, [], filter, pos, nat_abs, IsTrue, OnOk};
+ghost use Rattle.std.specs.Prelude.{◌≡◌, ◌↔◌, ◌∷◌, [], false, filter, pos, nat_abs, IsTrue, IfOk, OnOk};
 ghost use Rattle.overlay_geom.specs.Numbers.{Within};
 ghost use Rattle.overlay_geom.specs.Edges.{ends_of};
-ghost use Rattle.overlay_geom.specs.Placed.{IsAcross, IsAlong};
+ghost use Rattle.overlay_geom.specs.Placed.{share_end, IsAcross, IsAlong};
 ghost use Rattle.overlay_geom.specs.Plane.{cross_at};
 ghost use Rattle.overlay_geom.specs.Points.{plain_point, InRange};
 ghost use Rattle.overlay_plane.specs.CutPoints.{is_between, crossing};
 ghost use Rattle.overlay_arrange.specs.Content.{plain_edge, IsHeld};
 ghost use Rattle.overlay_arrange.specs.Cut.{IsEndOf};
 ghost use Rattle.overlay_arrange.specs.Meetings.{plain_meetings, AddsBoth, AddsPoints};
+ghost use Rattle.overlay_arrange.specs.Settle.{AreSettled};
 
 use crate::count::EdgeCount;
 use crate::edge::{CountedEdge, compare_points};
 use crate::meetings::Meeting;
-use crate::settle::place_by;
+use crate::settle::{meet_in_ends, place_by};
 use overlay_geom::edge_pair::{Place, is_same};
 use overlay_geom::number::{IntNumber, WideIntNumber};
 use overlay_geom::point::IntPoint;
@@ -22,24 +23,98 @@ use overlay_geom::vector::cross_at;
 use std::alloc::{AllocError, Allocator};
 
 /// Adds the whole points through which the edges e at place i and f at place j lead each other. Collinear edges give
-/// the ends of each on the other; crossing edges give the point nearest to the crossing.
+/// the ends of each on the other; crossing edges give the point nearest to the crossing. Returns whether the edges are
+/// open: they meet elsewhere than in ends.
 pub(crate) fn push_meetings<I: IntNumber, C: EdgeCount, A: Allocator>(
     meetings: &mut Vec<Meeting<I>, A>,
     i: usize,
     e: &CountedEdge<I, C>,
     j: usize,
     f: &CountedEdge<I, C>,
-) -> Result<(), AllocError>
+) -> Result<bool, AllocError>
     requires one { IsHeld I.limit (plain_edge I.whole C.counts e.now) }
     requires other { IsHeld I.limit (plain_edge I.whole C.counts f.now) }
     ensures ok { OnOk result (AddsBoth i (plain_edge I.whole C.counts e.now) j (plain_edge I.whole C.counts f.now)
         (plain_meetings I.whole meetings.old.items) (plain_meetings I.whole meetings.new.items)) }
+    ensures open { IfOk result (λ is_open. (is_open ≡ false)
+        ↔ AreSettled (plain_edge I.whole C.counts e.now) (plain_edge I.whole C.counts f.now)) }
 {
     match place_by(e, f) {
-        Place::Along => push_ends(meetings, i, e, j, f),
-        Place::Beside => Ok(()),
-        Place::Across => push_crossing(meetings, i, e, j, f),
+        Place::Along => push_along(meetings, i, e, j, f),
+        Place::Beside => Ok(false),
+        Place::Across => push_across(meetings, i, e, j, f),
     }
+}
+
+/// Adds the ends of each of two collinear edges that lie on the other edge. Returns whether the edges are open.
+fn push_along<I: IntNumber, C: EdgeCount, A: Allocator>(
+    meetings: &mut Vec<Meeting<I>, A>,
+    i: usize,
+    e: &CountedEdge<I, C>,
+    j: usize,
+    f: &CountedEdge<I, C>,
+) -> Result<bool, AllocError>
+    requires one { IsHeld I.limit (plain_edge I.whole C.counts e.now) }
+    requires other { IsHeld I.limit (plain_edge I.whole C.counts f.now) }
+    requires along { IsAlong (ends_of (plain_edge I.whole C.counts e.now))
+        (ends_of (plain_edge I.whole C.counts f.now)) }
+    ensures ok { OnOk result (AddsBoth i (plain_edge I.whole C.counts e.now) j (plain_edge I.whole C.counts f.now)
+        (plain_meetings I.whole meetings.old.items) (plain_meetings I.whole meetings.new.items)) }
+    ensures open { IfOk result (λ is_open. (is_open ≡ false)
+        ↔ AreSettled (plain_edge I.whole C.counts e.now) (plain_edge I.whole C.counts f.now)) }
+{
+    if meet_in_ends(e, f) {
+        return Ok(false);
+    }
+    push_ends(meetings, i, e, j, f)?;
+    Ok(true)
+}
+
+/// Adds the whole point nearest to the crossing of the two edges, unless they meet in ends alone. Returns whether the
+/// edges are open.
+fn push_across<I: IntNumber, C: EdgeCount, A: Allocator>(
+    meetings: &mut Vec<Meeting<I>, A>,
+    i: usize,
+    e: &CountedEdge<I, C>,
+    j: usize,
+    f: &CountedEdge<I, C>,
+) -> Result<bool, AllocError>
+    requires one { IsHeld I.limit (plain_edge I.whole C.counts e.now) }
+    requires other { IsHeld I.limit (plain_edge I.whole C.counts f.now) }
+    requires across { IsAcross (ends_of (plain_edge I.whole C.counts e.now))
+        (ends_of (plain_edge I.whole C.counts f.now)) }
+    ensures ok { OnOk result (AddsBoth i (plain_edge I.whole C.counts e.now) j (plain_edge I.whole C.counts f.now)
+        (plain_meetings I.whole meetings.old.items) (plain_meetings I.whole meetings.new.items)) }
+    ensures open { IfOk result (λ is_open. (is_open ≡ false)
+        ↔ AreSettled (plain_edge I.whole C.counts e.now) (plain_edge I.whole C.counts f.now)) }
+{
+    if cross_in_ends(e, f) {
+        return Ok(false);
+    }
+    push_crossing(meetings, i, e, j, f)?;
+    Ok(true)
+}
+
+/// Returns whether two edges, of which f goes across e's line, meet in ends alone. If not, e also goes across f's line.
+fn cross_in_ends<I: IntNumber, C: EdgeCount>(e: &CountedEdge<I, C>, f: &CountedEdge<I, C>) -> bool
+    requires one { IsHeld I.limit (plain_edge I.whole C.counts e.now) }
+    requires other { IsHeld I.limit (plain_edge I.whole C.counts f.now) }
+    requires across { IsAcross (ends_of (plain_edge I.whole C.counts e.now))
+        (ends_of (plain_edge I.whole C.counts f.now)) }
+    ensures settles { IsTrue result
+        ↔ AreSettled (plain_edge I.whole C.counts e.now) (plain_edge I.whole C.counts f.now) }
+    ensures back { result ≡ false → IsAcross (ends_of (plain_edge I.whole C.counts f.now))
+        (ends_of (plain_edge I.whole C.counts e.now)) }
+{
+    matches!(place_by(f, e), Place::Beside) || share_end(e, f)
+}
+
+/// Returns whether an end of e is an end of f.
+fn share_end<I: IntNumber, C: EdgeCount>(e: &CountedEdge<I, C>, f: &CountedEdge<I, C>) -> bool
+    ensures { result ≡ share_end (ends_of (plain_edge I.whole C.counts e.now))
+        (ends_of (plain_edge I.whole C.counts f.now)) }
+{
+    is_same(e.a, f.a) || is_same(e.a, f.b) || is_same(e.b, f.a) || is_same(e.b, f.b)
 }
 
 /// Adds the ends of each of two collinear edges that lie on the other edge.
@@ -61,7 +136,7 @@ fn push_ends<I: IntNumber, C: EdgeCount, A: Allocator>(
     push_ends_between(meetings, j, f, e)
 }
 
-/// Adds the whole point nearest to the crossing of the two edges, if e also goes across f's line.
+/// Adds the whole point nearest to the crossing of the two edges.
 fn push_crossing<I: IntNumber, C: EdgeCount, A: Allocator>(
     meetings: &mut Vec<Meeting<I>, A>,
     i: usize,
@@ -71,17 +146,16 @@ fn push_crossing<I: IntNumber, C: EdgeCount, A: Allocator>(
 ) -> Result<(), AllocError>
     requires one { IsHeld I.limit (plain_edge I.whole C.counts e.now) }
     requires other { IsHeld I.limit (plain_edge I.whole C.counts f.now) }
-    requires across { IsAcross (ends_of (plain_edge I.whole C.counts e.now))
+    requires forth { IsAcross (ends_of (plain_edge I.whole C.counts e.now))
         (ends_of (plain_edge I.whole C.counts f.now)) }
+    requires back { IsAcross (ends_of (plain_edge I.whole C.counts f.now))
+        (ends_of (plain_edge I.whole C.counts e.now)) }
     ensures ok { OnOk result (AddsBoth i (plain_edge I.whole C.counts e.now) j (plain_edge I.whole C.counts f.now)
         (plain_meetings I.whole meetings.old.items) (plain_meetings I.whole meetings.new.items)) }
 {
-    if matches!(place_by(f, e), Place::Across) {
-        let point = common_point(e, f);
-        push_inside(meetings, i, e, point)?;
-        push_inside(meetings, j, f, point)?;
-    }
-    Ok(())
+    let point = common_point(e, f);
+    push_inside(meetings, i, e, point)?;
+    push_inside(meetings, j, f, point)
 }
 
 /// Returns the whole point nearest to the crossing of the two edges. If an end of one lies on the other's line, it is

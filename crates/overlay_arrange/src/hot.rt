@@ -9,13 +9,14 @@ ghost use Rattle.overlay_arrange.specs.Meetings.{plain_meetings, AreMeetings};
 use crate::count::EdgeCount;
 use crate::edge::{CountedEdge, compare_points};
 use crate::meetings::Meeting;
+use crate::sort_points::order_by_points;
 use overlay_geom::edge_pair::is_same;
 use overlay_geom::number::IntNumber;
 use overlay_geom::point::IntPoint;
 use std::alloc::{AllocError, Allocator};
 
 /// Returns the hot points of the edges, each once, by x and then by y. The meetings are those of all edges.
-pub(crate) fn hot_points<I: IntNumber, C: EdgeCount, A: Allocator>(
+pub(crate) fn hot_points<I: IntNumber, C: EdgeCount, A: Allocator + Clone>(
     alloc: A,
     edges: &[CountedEdge<I, C>],
     meetings: &[Meeting<I>],
@@ -25,7 +26,6 @@ pub(crate) fn hot_points<I: IntNumber, C: EdgeCount, A: Allocator>(
         (plain_edges I.whole C.counts edges.now) (plain_points I.whole points.items)) }
 {
     let mut points = Vec::new(alloc);
-    // (the smaller ends ascend, so the sort takes them as they stand)
     push_starts(&mut points, edges)?;
     push_ends(&mut points, edges)?;
     push_points(&mut points, meetings)?;
@@ -75,14 +75,16 @@ fn push_points<I: IntNumber, A: Allocator>(
     Ok(())
 }
 
-/// Sorts the points by x and then by y, and drops repeated points.
-fn sort_points<I: IntNumber, A: Allocator>(
+/// Sorts the points by x and then by y, and drops repeated points. Many points are put in order by digits first, so
+/// that the sort takes one pass.
+fn sort_points<I: IntNumber, A: Allocator + Clone>(
     points: &mut Vec<IntPoint<I>, A>,
 ) -> Result<(), AllocError>
     ensures members { OnOk result (HaveSameMembers
         (plain_points I.whole points.old.items) (plain_points I.whole points.new.items)) }
     ensures ascending { OnOk result (ArePointsAscending (plain_points I.whole points.new.items)) }
 {
+    order_by_points(points, |v| *v)?;
     points.sort_by(|v, w| compare_points(*v, *w))?;
     points.dedup_by(|v, w| is_same(*v, *w));
     Ok(())

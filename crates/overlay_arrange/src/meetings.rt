@@ -15,7 +15,6 @@ use crate::changed::{Changed, find_open};
 use crate::count::EdgeCount;
 use crate::crossing::push_meetings;
 use crate::edge::CountedEdge;
-use crate::settle::meet_in_ends;
 use crate::sort_numbers::order_by_numbers;
 use crate::strips::Strips;
 use overlay_geom::number::IntNumber;
@@ -89,9 +88,8 @@ fn gather_from<I: IntNumber, C: EdgeCount, A: Allocator>(
     for k in 0..near.len() {
         let j = near[k];
         let f = &edges[j];
-        if !meet_in_ends(e, f) {
+        if push_meetings(meetings, i, e, j, f)? {
             mark_open(is_open, i, j);
-            push_meetings(meetings, i, e, j, f)?;
         }
     }
     Ok(())

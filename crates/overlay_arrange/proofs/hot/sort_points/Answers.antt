@@ -3,7 +3,7 @@ use Rattle.std.proofs.Common.{◌≡◌, ap, sym, subst, ◌∙◌, rules}
 use Rattle.std.specs.List.{dedup}
 use Rattle.std.specs.Ordering.{is_lt}
 use Rattle.std.proofs.lemmas.Fn.{dedup_same}
-use Rattle.std.proofs.lemmas.List.Sorted.{answers_always}
+use Rattle.std.proofs.lemmas.List.Sorted.{answers_always, IsPermutation-trans}
 use Rattle.overlay_geom.specs.Plane.{point_eq}
 use Rattle.overlay_geom.specs.Points.{plain_point, plain_points}
 use Rattle.overlay_geom.specs.Resolved.{point_cmp}
@@ -24,7 +24,9 @@ returns-clause-members g c =
     (answer ∙ point_eq-is_tie (plain_point whole v) (plain_point whole w), search rules, search rules, search rules))
     sorted _ c.dedup_by.ensures.filtered in
     subst (λ vs. HaveSameMembers (plain_points whole c.args.points.now.items) (plain_points whole vs)) (sym left)
-    (members-deduped whole g.met.I.IntNumber.same c.args.points.now.items sorted c.sort_by.ensures.permutation)
+    (members-deduped whole g.met.I.IntNumber.same c.args.points.now.items sorted
+    (IsPermutation-trans c.args.points.now.items c.order_by_points.new.items.items sorted
+    c.order_by_points.ensures.items c.sort_by.ensures.permutation))
 
 pub returns-clause-ascending : goal.returns-clause-ascending
 returns-clause-ascending g c =

@@ -1,17 +1,16 @@
--- A loop over the near edges of an edge. Each adds the points through which the two lead each other, and is marked, or
--- meets it in ends alone.
-use Rattle.std.proofs.Common.{◌<◌, length, get_or, inl, inr, refl, take, sym, subst, arith}
+-- A loop over the near edges of an edge. Each adds the points through which the two lead each other, and is marked if
+-- it meets the edge elsewhere than in ends.
+use Rattle.std.proofs.Common.{◌<◌, length, get_or, inl, inr, take, sym, subst, arith}
 use Rattle.std.proofs.lemmas.List.{get_or_default, length-map, take_all, take_more}
 use Rattle.overlay_geom.proofs.Mapped.{All-mapped_at}
 use Rattle.overlay_arrange.specs.Content.{plain_edge, plain_edges, IsHeld}
 use Rattle.overlay_arrange.specs.Meetings.{plain_meetings, AreGathered}
-use Rattle.overlay_arrange.proofs.GatheredMeetings.{begun, near_looked_at, pair_gathered, pair_left_out}
+use Rattle.overlay_arrange.proofs.GatheredMeetings.{begun, near_looked_at, pair_gathered}
 use Rattle.overlay_arrange.proofs.GatheredMeetings.{placed_in_mapped, IsLookedAt}
 use Rattle.overlay_arrange.proofs.OpenPairs.{none_open, open_still, open_with_more, open_with_near, open_with_still}
 use Rattle.overlay_arrange.proofs.OpenPairs.{AreOpenWith}
 use Rattle.overlay_arrange.proofs.meetings.gather_from.Goals as goal
-use Rattle.overlay_arrange.proofs.meetings.gather_from.Goals.{then-not-meet_in_ends+in_ok-push_meetings}
-use Rattle.overlay_arrange.proofs.meetings.gather_from.Goals.{else-not-meet_in_ends}
+use Rattle.overlay_arrange.proofs.meetings.gather_from.Goals.{then-branch, else-branch}
 
 pub loop-k-init : goal.loop-k-init
 loop-k-init g c =
@@ -53,27 +52,6 @@ bounds-edges-j g c =
     let l = length-map c.args.edges.now plain in
     let less = later.1 in
     omega (arith, l, less)
-
-pub meet_in_ends-requires-clause-one : goal.meet_in_ends-requires-clause-one
-meet_in_ends-requires-clause-one g c =
-    All-mapped_at (IsHeld g.I.IntNumber.limit) (plain_edge g.I.IntNumber.whole g.C.EdgeCount.counts) c.args.edges.now
-    c.args.i c.index-edges-i.result c.requires.within c.index-edges-i.is c.requires.held
-
-pub meet_in_ends-requires-clause-other : goal.meet_in_ends-requires-clause-other
-meet_in_ends-requires-clause-other g c =
-    let plain = plain_edge g.I.IntNumber.whole g.C.EdgeCount.counts in
-    let j = get_or c.args.near.now c.loop-k.k 0 in
-    let at_e = placed_in_mapped plain c.args.edges.now c.args.i c.index-edges-i.result c.requires.within
-    c.index-edges-i.is in
-    let later = (c.requires.near (plain c.index-edges-i.result) at_e).within j (
-      c.loop-k.k,
-      c.loop-k-test.true,
-      get_or_default c.args.near.now c.loop-k.k j 0 c.loop-k-test.true,
-    ) in
-    let inside : j < length c.args.edges.now =
-    (let l = length-map c.args.edges.now plain in let less = later.1 in omega (arith, l, less)) in
-    All-mapped_at (IsHeld g.I.IntNumber.limit) plain c.args.edges.now j c.index-edges-j.result inside
-    c.index-edges-j.is c.requires.held
 
 pub mark_open-requires-clause-one : goal.mark_open-requires-clause-one
 mark_open-requires-clause-one g c =
@@ -122,7 +100,6 @@ push_meetings-requires-clause-other g c =
 pub loop-k-preserved : goal.loop-k-preserved
 loop-k-preserved g c =
     let whole = g.I.IntNumber.whole in
-    let limit = g.I.IntNumber.limit in
     let plain = plain_edge g.I.IntNumber.whole g.C.EdgeCount.counts in
     let j = get_or c.args.near.now c.loop-k.k 0 in
     let at_e = placed_in_mapped plain c.args.edges.now c.args.i c.index-edges-i.result c.requires.within
@@ -142,25 +119,24 @@ loop-k-preserved g c =
     let js = take c.loop-k.k c.args.near.now in
     let old = c.loop-k.is_open.items in
     let more = sym (take_more c.args.near.now c.loop-k.k 0 c.loop-k-test.true) in
-    elim c.if-not-meet_in_ends.branch [
-      | then-not-meet_in_ends+in_ok-push_meetings w ↦
+    let gathered = subst
+    (λ ks. AreGathered es (IsLookedAt i ks) (plain_meetings whole c.push_meetings.new.meetings.items)) more
+    (pair_gathered es i e at_e js j f at_f c.loop-k.invariant.0 c.in_ok-push_meetings.ensures.ok) in
+    elim c.if-branch.branch [
+      | then-branch w ↦
           let new = w.mark_open.new.is_open.items in
           let marks = w.mark_open.ensures in
-          rw (w.meetings-is, w.is_open-is) (
-            subst (λ ks. AreGathered es (IsLookedAt i ks) (plain_meetings whole w.push_meetings.new.meetings.items))
-                more
-                (pair_gathered es i e at_e js j f at_f c.loop-k.invariant.0 w.in_ok-push_meetings.ensures.ok),
+          rw (w.is_open-is) (
+            gathered,
             open_still es i old new marks.count marks.stay c.loop-k.invariant.1,
             subst (λ ks. AreOpenWith es i ks new) more
                 (open_with_more es i js j new e f at_e at_f (inl (inl marks.one))
                 (open_with_still es i js old new marks.stay c.loop-k.invariant.2)),
           )
-      | else-not-meet_in_ends w ↦
-          let settled = w.if-not-meet_in_ends.ensures.settles.0 refl in
-          rw (w.meetings-is, w.is_open-is) (
-            subst (λ ks. AreGathered es (IsLookedAt i ks) (plain_meetings whole c.loop-k.meetings.items)) more
-                (pair_left_out es i e at_e limit js j f (subst (IsHeld limit) at_e.1 (c.requires.held i e at_e.0))
-                (subst (IsHeld limit) at_f.1 (c.requires.held j f at_f.0)) at_f settled c.loop-k.invariant.0),
+      | else-branch w ↦
+          let settled = c.in_ok-push_meetings.ensures.open.0 w.if-branch.false in
+          rw (w.is_open-is) (
+            gathered,
             c.loop-k.invariant.1,
             subst (λ ks. AreOpenWith es i ks old) more
                 (open_with_more es i js j old e f at_e at_f (inr settled) c.loop-k.invariant.2),
