@@ -37,6 +37,7 @@ use overlay_extract::slicing::sliced_shapes::{sliced_shapes, sliced_shapes_with_
 use overlay_extract::slicing::slices::{slice_contours, slice_contours_with_trees_from};
 use overlay_extract::slicing::tours::tours;
 use overlay_geom::error::OverlayError;
+use overlay_geom::number::UIntNumber;
 use overlay_vector::graph_vectors::graph_vectors;
 use overlay_vector::selected_vectors::selected_vectors;
 use overlay_vector::vector_shapes::{vector_shapes, vector_shapes_with_trees_from};
@@ -47,8 +48,11 @@ use overlay_walk::groups::cut_in_groups;
 use overlay_walk::hand::HandRule;
 use overlay_walk::kept_contours::{kept_contours, kept_contours_of};
 use overlay_walk::open_steps::OpenSteps;
+use overlay_walk::points_once::has_each_point_once;
 use overlay_walk::selected_steps::push_selected;
-use overlay_walk::selected_walks::{selected_contours, selected_walks, selected_walks_of};
+use overlay_walk::selected_walks::{
+    selected_contours, selected_contours_of, selected_walks, selected_walks_of,
+};
 use overlay_walk::step::Step;
 use std::alloc::AllocError;
 use std::process::Abort;
@@ -138,6 +142,25 @@ fn cuts<
     trial.refuse_each(name, new, call, |_| Ok(true))
 }
 
+// The cut with groups, of steps that it is given, and the test of points with which it begins.
+fn check_groups<I: Width>(trial: &Trial<'_, impl Abort>, graph: &Plain<'_, I>) -> Result<(), Fail> {
+    let (memory, least) = (trial.memory, I::WideUInt::zero());
+    let new = || Ok(Some(OpenSteps::new(steps(graph)?)?));
+    let (contours, _) = trial.refuse_each(
+        "overlay_walk::cut_in_groups",
+        new,
+        |it| cut_in_groups(memory, it.take().ok_or(AllocError)?, DIRECTION, least),
+        |_| Ok(true),
+    )?;
+    assert!(trial.rt; contours.len() == 4);
+    let points = square::<I>(0, 20);
+    let is_once = trial.refuse_call("overlay_walk::has_each_point_once", || {
+        has_each_point_once(memory, &points)
+    })?;
+    assert!(trial.rt; is_once);
+    Ok(())
+}
+
 fn check_walks<I: Width>(trial: &Trial<'_, impl Abort>) -> Result<(), Fail> {
     let memory = trial.memory;
     let (graph, options) = (plain_graph::<I>(memory)?, IntOverlayOptions::default());
@@ -166,7 +189,13 @@ fn check_walks<I: Width>(trial: &Trial<'_, impl Abort>) -> Result<(), Fail> {
         &new_graph,
         |graph, it| selected_walks_of(graph, SUBJECT, DIRECTION, it),
     )?;
-    assert!(trial.rt; alike.len() == 4);
+    let others = gives(
+        trial,
+        "overlay_walk::selected_contours_of",
+        &new_graph,
+        |graph, it| selected_contours_of(graph, SUBJECT, DIRECTION, options.min_output_area, it),
+    )?;
+    assert!(trial.rt; alike.len() == 4 && others.len() == 4);
     let walks = lends(trial, "overlay_walk::selected_walks", |it| {
         selected_walks(&graph, SUBJECT, DIRECTION, it)
     })?;
@@ -177,10 +206,8 @@ fn check_walks<I: Width>(trial: &Trial<'_, impl Abort>) -> Result<(), Fail> {
     let walks = cuts(trial, &graph, "overlay_walk::cut_into_contours", |it| {
         cut_into_contours(memory, it, HandRule::OutlineOrHole(DIRECTION))
     })?;
-    let contours = cuts(trial, &graph, "overlay_walk::cut_in_groups", |it| {
-        cut_in_groups(memory, it, DIRECTION, options.min_output_area)
-    })?;
-    assert!(trial.rt; walks.len() == 4 && contours.len() == 4);
+    assert!(trial.rt; walks.len() == 4);
+    check_groups::<I>(trial, &graph)?;
     let new = || {
         let mut buffer = BooleanExtractionBuffer::default(memory);
         Ok(Some(selected_walks(&graph, SUBJECT, DIRECTION, &mut buffer)?))

@@ -5,5 +5,6 @@ mod counted;
 mod groups;
 mod kept;
 mod no_steps;
+mod points;
 mod rays;
 mod triangle;

@@ -67,7 +67,10 @@ fn check_walk<I: IntNumber>(
     let mut steps = open_triangle(alloc, zero, four)?;
     let start = steps.start().expect(rt, "steps are left");
     assert!(rt; start.edge == 3);
-    let walk = steps.walk(start, hand)?;
+    // (the room that is lent may hold steps, which are lost)
+    let mut room = Vec::new(alloc);
+    room.push(start)?;
+    let walk = steps.walk(&mut room, start, hand)?;
     assert!(rt; has_numbers(&walk, &[3, 1, 2]));
     assert!(rt; steps.start().is_none());
     Ok(())
