@@ -17,7 +17,6 @@ use Rattle.overlay_string.specs.PieceOrder.{IsPieceAt, AreInOrder, AreByStart}
 use Rattle.overlay_string.specs.PieceOrder.{IsRunStart, IsFirstFrom}
 use Rattle.overlay_string.specs.Pieces.{turned}
 use Rattle.overlay_string.specs.declared.piece.Way.{Way}
-use Rattle.overlay_string.specs.declared.piece.Way.TheVariants.{Onward, Back}
 use Rattle.overlay_string.proofs.OpenLists.{all_open}
 use Rattle.overlay_string.proofs.TakenPieces.{none_begins}
 

@@ -53,18 +53,22 @@ record Key : Type 0 where
   from : Point
   number : ℕ
 
+-- the comparison of two: by their points, then by their numbers
 abbrev key_order : Key → Key → Ordering
 key_order = then_cmp (on (λ (k : Key). k.from) point_order) (on (λ (k : Key). k.number) nat_cmp)
 
+-- any two compare, and in one way
 key_order-total : IsTotalOrder key_order
 key_order-total = then_total (on_total (λ (k : Key). k.from) point_order-total)
     (on_total (λ (k : Key). k.number) nat_cmp_total)
 
+-- two numbers compare as `Less` where the first is below the second
 is_less : (below same : Bool) → below ≡ is_lt (cond below Less (cond same Equal Greater))
 is_less true same = refl
 is_less false true = refl
 is_less false false = refl
 
+-- where a test by one thing and then by another fails, so does that by the first, and, for a tie, that by the other
 first_fails : (b c : Bool) → (b || c) ≡ false → b ≡ false
 first_fails true c h = h
 first_fails false c h = refl

@@ -1,10 +1,8 @@
 -- The piece at the first open place where one begins is taken.
-use Rattle.std.proofs.Common.{◌≡◌, ◌∙◌, ap, refl, sym, subst, length, arith}
-use Rattle.std.specs.Prelude.{Some, None, option_map}
+use Rattle.std.proofs.Common.{◌∙◌, refl, arith}
 use Rattle.std.proofs.lemmas.List.{length-map, length-set}
 use Rattle.overlay_geom.specs.Points.{plain_point}
 use Rattle.overlay_geom.proofs.Mapped.{read_mapped}
-use Rattle.overlay_string.specs.OpenPlaces.{IsFirstPlaceAt}
 use Rattle.overlay_string.specs.Pieces.{plain_piece, plain_pieces}
 use Rattle.overlay_string.proofs.OpenLists.{none_still}
 use Rattle.overlay_string.proofs.TakenPieces.{first_at_taken, none_at_taken}
