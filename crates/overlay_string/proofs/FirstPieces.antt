@@ -13,11 +13,10 @@ use Rattle.overlay_geom.proofs.PointOrder.{point_lt-before_up_to}
 use Rattle.overlay_walk.specs.Steps.{plain_step, plain_steps}
 use Rattle.overlay_walk.specs.declared.step.Step.{Step as StepTaken}
 use Rattle.overlay_string.specs.OpenPlaces.{piece_at, IsFirstPlaceAt, NoneBeginsAt}
-use Rattle.overlay_string.specs.PieceOrder.{seen_on, IsPieceAt, AreInOrder, AreByStart, AreOpenPieces}
+use Rattle.overlay_string.specs.PieceOrder.{IsPieceAt, AreInOrder, AreByStart}
 use Rattle.overlay_string.specs.PieceOrder.{IsRunStart, IsFirstFrom}
 use Rattle.overlay_string.specs.Pieces.{turned}
 use Rattle.overlay_string.specs.declared.piece.Way.{Way}
-use Rattle.overlay_string.specs.declared.piece.Way.TheVariants.{Onward, Back}
 use Rattle.overlay_string.proofs.OpenLists.{all_open}
 use Rattle.overlay_string.proofs.TakenPieces.{none_begins}
 
@@ -158,13 +157,3 @@ module _ {I : Type 0} (whole : I → ℤ) (way : Way) (v : Point) (ss : List Ste
   pub within_marks : All (λ t. t.edge < length marks) ts
   within_marks = All-weaker (IsPieceAt whole way ss) (λ t. t.edge < length marks)
       (λ t piece. let b = piece.below in omega arith) ts have.pieces
-
--- on either way
-pub first_place_on : {I : Type 0} (whole : I → ℤ) (way : Way) (v : Point) (ss : List Step) (marks : List Bool)
-    (passed : ℕ) (onward back : List (StepTaken I)) → AreOpenPieces whole ss marks passed onward back →
-    (found : Option ℕ) → IsFirstFrom whole (seen_on way onward back) marks v found →
-    IsFirstPlaceAt way v ss marks found
-first_place_on whole Onward v ss marks passed onward back have found first =
-    first_place_from whole Onward v ss marks have.marked onward have.leaving found first
-first_place_on whole Back v ss marks passed onward back have found first =
-    first_place_from whole Back v ss marks have.marked back have.arriving found first

@@ -1,27 +1,29 @@
 -- Pieces by where they begin: each stands among them, and those from one point in the order of their places.
-use Rattle.std.proofs.Common.{◌≡◌, ℕ, zero, suc, ◌+◌, ◌-◌, ◌<◌, ◌≤◌, Bool, false, not, ◌&&◌, ℤ, List, []}
-use Rattle.std.proofs.Common.{◌∷◌, ◌++◌, length, map, get_or, refl, sym, ap, ap₂, ◌∙◌, subst, below_more, arith}
-use Rattle.std.specs.Prelude.{Contains, nat_lt}
-use Rattle.std.specs.List.Sorted.{IsPermutation, IsSortedBy, IsStableBy}
-use Rattle.std.proofs.lemmas.Bool.{both_ways, false_from_ne_true, le-ltb, ltb-false}
+use Rattle.std.proofs.Common.{◌≡◌, ℕ, ◌+◌, ◌<◌, Bool, true, false, cond, ◌&&◌, ◌||◌, ℤ, List, []}
+use Rattle.std.proofs.Common.{◌∷◌, ◌++◌, length, map, get_or, refl, sym, ap, ◌∙◌, below_more, arith}
+use Rattle.std.specs.Prelude.{◌==◌, Contains, nat_lt}
+use Rattle.std.specs.Cmp.{IsTotalOrder, IsStrictWeakOrder}
+use Rattle.std.specs.List.Sorted.{IsPermutation, IsSortedBy}
+use Rattle.std.specs.Ordering.{is_lt, nat_cmp, ordering_then, then_cmp, on}
+use Rattle.std.specs.declared.cmp.Ordering.{Ordering}
+use Rattle.std.specs.declared.cmp.Ordering.TheVariants.{Less, Equal, Greater}
+use Rattle.std.proofs.lemmas.Bool.{both_ways, ltb-false}
+use Rattle.std.proofs.lemmas.Cmp.{on_total, then_total, nat_cmp_total}
 use Rattle.std.proofs.lemmas.List.{length-map, length_push, get_or-map, get_or_push, get_or_append_left}
 use Rattle.std.proofs.lemmas.List.Elements.{All-nil, All-push}
-use Rattle.std.proofs.lemmas.List.MinMax.{IsStrictWeakOrder-by_number}
 use Rattle.std.proofs.lemmas.List.Sorted.{All-permutation, Contains-permutation, IsPermutation-map, sorted_far}
-use Rattle.std.proofs.lemmas.List.Sorted.{ties_stay_sorted}
-use Rattle.overlay_geom.specs.Plane.{Step, point_lt}
+use Rattle.std.proofs.lemmas.List.Sorted.{ranks_by}
+use Rattle.overlay_geom.specs.Plane.{Point, Step, point_eq, point_lt}
+use Rattle.overlay_geom.specs.Resolved.{point_cmp}
 use Rattle.overlay_geom.proofs.Entries.{some_entry}
-use Rattle.overlay_geom.proofs.Orders.{point_lt-itself}
-use Rattle.overlay_geom.proofs.PointOrder.{point_lt-after_up_to, point_lt-before_up_to}
+use Rattle.overlay_geom.proofs.Mapped.{AllPairs-map}
+use Rattle.overlay_geom.proofs.Orders.{point_order, point_order-total, point_lt-is_less, point_eq-is_tie, less_in_turn}
+use Rattle.overlay_geom.proofs.Orders.{point_eq-of_same}
+use Rattle.overlay_geom.proofs.PointComparisons.{point_cmp-is_less, point_cmp-is_tie}
 use Rattle.overlay_walk.specs.Steps.{plain_step}
 use Rattle.overlay_walk.specs.declared.step.Step.{Step as StepTaken}
-use Rattle.overlay_walk.proofs.Runs.{leaves_smaller, leaves_smaller-order, IsByFrom-from_sorted}
 use Rattle.overlay_string.specs.PieceOrder.{IsPieceAt, AreNumbered, AreInOrder, AreByStart}
 use Rattle.overlay_string.specs.declared.piece.Way.{Way}
-
--- the order of steps by their numbers
-abbrev numbered_below : {I : Type 0} → StepTaken I → StepTaken I → Bool
-numbered_below s t = nat_lt s.edge t.edge
 
 module _ {I : Type 0} (whole : I → ℤ) (way : Way) (ss : List Step) where
   -- no step is the first none of the pieces
@@ -46,65 +48,100 @@ module _ {I : Type 0} (whole : I → ℤ) (way : Way) (ss : List Step) where
 
 -- ---- sorted
 
-module _ {I : Type 0} (whole : I → ℤ) (ts us : List (StepTaken I))
-    (up : IsSortedBy (leaves_smaller whole) us) (stable : IsStableBy (leaves_smaller whole) ts us)
-    (numbers_up : IsSortedBy numbered_below ts) where
-  -- a later step leaves no smaller point
-  later : (i j : ℕ) (d : StepTaken I) → i ≤ j → j < length us →
-      leaves_smaller whole (get_or us j d) (get_or us i d) ≡ false
-  later = sorted_far (leaves_smaller whole) (leaves_smaller-order whole) us up
+-- what tells the place of a step
+record Key : Type 0 where
+  from : Point
+  number : ℕ
 
-  -- up to a step that leaves no larger point than an earlier one, numbers rise
-  climb : (i n : ℕ) (d : StepTaken I) → i + n < length us →
-      leaves_smaller whole (get_or us i d) (get_or us (i + n) d) ≡ false →
-      (get_or us i d).edge ≤ (get_or us (i + n) d).edge
-  climb i zero d h back = let here : i + zero ≡ i = omega arith in
-      subst (λ k. (get_or us i d).edge ≤ (get_or us k d).edge) (sym here) (omega arith)
-  climb i (suc n) d h back =
-      let next : i + n + 1 ≡ i + suc n = omega arith in
-      let s = get_or us i d in
-      let t = get_or us (i + n) d in
-      let r = get_or us (i + n + 1) d in
+-- the comparison of two: by their points, then by their numbers
+abbrev key_order : Key → Key → Ordering
+key_order = then_cmp (on (λ (k : Key). k.from) point_order) (on (λ (k : Key). k.number) nat_cmp)
+
+-- any two compare, and in one way
+key_order-total : IsTotalOrder key_order
+key_order-total = then_total (on_total (λ (k : Key). k.from) point_order-total)
+    (on_total (λ (k : Key). k.number) nat_cmp_total)
+
+-- two numbers compare as `Less` where the first is below the second
+is_less : (below same : Bool) → below ≡ is_lt (cond below Less (cond same Equal Greater))
+is_less true same = refl
+is_less false true = refl
+is_less false false = refl
+
+-- where a test by one thing and then by another fails, so does that by the first, and, for a tie, that by the other
+first_fails : (b c : Bool) → (b || c) ≡ false → b ≡ false
+first_fails true c h = h
+first_fails false c h = refl
+
+last_fails : (b e c : Bool) → (b || (e && c)) ≡ false → e ≡ true → c ≡ false
+last_fails true e c h holds = absurd (both_ways true h refl)
+last_fails false true c h holds = h
+last_fails false false c h holds = absurd (both_ways false refl holds)
+
+module _ {I : Type 0} (whole : I → ℤ) where
+  abbrev key_of : StepTaken I → Key
+  key_of s = record { from = (plain_step whole s).from; number = s.edge }
+
+  -- the first leaves a smaller point, or the same and has the smaller number
+  abbrev pub comes_first : StepTaken I → StepTaken I → Bool
+  comes_first s t = point_lt (plain_step whole s).from (plain_step whole t).from
+      || (point_eq (plain_step whole s).from (plain_step whole t).from && nat_lt s.edge t.edge)
+
+  comes_first-is_less : (s t : StepTaken I) → comes_first s t ≡ is_lt (key_order (key_of s) (key_of t))
+  comes_first-is_less s t =
       let p = (plain_step whole s).from in
       let q = (plain_step whole t).from in
-      let o = (plain_step whole r).from in
-      let no_larger : point_lt p o ≡ false = subst (λ k. point_lt p (plain_step whole (get_or us k d)).from ≡ false)
-      (sym next) back in
-      let up_to_here = later i (i + n) d (omega arith) (omega arith) in
-      let on = later (i + n) (i + n + 1) d (omega arith) (omega arith) in
-      let same_before : point_lt p q ≡ false = false_from_ne_true (point_lt p q)
-      (λ less. both_ways (point_lt p o) no_larger (point_lt-before_up_to p q o less on)) in
-      let same_next : point_lt q o ≡ false = false_from_ne_true (point_lt q o)
-      (λ less. both_ways (point_lt p o) no_larger (point_lt-after_up_to p q o up_to_here less)) in
-      let before = climb i n d (omega arith) same_before in
-      let rises = ties_stay_sorted numbered_below (leaves_smaller whole)
-      (IsStrictWeakOrder-by_number (λ (a : StepTaken I). a.edge)) (leaves_smaller-order whole) ts us numbers_up stable
-      (i + n) d (omega arith) (ap₂ (λ a b. not a && not b) same_next on) in
-      let step = ltb-false r.edge t.edge rises in
-      subst (λ k. s.edge ≤ (get_or us k d).edge) next (omega arith)
+      less_in_turn (point_order p q) (nat_cmp s.edge t.edge) (point_lt p q) (point_eq p q) (nat_lt s.edge t.edge)
+      (point_lt-is_less p q) (point_eq-is_tie p q) (is_less (nat_lt s.edge t.edge) (s.edge == t.edge))
 
-  -- so the steps are in order
-  in_order : AreInOrder whole us
-  in_order = record {
-    leaving = IsByFrom-from_sorted whole us up;
+  -- that is how they compare by their points and then by their numbers
+  pub compared_in_turn : (s t : StepTaken I) →
+      is_lt (ordering_then (point_cmp (plain_step whole s).from (plain_step whole t).from) (nat_cmp s.edge t.edge))
+      ≡ comes_first s t
+  compared_in_turn s t =
+      let p = (plain_step whole s).from in
+      let q = (plain_step whole t).from in
+      sym (less_in_turn (point_cmp p q) (nat_cmp s.edge t.edge) (point_lt p q) (point_eq p q) (nat_lt s.edge t.edge)
+      (sym (point_cmp-is_less p q)) (sym (point_cmp-is_tie p q)) (is_less (nat_lt s.edge t.edge) (s.edge == t.edge)))
+
+  -- any two steps compare
+  pub comes_first-order : IsStrictWeakOrder comes_first
+  comes_first-order =
+      let r : IsStrictWeakOrder (λ (k l : Key). is_lt (key_order k l)) = ranks_by key_order-total (λ (k : Key). k) in
+      record {
+        one_way = λ s t h. comes_first-is_less t s
+            ∙ r.one_way (key_of s) (key_of t) (sym (comes_first-is_less s t) ∙ h);
+        chain = λ s t u h k. comes_first-is_less s u
+            ∙ r.chain (key_of s) (key_of t) (key_of u) (sym (comes_first-is_less s t) ∙ h)
+            (sym (comes_first-is_less t u) ∙ k);
+      }
+
+  -- steps sorted so are in order
+  in_order : (us : List (StepTaken I)) → IsSortedBy comes_first us → AreInOrder whole us
+  in_order us up = record {
+    leaving = AllPairs-map (λ (s t : Step). point_lt t.from s.from ≡ false) (plain_step whole) us
+        (λ i j d less h. first_fails _ _ (later i j d less h));
     rising = λ i j d less h same.
-        let here : i + (j - i) ≡ j = omega arith in
-        subst (λ k. (get_or us i d).edge ≤ (get_or us k d).edge) here
-        (climb i (j - i) d (omega arith)
-        (subst (λ k. leaves_smaller whole (get_or us i d) (get_or us k d) ≡ false) (sym here)
-        (subst (λ p. point_lt (plain_step whole (get_or us i d)).from p ≡ false) same
-        (point_lt-itself (plain_step whole (get_or us i d)).from))));
+        let s = get_or us i d in
+        let t = get_or us j d in
+        let back : nat_lt t.edge s.edge ≡ false = last_fails _ _ _ (later i j d less h)
+        (point_eq-of_same (plain_step whole t).from (plain_step whole s).from (sym same)) in
+        ltb-false t.edge s.edge back;
   }
+    where
+      later : (i j : ℕ) (d : StepTaken I) → i < j → j < length us →
+          comes_first (get_or us j d) (get_or us i d) ≡ false
+      later i j d less h = sorted_far comes_first comes_first-order us up i j d (omega arith) h
 
--- a stable sort of the pieces puts them into this order
+-- the pieces, sorted so, are all of them in order
 pub sorted_by_start : {I : Type 0} (whole : I → ℤ) (way : Way) (ss : List Step) (n : ℕ) (ts us : List (StepTaken I)) →
-    n ≡ length ss → AreNumbered whole way ss n ts → IsPermutation ts us → IsSortedBy (leaves_smaller whole) us →
-    IsStableBy (leaves_smaller whole) ts us → AreByStart whole way ss us
-sorted_by_start {I} whole way ss n ts us counted have moved up stable = record {
+    n ≡ length ss → AreNumbered whole way ss n ts → IsPermutation ts us → IsSortedBy (comes_first whole) us →
+    AreByStart whole way ss us
+sorted_by_start {I} whole way ss n ts us counted have moved up = record {
   pieces = All-permutation (IsPieceAt whole way ss) ts us moved have.pieces;
   all = λ k h. Contains-permutation (map (λ t. t.edge) ts) (map (λ t. t.edge) us) k
       (IsPermutation-map (λ t. t.edge) ts us moved) (stands k (omega arith));
-  order = in_order whole ts us up stable rising;
+  order = in_order whole us up;
 }
   where
     stands : (k : ℕ) → k < n → Contains (map (λ (t : StepTaken I). t.edge) ts) k
@@ -116,10 +153,3 @@ sorted_by_start {I} whole way ss n ts us counted have moved up stable = record {
           (let l = length-map ts (λ (t : StepTaken I). t.edge) in omega arith),
           get_or-map (λ (t : StepTaken I). t.edge) ts k d k within ∙ have.numbered k d h,
         )
-
-    rising : IsSortedBy numbered_below ts
-    rising k d low h =
-        let many = have.many in
-        let this = have.numbered k d (omega arith) in
-        let next = have.numbered (k + 1) d (omega arith) in
-        le-ltb (get_or ts (k + 1) d).edge (get_or ts k d).edge (omega arith)

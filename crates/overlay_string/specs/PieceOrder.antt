@@ -1,6 +1,6 @@
 -- Pieces, seen on a way, as steps whose numbers are the places of the pieces, and their order by where they begin;
 -- what is kept of pieces of which some are open.
-use Rattle.std.specs.Prelude.{◌≡◌, ℕ, ◌<◌, ◌≤◌, Bool, true, false, ℤ, List, [], length, map, slice_index_or}
+use Rattle.std.specs.Prelude.{◌≡◌, ◌⊎◌, ℕ, ◌<◌, ◌≤◌, Bool, true, false, ℤ, List, [], length, map, slice_index_or}
 use Rattle.std.specs.Prelude.{Option, Some, None, All, AllPairs, Contains}
 use Rattle.std.specs.List.Sorted.{IsPartitionPoint}
 use Rattle.overlay_geom.specs.Plane.{Point, Step, point_lt}
@@ -40,6 +40,10 @@ pub record AreByStart {I : Type 0} (whole : I → ℤ) (way : Way) (ss : List St
   pub all : (k : ℕ) → k < length ss → Contains (map (λ t. t.edge) ts) k
   pub order : AreInOrder whole ts
 
+-- they are that, or there are none yet
+abbrev pub AreByStartIfAny : {I : Type 0} → (I → ℤ) → Way → List Step → List (StepTaken I) → Type 0
+AreByStartIfAny whole way ss ts = (ts ≡ []) ⊎ AreByStart whole way ss ts
+
 -- the number is the smallest one of those of the steps from v that are not taken
 pub record IsFirstNumber {I : Type 0} (whole : I → ℤ) (ts : List (StepTaken I)) (marks : List Bool) (v : Point) (k : ℕ)
     : Type 0 where
@@ -56,16 +60,11 @@ IsFirstFrom whole ts marks v None =
     All (λ t. (plain_step whole t).from ≡ v → slice_index_or marks t.edge true ≡ true) ts
 IsFirstFrom whole ts marks v (Some k) = IsFirstNumber whole ts marks v k
 
--- of two things that for pieces as they run, or that for pieces turned back
-abbrev pub seen_on : {X : Type 0} → Way → X → X → X
-seen_on Onward onward back = onward
-seen_on Back onward back = back
-
 -- the pieces with a mark for each, none of them open before the place that is passed, by where they begin and by where
--- they end
+-- they end, once that is looked up
 pub record AreOpenPieces {I : Type 0} (whole : I → ℤ) (ss : List Step) (marks : List Bool) (passed : ℕ)
     (onward back : List (StepTaken I)) : Type 0 where
   pub marked : length marks ≡ length ss
   pub passing : open_before ss marks passed ≡ []
-  pub leaving : AreByStart whole Onward ss onward
-  pub arriving : AreByStart whole Back ss back
+  pub leaving : AreByStartIfAny whole Onward ss onward
+  pub arriving : AreByStartIfAny whole Back ss back

@@ -9,6 +9,7 @@ ghost use Rattle.overlay_walk.specs.Steps.{plain_step};
 use crate::piece::{Piece, Way};
 use crate::taken_pieces::is_taken;
 use overlay_arrange::edge::compare_points;
+use overlay_arrange::sort_points::order_by_points;
 use overlay_geom::number::IntNumber;
 use overlay_geom::point::IntPoint;
 use overlay_walk::next::run_start;
@@ -17,7 +18,7 @@ use std::alloc::{AllocError, Allocator};
 
 /// The pieces, seen on the way, each with its place, by the points that they leave, and those from one point by their
 /// places.
-pub(crate) fn steps_by_start<I: IntNumber, A: Allocator>(
+pub(crate) fn steps_by_start<I: IntNumber, A: Allocator + Clone>(
     alloc: A,
     pieces: &[Piece<I>],
     way: Way,
@@ -25,7 +26,8 @@ pub(crate) fn steps_by_start<I: IntNumber, A: Allocator>(
     ensures ok { IfOk result (λ v. AreByStart I.whole way (plain_pieces I.whole pieces.now) v.items) }
 {
     let mut steps = numbered_steps(alloc, pieces, way)?;
-    steps.sort_by(|s, t| compare_points(s.from, t.from))?;
+    order_by_points(&mut steps, |s| s.from)?;
+    steps.sort_by(|s, t| compare_points(s.from, t.from).then(s.edge.cmp(&t.edge)))?;
     Ok(steps)
 }
 

@@ -30,7 +30,7 @@ pub(crate) fn joined_paths<I: IntNumber, A: Allocator + Clone>(
 }
 
 // The path of a piece that was taken first of all, which is walked on the way that the piece tells.
-fn path_of<I: IntNumber, A: Allocator>(
+fn path_of<I: IntNumber, A: Allocator + Clone>(
     alloc: A,
     pieces: &mut OpenPieces<I, A>,
     piece: Piece<I>,
@@ -54,7 +54,7 @@ fn path_of<I: IntNumber, A: Allocator>(
 }
 
 // Adds the points at which open pieces arrive that go on from a point, one after another, seen on the way.
-fn go_on<I: IntNumber, A: Allocator>(
+fn go_on<I: IntNumber, A: Allocator + Clone>(
     path: &mut IntPath<I, A>,
     pieces: &mut OpenPieces<I, A>,
     way: Way,
@@ -64,7 +64,7 @@ fn go_on<I: IntNumber, A: Allocator>(
         (plain_points I.whole path.old.items) (plain_points I.whole path.new.items)) }
 {
     let mut end = from;
-    while let Some(piece) = pieces.take_at(way, end) {
+    while let Some(piece) = pieces.take_at(way, end)? {
         end = piece.end(way);
         path.push(end)?;
     }

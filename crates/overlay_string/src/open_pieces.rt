@@ -1,10 +1,11 @@
 //! Pieces of strings, and which of them no path has taken yet.
 
-ghost use Rattle.std.specs.Prelude.{◌≡◌, ◌<◌, [], length, All, IfOk, option_map};
+ghost use Rattle.std.specs.Prelude.{◌≡◌, [], length, IfOk, OnOk, option_map};
 ghost use Rattle.overlay_geom.specs.Points.{plain_point};
-ghost use Rattle.overlay_string.specs.OpenPlaces.{open_before, IsFirstPlace};
-ghost use Rattle.overlay_string.specs.PieceOrder.{seen_on, AreInOrder, IsFirstFrom};
+ghost use Rattle.overlay_string.specs.OpenPlaces.{open_before, IsFirstPlace, IsFirstPlaceAt};
+ghost use Rattle.overlay_string.specs.PieceOrder.{AreByStart, AreByStartIfAny};
 ghost use Rattle.overlay_string.specs.Pieces.{plain_piece, plain_pieces, IsTakenAt, IsTakenFirst};
+ghost use Rattle.overlay_string.specs.declared.piece.Way.TheVariants.{Onward, Back};
 
 use crate::by_start::{first_open_from, steps_by_start};
 use crate::piece::{Piece, Way};
@@ -23,9 +24,9 @@ pub(crate) struct OpenPieces<I: IntNumber, A: Allocator> {
     taken: Vec<bool, A>,
     // a place before which none is open
     passed: usize,
-    // the pieces by the points that they leave
+    // the pieces by the points that they leave, once one is looked for there
     onward: Vec<Step<I>, A>,
-    // the pieces turned back, by the points at which they arrive
+    // the pieces turned back, by the points at which they arrive, once one is looked for there
     back: Vec<Step<I>, A>,
 }
 
@@ -54,16 +55,6 @@ impl<I: IntNumber, A: Allocator> OpenPieces<I, A> {
         self.passed = place;
         Some(self.pieces[place])
     }
-
-    /// The first of the open pieces that begin at a point, seen on the way; it is taken.
-    pub(crate) fn take_at(&mut self, way: Way, point: IntPoint<I>) -> Option<Piece<I>>
-        ensures { IsTakenAt way (plain_point I.whole point) self.old self.new
-            (option_map (plain_piece I.whole) result) }
-    {
-        let place = first_open_at(&self.onward, &self.back, &self.taken, way, point)?;
-        self.taken[place] = true;
-        Some(self.pieces[place])
-    }
 }
 
 impl<I: IntNumber, A: Allocator + Clone> OpenPieces<I, A> {
@@ -71,8 +62,8 @@ impl<I: IntNumber, A: Allocator + Clone> OpenPieces<I, A> {
     pub(crate) fn new(pieces: Vec<Piece<I>, A>) -> Result<Self, AllocError>
         ensures ok { IfOk result (λ o. o ≡ plain_pieces I.whole pieces.items) }
     {
-        let onward = steps_by_start(pieces.allocator().clone()?, &pieces, Way::Onward)?;
-        let back = steps_by_start(pieces.allocator().clone()?, &pieces, Way::Back)?;
+        let onward = Vec::new(pieces.allocator().clone()?);
+        let back = Vec::new(pieces.allocator().clone()?);
         let mut taken = Vec::new(pieces.allocator().clone()?);
         taken.resize(pieces.len(), false)?;
         Ok(OpenPieces {
@@ -82,6 +73,32 @@ impl<I: IntNumber, A: Allocator + Clone> OpenPieces<I, A> {
             onward,
             back,
         })
+    }
+
+    /// The first of the open pieces that begin at a point, seen on the way; it is taken. After a refusal, none is.
+    pub(crate) fn take_at(
+        &mut self,
+        way: Way,
+        point: IntPoint<I>,
+    ) -> Result<Option<Piece<I>>, AllocError>
+        ensures ok { IfOk result (λ p. IsTakenAt way (plain_point I.whole point) self.old self.new
+            (option_map (plain_piece I.whole) p)) }
+    {
+        let found = first_open_on(
+            &mut self.onward,
+            &mut self.back,
+            &self.pieces,
+            &self.taken,
+            way,
+            point,
+        )?;
+        match found {
+            Some(place) => {
+                self.taken[place] = true;
+                Ok(Some(self.pieces[place]))
+            }
+            None => Ok(None),
+        }
     }
 }
 
@@ -100,21 +117,58 @@ fn first_open<I: IntNumber>(pieces: &[Piece<I>], taken: &[bool], passed: usize) 
 }
 
 // The place of the first open piece that begins at a point, seen on the way.
-fn first_open_at<I: IntNumber>(
-    onward: &[Step<I>],
-    back: &[Step<I>],
+fn first_open_on<I: IntNumber, A: Allocator + Clone>(
+    onward: &mut Vec<Step<I>, A>,
+    back: &mut Vec<Step<I>, A>,
+    pieces: &[Piece<I>],
     taken: &[bool],
     way: Way,
     point: IntPoint<I>,
-) -> Option<usize>
-    requires onward { AreInOrder I.whole onward.now }
-    requires onward_within { All (λ s. s.edge < length taken.now) onward.now }
-    requires back { AreInOrder I.whole back.now }
-    requires back_within { All (λ s. s.edge < length taken.now) back.now }
-    ensures { IsFirstFrom I.whole (seen_on way onward.now back.now) taken.now (plain_point I.whole point) result }
+) -> Result<Option<usize>, AllocError>
+    requires marks { length taken.now ≡ length pieces.now }
+    requires onward { AreByStartIfAny I.whole Onward (plain_pieces I.whole pieces.now) onward.old.items }
+    requires back { AreByStartIfAny I.whole Back (plain_pieces I.whole pieces.now) back.old.items }
+    ensures ok { IfOk result
+        (IsFirstPlaceAt way (plain_point I.whole point) (plain_pieces I.whole pieces.now) taken.now) }
+    ensures onward { AreByStartIfAny I.whole Onward (plain_pieces I.whole pieces.now) onward.new.items }
+    ensures back { AreByStartIfAny I.whole Back (plain_pieces I.whole pieces.now) back.new.items }
 {
     match way {
-        Way::Onward => first_open_from(onward, taken, point),
-        Way::Back => first_open_from(back, taken, point),
+        Way::Onward => first_open_at(onward, pieces, taken, Way::Onward, point),
+        Way::Back => first_open_at(back, pieces, taken, Way::Back, point),
     }
+}
+
+// That place, found among the pieces by where they begin, seen on the way.
+fn first_open_at<I: IntNumber, A: Allocator + Clone>(
+    steps: &mut Vec<Step<I>, A>,
+    pieces: &[Piece<I>],
+    taken: &[bool],
+    way: Way,
+    point: IntPoint<I>,
+) -> Result<Option<usize>, AllocError>
+    requires marks { length taken.now ≡ length pieces.now }
+    requires steps { AreByStartIfAny I.whole way (plain_pieces I.whole pieces.now) steps.old.items }
+    ensures ok { IfOk result
+        (IsFirstPlaceAt way (plain_point I.whole point) (plain_pieces I.whole pieces.now) taken.now) }
+    ensures steps { AreByStartIfAny I.whole way (plain_pieces I.whole pieces.now) steps.new.items }
+{
+    make_by_start(steps, pieces, way)?;
+    Ok(first_open_from(steps, taken, point))
+}
+
+// Makes the steps that are the pieces by where they begin, seen on the way, unless they are made already.
+fn make_by_start<I: IntNumber, A: Allocator + Clone>(
+    steps: &mut Vec<Step<I>, A>,
+    pieces: &[Piece<I>],
+    way: Way,
+) -> Result<(), AllocError>
+    requires { AreByStartIfAny I.whole way (plain_pieces I.whole pieces.now) steps.old.items }
+    ensures ok { OnOk result (AreByStart I.whole way (plain_pieces I.whole pieces.now) steps.new.items) }
+    ensures steps { AreByStartIfAny I.whole way (plain_pieces I.whole pieces.now) steps.new.items }
+{
+    if steps.is_empty() {
+        *steps = steps_by_start(steps.allocator().clone()?, pieces, way)?;
+    }
+    Ok(())
 }

@@ -16,7 +16,7 @@ loop-piece-smaller g c =
     let whole = g.I.IntNumber.whole in
     fewer_open c.args.way (plain_point whole c.args.from) c.args.pieces.now (plain_points whole c.args.path.now.items)
     (plain_point whole c.loop-piece.end) c.loop-piece.pieces c.take_at.new.self (plain_piece whole c.in-Some.piece)
-    c.in-Some.ensures
+    (rw (c.in-Some.is) at c.in_ok-piece.ensures.ok)
 
 pub loop-piece-preserved : goal.loop-piece-preserved
 loop-piece-preserved g c =
@@ -24,7 +24,8 @@ loop-piece-preserved g c =
     let l = c.loop-piece in
     one_step_more c.args.way (plain_point whole c.args.from) c.args.pieces.now
     (plain_points whole c.args.path.now.items) (plain_point whole l.end) l.pieces c.take_at.new.self
-    (plain_points whole l.path.items) l.invariant (plain_piece whole c.in-Some.piece) c.in-Some.ensures
+    (plain_points whole l.path.items) l.invariant (plain_piece whole c.in-Some.piece)
+    (rw (c.in-Some.is) at c.in_ok-piece.ensures.ok)
     (plain_point whole c.end-end.result) c.end-end.ensures (plain_points whole c.push.new.self.items)
     (ap (plain_points whole) c.in_ok-push.ensures.items
     ∙ map-append (plain_point whole) l.path.items (c.end-end.result ∷ []))
@@ -35,5 +36,6 @@ returns g c = record {
       let l = c.loop-piece in
       comes_to_an_end c.args.way (plain_point whole c.args.from) c.args.pieces.now
       (plain_points whole c.args.path.now.items) (plain_point whole l.end) l.pieces c.take_at.new.self
-      (plain_points whole l.path.items) l.invariant c.in_default.ensures;
+      (plain_points whole l.path.items) l.invariant
+      (rw (c.in_default.is) at c.in_ok-piece.ensures.ok);
 }

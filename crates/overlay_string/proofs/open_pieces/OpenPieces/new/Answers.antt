@@ -1,5 +1,5 @@
--- No mark is set, and none is passed.
-use Rattle.std.proofs.Common.{◌≡◌, length, refl, sym, ◌∙◌, rules}
+-- No mark is set, none is passed, and no piece was looked up.
+use Rattle.std.proofs.Common.{◌≡◌, length, refl, sym, ◌∙◌, rules, inl}
 use Rattle.std.proofs.lemmas.List.{length-map}
 use Rattle.overlay_walk.proofs.OpenPlaces.{unmarked-cleared}
 use Rattle.overlay_string.specs.Pieces.{plain_piece, plain_pieces}
@@ -12,8 +12,8 @@ invariant_of-result g c =
     record {
       marked = all ∙ sym (length-map c.args.pieces.items (plain_piece whole));
       passing = refl;
-      leaving = rw (c.deref.ensures.value) at c.in_ok-onward.ensures.ok;
-      arriving = rw (c.deref-2.ensures.value) at c.in_ok-back.ensures.ok;
+      leaving = inl c.new-onward.ensures.items;
+      arriving = inl c.new-back.ensures.items;
     }
 
 pub returns : goal.returns
