@@ -125,7 +125,7 @@ impl<I: IntNumber, A: Allocator + Clone> OpenSteps<I, A> {
 
     /// Takes the orbit of a step by a hand, in the steps left. A ray that turns by the hand at the end of a step, from
     /// the way back, meets the next step first. The steps left lead on by the hand: a step leaves the end of each, and
-    /// no two have the same next step. The steps are gathered in the room that is lent, and its content is lost. After a
+    /// no two have the same next step. The steps are gathered in the room that is lent, whose content is lost. After a
     /// refusal, the steps left are open.
     pub fn walk(
         &mut self,

@@ -36,7 +36,8 @@ returns-then-options-clause-long g c =
     let ruled = ruled_content limit es c.note_arrangement.ensures.content
     c.note_arrangement.ensures.ascending c.note_arrangement.ensures.settled c.requires c.args.graph.fill_rule
     c.args.overlay_rule in
-    IfOk-weaker c.selected_contours_of.result _ (λ cs. All (All (IsLong limit)) (walks_in (plain_contours whole cs.items)))
+    IfOk-weaker c.selected_contours_of.result _
+    (λ cs. All (All (IsLong limit)) (walks_in (plain_contours whole cs.items)))
     (λ cs cut. kept_are_long q es (plain_contours whole cs.items)
     (kept_with_groups q es (plain_contours whole cs.items) c.if-options.true ruled cut) limit
     c.note_arrangement.ensures.content)

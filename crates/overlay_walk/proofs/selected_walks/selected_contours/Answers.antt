@@ -27,8 +27,9 @@ pub returns-clause-cut : goal.returns-clause-cut
 returns-clause-cut g c =
     let keeps : List Step → Bool = λ w. reaches g.I.Wide.WideIntNumber.width
     (g.I.WideUInt.UIntNumber.natural c.args.min_output_area) w in
-    cut_of_selected g.I.IntNumber.limit (graph_edges c.args.graph.now) c.note_arrangement.ensures c.requires c.args.graph.now.fill_rule
-    c.args.overlay_rule (filled_hand c.args.direction) (plain_steps g.I.IntNumber.whole c.in_ok-open.open)
+    cut_of_selected g.I.IntNumber.limit (graph_edges c.args.graph.now) c.note_arrangement.ensures c.requires
+    c.args.graph.now.fill_rule c.args.overlay_rule (filled_hand c.args.direction)
+    (plain_steps g.I.IntNumber.whole c.in_ok-open.open)
     c.in_ok-open.ensures.selected keeps (plain_contours g.I.IntNumber.whole c.in_ok-contours.contours.items)
     c.in_ok-contours.ensures.cut
 
@@ -37,8 +38,9 @@ returns-clause-simple g c =
     let keeps : List Step → Bool = λ w. reaches g.I.Wide.WideIntNumber.width
     (g.I.WideUInt.UIntNumber.natural c.args.min_output_area) w in
     let contours = plain_contours g.I.IntNumber.whole c.in_ok-contours.contours.items in
-    cut_is_simple g.I.IntNumber.limit (graph_edges c.args.graph.now) c.note_arrangement.ensures c.requires c.args.graph.now.fill_rule
-    c.args.overlay_rule (filled_hand c.args.direction) keeps contours
-    (cut_of_selected g.I.IntNumber.limit (graph_edges c.args.graph.now) c.note_arrangement.ensures c.requires c.args.graph.now.fill_rule
-    c.args.overlay_rule (filled_hand c.args.direction) (plain_steps g.I.IntNumber.whole c.in_ok-open.open)
+    cut_is_simple g.I.IntNumber.limit (graph_edges c.args.graph.now) c.note_arrangement.ensures c.requires
+    c.args.graph.now.fill_rule c.args.overlay_rule (filled_hand c.args.direction) keeps contours
+    (cut_of_selected g.I.IntNumber.limit (graph_edges c.args.graph.now) c.note_arrangement.ensures c.requires
+    c.args.graph.now.fill_rule c.args.overlay_rule (filled_hand c.args.direction)
+    (plain_steps g.I.IntNumber.whole c.in_ok-open.open)
     c.in_ok-open.ensures.selected keeps contours c.in_ok-contours.ensures.cut)

@@ -27,8 +27,9 @@ pub returns : goal.returns
 returns g c = record {
   cut = let keeps : List Step → Bool = λ w. reaches g.I.Wide.WideIntNumber.width
       (g.I.WideUInt.UIntNumber.natural c.args.min_output_area) w in
-      cut_of_selected g.I.IntNumber.limit (graph_edges c.args.graph) c.note_arrangement.ensures c.requires c.args.graph.fill_rule
-      c.args.overlay_rule (filled_hand c.args.direction) (plain_steps g.I.IntNumber.whole c.in_ok-open.open)
+      cut_of_selected g.I.IntNumber.limit (graph_edges c.args.graph) c.note_arrangement.ensures c.requires
+      c.args.graph.fill_rule c.args.overlay_rule (filled_hand c.args.direction)
+      (plain_steps g.I.IntNumber.whole c.in_ok-open.open)
       c.in_ok-open.ensures keeps (plain_contours g.I.IntNumber.whole c.in_ok-contours.contours.items)
       c.in_ok-contours.ensures.cut;
 }
