@@ -1,5 +1,5 @@
 //! Coordinates of arrays at 32 bits, where all of them fit: then calls compute at 32 bits, which takes less time and
-//! memory, and their answers are the same.
+//! memory, and keep the same contracts.
 
 ghost use Rattle.std.specs.Prelude.{◌≡◌, map, All, IfSome, IfOk};
 ghost use Rattle.overlay_geom.specs.Numbers.{Within};
