@@ -6,6 +6,7 @@ mod data;
 mod edges;
 mod fills;
 mod graph;
+mod hub;
 mod numbers;
 mod pairs;
 mod points;

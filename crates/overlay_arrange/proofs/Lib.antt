@@ -51,6 +51,7 @@ pub mod ReversedCounts
 pub mod RoundsTaken
 pub mod RuledContents
 pub mod RunEnds
+pub mod RepeatedMeetings
 pub mod RunsAlike
 pub mod RunsLoop
 pub mod RunsMerged

@@ -26,6 +26,7 @@ pub mod options;
 pub mod overlay_rule;
 mod pixel;
 mod pixel_runs;
+mod repeats;
 mod rounds;
 pub mod settle;
 mod snap;

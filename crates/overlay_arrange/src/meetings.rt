@@ -15,6 +15,7 @@ use crate::changed::{Changed, find_open};
 use crate::count::EdgeCount;
 use crate::crossing::push_meetings;
 use crate::edge::CountedEdge;
+use crate::repeats::{MOST, drop_repeats_from};
 use crate::sort_numbers::order_by_numbers;
 use crate::strips::Strips;
 use overlay_geom::number::IntNumber;
@@ -56,9 +57,11 @@ pub(crate) fn gather<I: IntNumber, C: EdgeCount, A: Allocator + Clone>(
     let mut is_open = Vec::new(alloc.clone()?);
     is_open.resize(edges.len(), false)?;
     let mut meetings = Vec::new(alloc);
+    let mut most = MOST;
     for i in from..edges.len() {
         find_open(&mut near, edges, strips, changed, i)?;
         gather_from(&mut meetings, &mut is_open, edges, i, &near)?;
+        most = drop_repeats_from(&mut meetings, most)?;
     }
     sort_by_place(&mut meetings, edges.len())?;
     Ok((meetings, is_open))

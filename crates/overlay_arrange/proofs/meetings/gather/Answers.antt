@@ -37,7 +37,10 @@ gather_from-requires-clause-near g c =
     (sym c.deref.ensures.value) c.in_ok-find_open.ensures.ok
 
 pub loop-i-preserved : goal.loop-i-preserved
-loop-i-preserved g c = (c.in_ok-gather_from.ensures.ok, c.in_ok-gather_from.ensures.open)
+loop-i-preserved g c =
+    let es = plain_edges g.I.IntNumber.whole g.C.EdgeCount.counts c.args.edges.now in
+    let members = c.in_ok-most.ensures.ok in
+    (gathered_moved es members.forth members.back c.in_ok-gather_from.ensures.ok, c.in_ok-gather_from.ensures.open)
 
 pub returns-clause-ok : goal.returns-clause-ok
 returns-clause-ok g c =
