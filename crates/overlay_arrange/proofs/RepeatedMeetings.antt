@@ -28,7 +28,8 @@ module _ {I : Type 0} (whole : I → ℤ) where
         let parts = and_parts (nat_eq m.place n.place)
         (point_eq (plain_point whole m.point) (plain_point whole n.point)) told in
         let plain = point_eq-same (plain_point whole m.point) (plain_point whole n.point) parts.1 in
-        ap₂ at (eqb-true m.place n.place parts.0) (ap₂ point_at (same m.point.x n.point.x (ap (λ (p : Point). p.x) plain))
+        ap₂ at (eqb-true m.place n.place parts.0)
+        (ap₂ point_at (same m.point.x n.point.x (ap (λ (p : Point). p.x) plain))
         (same m.point.y n.point.y (ap (λ (p : Point). p.y) plain)))
       where
         at : ℕ → IntPoint I → Meeting I

@@ -15,7 +15,8 @@ returns g c = record {
       dedup_same _ (is_repeated whole) _ (λ v w r f v' w' k.
       let answer : r ≡ is_repeated whole v w = search rules in
       (answer, search rules, search rules, search rules)) sorted _ c.dedup_by.ensures.filtered in
-      subst (λ ms. HaveSameMembers (plain_meetings whole c.args.meetings.now.items) (plain_meetings whole ms)) (sym left)
+      subst (λ ms. HaveSameMembers (plain_meetings whole c.args.meetings.now.items) (plain_meetings whole ms))
+      (sym left)
       (members-without_repeats whole g.met.I.IntNumber.same c.args.meetings.now.items sorted
       c.sort_by.ensures.permutation);
 }
