@@ -61,7 +61,7 @@ pub(crate) fn gather<I: IntNumber, C: EdgeCount, A: Allocator + Clone>(
     for i in from..edges.len() {
         find_open(&mut near, edges, strips, changed, i)?;
         gather_from(&mut meetings, &mut is_open, edges, i, &near)?;
-        most = drop_repeats_from(&mut meetings, most, edges.len())?;
+        most = drop_repeats_from(&mut meetings, most)?;
     }
     sort_by_place(&mut meetings, edges.len())?;
     Ok((meetings, is_open))

@@ -8,7 +8,6 @@ ghost use Rattle.overlay_arrange.specs.Meetings.{plain_meetings};
 
 use crate::edge::compare_points;
 use crate::meetings::Meeting;
-use crate::sort_numbers::order_by_numbers;
 use overlay_geom::edge_pair::is_same;
 use overlay_geom::number::IntNumber;
 use std::alloc::{AllocError, Allocator};
@@ -19,12 +18,11 @@ pub(crate) const MOST: usize = 1048576;
 // How many times as long a list with few repeated meetings may grow before they are dropped again.
 const FEW: usize = 16;
 
-/// Drops meetings that repeat, if there are `most` or more of them, of `edges` edges. Returns the number of meetings
-/// from which on this is to be done again.
-pub(crate) fn drop_repeats_from<I: IntNumber, A: Allocator + Clone>(
+/// Drops meetings that repeat, if there are `most` or more of them. Returns the number of meetings from which on this
+/// is to be done again.
+pub(crate) fn drop_repeats_from<I: IntNumber, A: Allocator>(
     meetings: &mut Vec<Meeting<I>, A>,
     most: usize,
-    edges: usize,
 ) -> Result<usize, AllocError>
     ensures ok { OnOk result (HaveSameMembers
         (plain_meetings I.whole meetings.old.items) (plain_meetings I.whole meetings.new.items)) }
@@ -33,7 +31,7 @@ pub(crate) fn drop_repeats_from<I: IntNumber, A: Allocator + Clone>(
     if count < most {
         return Ok(most);
     }
-    drop_repeats(meetings, edges)?;
+    drop_repeats(meetings)?;
     Ok(next_limit(count, meetings.len()))
 }
 
@@ -46,16 +44,13 @@ fn next_limit(count: usize, left: usize) -> usize {
     }
 }
 
-// Drops the meetings that repeat, of `edges` edges.
-fn drop_repeats<I: IntNumber, A: Allocator + Clone>(
+// Drops the meetings that repeat.
+fn drop_repeats<I: IntNumber, A: Allocator>(
     meetings: &mut Vec<Meeting<I>, A>,
-    edges: usize,
 ) -> Result<(), AllocError>
     ensures ok { OnOk result (HaveSameMembers
         (plain_meetings I.whole meetings.old.items) (plain_meetings I.whole meetings.new.items)) }
 {
-    // (where the edges have few points each, the sort then takes one pass)
-    order_by_numbers(meetings, edges, |m| m.place)?;
     meetings.sort_by(|m, n| compare_meetings(m, n))?;
     meetings.dedup_by(|m, n| is_repeated(m, n));
     Ok(())

@@ -2,7 +2,6 @@
 use Rattle.std.proofs.Common.{◌≡◌, sym, subst, rules}
 use Rattle.std.specs.List.{dedup}
 use Rattle.std.proofs.lemmas.Fn.{dedup_same}
-use Rattle.std.proofs.lemmas.List.Sorted.{IsPermutation-trans}
 use Rattle.overlay_arrange.specs.HotPoints.{HaveSameMembers}
 use Rattle.overlay_arrange.specs.Meetings.{plain_meetings}
 use Rattle.overlay_arrange.proofs.RepeatedMeetings.{is_repeated, members-without_repeats}
@@ -19,6 +18,5 @@ returns g c = record {
       subst (λ ms. HaveSameMembers (plain_meetings whole c.args.meetings.now.items) (plain_meetings whole ms))
       (sym left)
       (members-without_repeats whole g.met.I.IntNumber.same c.args.meetings.now.items sorted
-      (IsPermutation-trans c.args.meetings.now.items c.order_by_numbers.new.items.items sorted
-      c.order_by_numbers.ensures.items c.sort_by.ensures.permutation));
+      c.sort_by.ensures.permutation);
 }
