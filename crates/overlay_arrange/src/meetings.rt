@@ -15,7 +15,7 @@ use crate::changed::{Changed, find_open};
 use crate::count::EdgeCount;
 use crate::crossing::push_meetings;
 use crate::edge::CountedEdge;
-use crate::repeats::{MOST, drop_repeats_from};
+use crate::repeats::{drop_repeats_from, first_limit};
 use crate::sort_numbers::order_by_numbers;
 use crate::strips::Strips;
 use overlay_geom::number::IntNumber;
@@ -57,7 +57,7 @@ pub(crate) fn gather<I: IntNumber, C: EdgeCount, A: Allocator + Clone>(
     let mut is_open = Vec::new(alloc.clone()?);
     is_open.resize(edges.len(), false)?;
     let mut meetings = Vec::new(alloc);
-    let mut most = MOST;
+    let mut most = first_limit(edges.len());
     for i in from..edges.len() {
         find_open(&mut near, edges, strips, changed, i)?;
         gather_from(&mut meetings, &mut is_open, edges, i, &near)?;

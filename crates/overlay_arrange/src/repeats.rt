@@ -13,10 +13,17 @@ use overlay_geom::number::IntNumber;
 use std::alloc::{AllocError, Allocator};
 use std::cmp::Ordering;
 
-/// Number of meetings from which on those that repeat are dropped for the first time.
-pub(crate) const MOST: usize = 1048576;
+// Least number of meetings from which on those that repeat are dropped.
+const LEAST: usize = 1048576;
+// Number of meetings of an edge, on average, from which on those that repeat are dropped for the first time.
+const MANY: usize = 64;
 // How many times as long a list with few repeated meetings may grow before they are dropped again.
 const FEW: usize = 16;
+
+/// Returns the number of meetings of `edges` edges from which on those that repeat are dropped for the first time.
+pub(crate) fn first_limit(edges: usize) -> usize {
+    edges.saturating_mul(MANY).max(LEAST)
+}
 
 /// Drops meetings that repeat, if there are `most` or more of them. Returns the number of meetings from which on this
 /// is to be done again.
@@ -40,7 +47,7 @@ fn next_limit(count: usize, left: usize) -> usize {
     if left > count / 2 {
         left.saturating_mul(FEW)
     } else {
-        left.saturating_mul(2).max(MOST)
+        left.saturating_mul(2).max(LEAST)
     }
 }
 
