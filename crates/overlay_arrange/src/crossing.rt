@@ -95,7 +95,8 @@ fn push_across<I: IntNumber, C: EdgeCount, A: Allocator>(
     Ok(true)
 }
 
-/// Returns whether two edges, of which f goes across e's line, meet in ends alone. If not, e also goes across f's line.
+/// Returns whether the two edges meet in ends alone. The edge f goes across e's line. Where they meet elsewhere too, e
+/// also goes across f's line.
 fn cross_in_ends<I: IntNumber, C: EdgeCount>(e: &CountedEdge<I, C>, f: &CountedEdge<I, C>) -> bool
     requires one { IsHeld I.limit (plain_edge I.whole C.counts e.now) }
     requires other { IsHeld I.limit (plain_edge I.whole C.counts f.now) }
