@@ -2,17 +2,17 @@
 use Rattle.std.proofs.Common.{◌≡◌, ◌⊎◌, inl, inr, nat_lt, Bool, ℕ, zero, suc, ◌+◌, ◌<◌, ◌≤◌, true, false, cond}
 use Rattle.std.proofs.Common.{List, [], ◌∷◌, ◌++◌, length}
 use Rattle.std.proofs.Common.{map, get_or, Contains, refl, sym, ap, ◌∙◌, arith}
-use Rattle.std.proofs.lemmas.Bool.{both_ways, false_from_ne_true, ltb-false, ltb-true}
+use Rattle.std.proofs.lemmas.Bool.{both_ways, ltb-false, ltb-true}
 use Rattle.std.proofs.lemmas.List.{get_or-map, get_or_append_left, get_or_default, get_or_push, length-map}
 use Rattle.std.proofs.lemmas.List.Elements.{Contains-get_or}
 use Rattle.std.specs.Bool.{⊤}
 use Rattle.overlay_geom.specs.Plane.{Point, Step, point_eq, steps_through, steps_of}
 use Rattle.overlay_geom.proofs.Entries.{Contains-head, Contains-later}
-use Rattle.overlay_geom.proofs.Orders.{point_eq-same, point_eq-of_same}
+use Rattle.overlay_geom.proofs.Orders.{point_eq-of_same}
 use Rattle.overlay_plane.specs.Groups.{HasEachPointOnce}
 use Rattle.overlay_plane.proofs.LaterEntries.{Each, Each-from_all_pairs, Each-push}
 use Rattle.overlay_plane.specs.Turn.{no_step}
-use Rattle.overlay_walk.proofs.OnceSorted.{Differ}
+use Rattle.overlay_walk.proofs.OnceSorted.{Differ, differ_back}
 
 -- points that differ are not one
 pub differ_apart : (p q : Point) → Differ p q → ¬ (p ≡ q)

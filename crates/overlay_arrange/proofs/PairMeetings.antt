@@ -10,7 +10,7 @@ use Rattle.overlay_geom.specs.Placed.{IsAlong, IsAcross}
 use Rattle.overlay_geom.proofs.Entries.{Contains-cases}
 use Rattle.overlay_geom.proofs.OneLine.{along_exchanged}
 use Rattle.overlay_geom.proofs.PointOrder.{IsBefore}
-use Rattle.overlay_plane.specs.CutPoints.{crossing, met_at}
+use Rattle.overlay_plane.specs.CutPoints.{crossing}
 use Rattle.overlay_plane.proofs.Placements.{ends_between, met_along}
 use Rattle.overlay_plane.proofs.SharedCrossings.{crossing_alike}
 use Rattle.overlay_arrange.specs.Cut.{IsEndOf}

@@ -1,5 +1,5 @@
 -- Meetings without those that repeat: the same meetings.
-use Rattle.std.proofs.Common.{◌≡◌, ◌&&◌, Bool, true, ℕ, ℤ, List, nat_eq, refl, sym, ap, ap₂, ◌∙◌, subst}
+use Rattle.std.proofs.Common.{◌≡◌, ◌&&◌, Bool, true, ℕ, ℤ, List, nat_eq, refl, ap, ap₂, subst}
 use Rattle.std.specs.Cmp.{IsEquivalence}
 use Rattle.std.specs.List.{Contains, dedup}
 use Rattle.std.specs.List.Sorted.{IsPermutation}

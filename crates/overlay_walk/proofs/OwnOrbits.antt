@@ -1,11 +1,11 @@
 -- Groups that visit no point twice: each is its one walk by either hand.
-use Rattle.std.proofs.Common.{◌≡◌, ⊎_elim, ◌+◌, Bool, false, not, List, [], ◌∷◌, filter, cond, Contains}
+use Rattle.std.proofs.Common.{◌≡◌, ⊎_elim, ◌+◌, false, not, List, [], ◌∷◌, Contains}
 use Rattle.std.proofs.Common.{refl, sym, ap, ◌∙◌, subst, arith}
 use Rattle.std.proofs.lemmas.Bool.{both_ways}
 use Rattle.std.proofs.lemmas.List.Elements.{All-contains}
 use Rattle.overlay_geom.specs.Plane.{Step, points_of, point_eq}
 use Rattle.overlay_geom.proofs.Orders.{point_eq-of_same}
-use Rattle.overlay_plane.specs.Turn.{Hand, is_met_before, no_step, step_round, IsNextStep, IsOrbit}
+use Rattle.overlay_plane.specs.Turn.{Hand, is_met_before, no_step, step_round, IsOrbit}
 use Rattle.overlay_plane.specs.Alternates.{Alternates}
 use Rattle.overlay_plane.specs.Contours.{IsStart, IsCutInto, without, done, next}
 use Rattle.overlay_plane.specs.Groups.{HasEachPointOnce}

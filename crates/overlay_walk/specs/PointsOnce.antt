@@ -1,5 +1,5 @@
 -- Points of a list that follow one another.
-use Rattle.std.specs.Prelude.{◌≡◌, Bool, true, not, ◌&&◌, List, [], ◌∷◌}
+use Rattle.std.specs.Prelude.{Bool, true, not, ◌&&◌, List, [], ◌∷◌}
 use Rattle.overlay_geom.specs.Plane.{Point, point_eq}
 
 -- each point of the list differs from the one before it, the first one from p
