@@ -1,6 +1,7 @@
 pub mod Counts
 pub mod Edges
 pub mod Flat
+pub mod FlatContours
 pub mod FlatLends
 pub mod FlatShapes
 pub mod Lines

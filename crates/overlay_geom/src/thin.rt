@@ -1,8 +1,10 @@
 //! Thinning of closed lists of points: removal of collinear points.
 
-ghost use Rattle.std.specs.Prelude.{◌↔◌, ◌≤◌, [], ◌∷◌, ◌++◌, length, slice_range, IfOk, IsTrue};
+ghost use Rattle.std.specs.Prelude.{◌≡◌, ◌↔◌, ◌≤◌, [], ◌∷◌, ◌++◌, length, slice_range};
+ghost use Rattle.std.specs.Prelude.{IfOk, OnOk, OnErr, IsTrue};
 ghost use Rattle.overlay_geom.specs.Points.{plain_point, plain_points, InRange, AllInRange};
 ghost use Rattle.overlay_geom.specs.Thinned.{IsOnOneLine, IsThinned};
+ghost use Rattle.overlay_geom.specs.FlatContours.{IsThinnedBehind};
 ghost use Rattle.overlay_geom.specs.Narrowed.{IsNarrowed, IsNarrowedBefore, IsBentInside};
 
 use crate::number::{IntNumber, WideIntNumber};
@@ -21,31 +23,51 @@ pub fn thinned<I: IntNumber, A: Allocator>(
         IsThinned (plain_points I.whole points.now) (plain_points I.whole v.items)) }
     ensures in_range { IfOk result (λ v. AllInRange I.limit (plain_points I.whole v.items)) }
 {
-    let mut bent = bent_inside(alloc, points)?;
+    let mut bent = Vec::new(alloc);
+    write_bent(&mut bent, points)?;
     let (from, to) = bent_part(&bent);
     bent.drain(..from);
     bent.truncate(to - from);
     Ok(bent)
 }
 
-// Returns the points without those that are collinear with the points before and after them. Each point is dropped
-// before the next is read.
-fn bent_inside<I: IntNumber, A: Allocator>(
-    alloc: A,
+/// Adds the points that [`thinned`] gives to the output, behind the points that it has. The room lends its memory. On a
+/// refusal the output stays as it is.
+pub fn push_thinned<I: IntNumber, A: Allocator, B: Allocator>(
+    output: &mut Vec<IntPoint<I>, A>,
+    room: &mut Vec<IntPoint<I>, B>,
     points: &[IntPoint<I>],
-) -> Result<Vec<IntPoint<I>, A>, AllocError>
+) -> Result<(), AllocError>
     requires { AllInRange I.limit (plain_points I.whole points.now) }
-    ensures narrowed { IfOk result (λ v.
-        IsNarrowed (plain_points I.whole points.now) (plain_points I.whole v.items)) }
-    ensures bent { IfOk result (λ v. IsBentInside (plain_points I.whole v.items)) }
-    ensures in_range { IfOk result (λ v. AllInRange I.limit (plain_points I.whole v.items)) }
+    ensures ok { OnOk result (IsThinnedBehind I.whole I.limit (plain_points I.whole points.now)
+        output.old.items output.new.items) }
+    ensures err { OnErr result (output.new.items ≡ output.old.items) }
 {
-    let mut bent = Vec::new(alloc);
+    write_bent(room, points)?;
+    let (from, to) = bent_part(room);
+    output.extend_from_slice(&room[from..to])?;
+    Ok(())
+}
+
+// Puts the points into the list without those that are collinear with the points before and after them, and drops those
+// that it had. Each point is dropped before the next is read.
+fn write_bent<I: IntNumber, A: Allocator>(
+    bent: &mut Vec<IntPoint<I>, A>,
+    points: &[IntPoint<I>],
+) -> Result<(), AllocError>
+    requires { AllInRange I.limit (plain_points I.whole points.now) }
+    ensures narrowed { OnOk result
+        (IsNarrowed (plain_points I.whole points.now) (plain_points I.whole bent.new.items)) }
+    ensures bent { OnOk result (IsBentInside (plain_points I.whole bent.new.items)) }
+    ensures in_range { OnOk result (AllInRange I.limit (plain_points I.whole bent.new.items)) }
+{
+    bent.clear();
+    bent.reserve(points.len())?;
     for point in points {
-        pop_straight(&mut bent, *point);
+        pop_straight(bent, *point);
         bent.push(*point)?;
     }
-    Ok(bent)
+    Ok(())
 }
 
 // Removes last points while they are collinear with the point before them and `next`.

@@ -7,7 +7,7 @@ use Rattle.overlay_geom.specs.Points.{plain_point, plain_points, InRange, AllInR
 use Rattle.overlay_geom.specs.Narrowed.{IsNarrowed, IsBentInside}
 use Rattle.overlay_geom.proofs.NarrowedLists.{IsNarrowed-trans}
 use Rattle.overlay_geom.proofs.Mapped.{mapped_rest, All-mapped_at}
-use Rattle.overlay_geom.proofs.thin.bent_inside.Goals as goal
+use Rattle.overlay_geom.proofs.thin.write_bent.Goals as goal
 
 pub pop_straight-requires-clause-next : goal.pop_straight-requires-clause-next
 pop_straight-requires-clause-next g c = All-mapped_at (InRange g.I.IntNumber.limit) (plain_point g.I.IntNumber.whole) _
@@ -26,7 +26,8 @@ loop-point-preserved g c =
     let pushed = plain_points whole c.push.new.self.items in
     let left : plain_points whole (drop i xs) ≡ next ∷ rest = mapped_rest (plain_point whole) xs i x
     (omega arith) c.point-item.is in
-    let top : pushed ≡ popped ++ next ∷ [] = ap (plain_points whole) c.in_ok-push.ensures.items
+    let top : pushed ≡ popped ++ next ∷ [] = ap (plain_points whole)
+    c.in_ok-push.ensures.items
     ∙ map_push (plain_point whole) c.pop_straight.new.bent.items x in
     let split : popped ++ next ∷ rest ≡ pushed ++ rest = sym (append_assoc popped (next ∷ []) rest)
     ∙ ap (λ ps. ps ++ rest) (sym top) in

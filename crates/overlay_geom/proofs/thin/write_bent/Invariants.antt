@@ -2,7 +2,7 @@
 use Rattle.std.proofs.Common.{◌++◌, drop}
 use Rattle.overlay_geom.specs.Points.{plain_points, AllInRange}
 use Rattle.overlay_geom.specs.Narrowed.{IsNarrowed, IsBentInside}
-use Rattle.overlay_geom.proofs.thin.bent_inside.Given as goal
+use Rattle.overlay_geom.proofs.thin.write_bent.Given as goal
 
 abbrev pub invariant-loop-point : goal.invariant-loop-point
 invariant-loop-point g l = record {
