@@ -1,6 +1,6 @@
 -- The answers of a sweep, found among the held edges.
 use Rattle.std.proofs.Common.{◌≡◌, Bool, not, ℕ, ℤ, List, [], ◌∷◌, ◌++◌, Option, None, Some}
-use Rattle.std.proofs.Common.{take, drop, true, pos, int_lt, sym, ap, subst, ◌∙◌, arith}
+use Rattle.std.proofs.Common.{take, drop, get_or, true, pos, ◌≤ℤ◌, int_lt, sym, ap, subst, ◌∙◌, arith}
 use Rattle.std.proofs.lemmas.Int.{ints}
 use Rattle.std.specs.List.{last_or, filter, prefix_len}
 use Rattle.std.specs.Option.{option_map}
@@ -8,12 +8,12 @@ use Rattle.std.specs.Prelude.{Result, Ok, Err, OnErr}
 use Rattle.std.specs.Ordering.{is_gt}
 use Rattle.std.specs.declared.cmp.Ordering.{Ordering}
 use Rattle.overlay_geom.specs.Lines.{plain_line}
-use Rattle.overlay_geom.specs.Plane.{Edge}
+use Rattle.overlay_geom.specs.Plane.{Point, Edge}
 use Rattle.overlay_geom.specs.declared.point.IntPoint.{IntPoint}
 use Rattle.overlay_plane.proofs.Tests.{test_from_lt}
 use Rattle.overlay_plane.proofs.Under.{covers_to}
 use Rattle.overlay_scan.specs.HeldEntries.{live_of, live_where, sweep_of, Tells, IsLookedUp}
-use Rattle.overlay_scan.specs.Lists.{plain_entries, PassBefore, IsInRange, is_lower}
+use Rattle.overlay_scan.specs.Lists.{plain_entries, PassBefore, IsInRange, IsComparable, is_lower}
 use Rattle.overlay_scan.specs.Scan.{Entry, live_at, moved_to, MayMoveTo, IsOver, IsAsked, AreLive, IsSweep, IsPutIn}
 use Rattle.overlay_scan.specs.Scan.{MeetsOthers, IsNewAmong, value_or, value_below, value_up_to, AnswersRise}
 use Rattle.overlay_scan.specs.Scan.{IsAnsweredBy, IsCallableOn}
@@ -121,6 +121,30 @@ may_compare whole limit x old from e state moves in_range =
     (live_is whole x old from moves)
     (lines_in_range whole limit (whole x) (live_at (whole x) (sweep_of whole old from).entries) e
     (sweep_after_move limit (whole x) (sweep_of whole old from) state moves) in_range)
+
+-- they end right of the start of an edge that starts at or before x
+pub may_compare_from_start : {I V : Type 0} (whole : I → ℤ) (limit : ℕ) (x : I) (old : List (LiveEdge I V))
+    (from : Option I) (d e : Edge) → d ≡ e → IsSweep limit (sweep_of whole old from) →
+    MayMoveTo (whole x) (sweep_of whole old from) → IsInRange limit e → e.a.x ≤ℤ whole x →
+    IsCallableOn whole (λ line. IsComparable limit (plain_line whole line) d) (live_of whole (whole x) old)
+may_compare_from_start whole limit x old from d e same state moves in_range starts =
+    subst (λ c. IsCallableOn whole (λ line. IsComparable limit (plain_line whole line) c) (live_of whole (whole x) old))
+    (sym same)
+    (subst (IsCallableOn whole (λ line. IsComparable limit (plain_line whole line) e)) (live_is whole x old from moves)
+    comparable)
+  where
+    live : AreLive limit (whole x) (live_at (whole x) (sweep_of whole old from).entries)
+    live = sweep_after_move limit (whole x) (sweep_of whole old from) state moves
+
+    comparable : IsCallableOn whole (λ line. IsComparable limit (plain_line whole line) e)
+        (live_at (whole x) (sweep_of whole old from).entries)
+    comparable k f lt a b at_a at_b =
+        let both = lines_in_range whole limit (whole x) (live_at (whole x) (sweep_of whole old from).entries) e live
+        in_range k f lt a b at_a at_b in
+        let to = covers_to (get_or (live_at (whole x) (sweep_of whole old from).entries) k f).edge (whole x) (pos 1)
+        (live.over k f lt).over in
+        let end = ap (λ (p : Point). p.x) at_b in
+        record { one = both.0; other = both.1; ends = test_from_lt e.a.x (whole b.x) (omega (arith, ints)) }
 
 module _ {I V : Type 0} (whole : I → ℤ) (limit : ℕ) (x : I) (old new : List (LiveEdge I V)) (from reached : Option I)
     (state : IsSweep limit (sweep_of whole old from)) (moves : MayMoveTo (whole x) (sweep_of whole old from))

@@ -6,6 +6,7 @@ pub mod BelowStarts
 mod Bound
 mod Descending
 mod Distinct
+mod EdgesAside
 pub mod EntriesByStart
 pub mod Found
 mod Freshness

@@ -19,6 +19,12 @@ pub record IsInRange (limit : ℕ) (e : Edge) : Type 0 where
   pub a : InRange limit e.a
   pub b : InRange limit e.b
 
+-- both edges are in the coordinate range, and f ends right of the start of e
+pub record IsComparable (limit : ℕ) (f e : Edge) : Type 0 where
+  pub one : IsInRange limit f
+  pub other : IsInRange limit e
+  pub ends : int_lt e.a.x f.b.x ≡ true
+
 -- f is lower than e just right of the start of e: it passes below the start, or starts there to the right of e
 abbrev pub is_lower_at_start : Edge → Edge → Bool
 is_lower_at_start f e = int_lt (pos 0) (cross_at f.a f.b e.a) || (int_eq (cross_at f.a f.b e.a) (pos 0) && int_lt

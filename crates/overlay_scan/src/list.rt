@@ -4,7 +4,7 @@ ghost use Rattle.std.specs.Prelude.{◌≡◌, [], ◌∷◌, true, not, int_lt,
 ghost use Rattle.std.specs.Ordering.{is_gt};
 ghost use Rattle.overlay_geom.specs.Lines.{plain_line};
 ghost use Rattle.overlay_scan.specs.HeldEntries.{live_of, plain_sweep, IsLookedUp};
-ghost use Rattle.overlay_scan.specs.Lists.{plain_entry, IsInRange, is_lower_at_start, is_lower};
+ghost use Rattle.overlay_scan.specs.Lists.{plain_entry, IsInRange, IsComparable, is_lower_at_start, is_lower};
 ghost use Rattle.overlay_scan.specs.Scan.{empty_sweep, live_at, moved_to};
 ghost use Rattle.overlay_scan.specs.Scan.{MayMoveTo, IsOver, IsAsked, IsSweep, IsPutIn};
 ghost use Rattle.overlay_scan.specs.Scan.{MeetsOthers, IsNewAmong, value_below, IsCallableOn};
@@ -107,9 +107,9 @@ impl<I: IntNumber, V: Copy, A: Allocator> Scan<I, V> for ScanList<I, V, A> {
         let entry = live_edge(edge, value);
         let asked = entry;
         let order = |f: IntLine<I>| -> Ordering
-            requires { IsInRange I.limit (plain_line I.whole f) × IsInRange I.limit (plain_entry I.whole asked).edge }
+            requires { IsComparable I.limit (plain_line I.whole f) (plain_entry I.whole asked).edge }
             ensures { not (is_gt result) ≡ is_lower (plain_line I.whole f) (plain_entry I.whole asked).edge }
-        { order_to(f, &asked) };
+        { quick_order_to(f, &asked) };
         self.put_in(x, entry, &order)?;
         Ok(())
     }
@@ -127,9 +127,9 @@ impl<I: IntNumber, V: Copy, A: Allocator> Scan<I, V> for ScanList<I, V, A> {
     {
         let asked = live_edge(edge, default);
         let order = |f: IntLine<I>| -> Ordering
-            requires { IsInRange I.limit (plain_line I.whole f) × IsInRange I.limit (plain_entry I.whole asked).edge }
+            requires { IsComparable I.limit (plain_line I.whole f) (plain_entry I.whole asked).edge }
             ensures { not (is_gt result) ≡ is_lower (plain_line I.whole f) (plain_entry I.whole asked).edge }
-        { order_to(f, &asked) };
+        { quick_order_to(f, &asked) };
         let found = self.look_up(x, &order);
         found.unwrap_or(default)
     }
@@ -173,6 +173,24 @@ pub fn order_to<I: IntNumber, V: Copy>(line: IntLine<I>, e: &LiveEdge<I, V>) -> 
 {
     let f = live_edge(line, e.value);
     if is_under(&f, e) {
+        Ordering::Less
+    } else {
+        Ordering::Greater
+    }
+}
+
+// Returns that order for a line that ends right of the start of the edge. It multiplies nothing where the line starts
+// left of that start, or over it, and both its ends lie below that start, or both above.
+fn quick_order_to<I: IntNumber, V: Copy>(line: IntLine<I>, e: &LiveEdge<I, V>) -> Ordering
+    requires { IsComparable I.limit (plain_line I.whole line) (plain_entry I.whole e.now).edge }
+    ensures { not (is_gt result) ≡ is_lower (plain_line I.whole line) (plain_entry I.whole e.now).edge }
+{
+    let [a, b] = line;
+    let starts_below = a.y.compare(e.a.y).is_lt();
+    let ends_below = b.y.compare(e.a.y).is_lt();
+    if starts_below != ends_below || a.y.compare(e.a.y).is_eq() || e.a.x.compare(a.x).is_lt() {
+        order_to(line, e)
+    } else if starts_below {
         Ordering::Less
     } else {
         Ordering::Greater
