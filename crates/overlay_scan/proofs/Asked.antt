@@ -110,24 +110,12 @@ lines_in_range whole limit x fs e live in_range k d lt a b at_a at_b = (
   in_range,
 )
 
--- the lines of the edges that are held and live may be compared with an edge
-pub may_compare : {I V : Type 0} (whole : I → ℤ) (limit : ℕ) (x : I) (old : List (LiveEdge I V)) (from : Option I)
-    (e : Edge) → IsSweep limit (sweep_of whole old from) → MayMoveTo (whole x) (sweep_of whole old from) →
-    IsInRange limit e →
-    IsCallableOn whole (λ line. IsInRange limit (plain_line whole line) × IsInRange limit e)
-    (live_of whole (whole x) old)
-may_compare whole limit x old from e state moves in_range =
-    subst (IsCallableOn whole (λ line. IsInRange limit (plain_line whole line) × IsInRange limit e))
-    (live_is whole x old from moves)
-    (lines_in_range whole limit (whole x) (live_at (whole x) (sweep_of whole old from).entries) e
-    (sweep_after_move limit (whole x) (sweep_of whole old from) state moves) in_range)
-
--- they end right of the start of an edge that starts at or before x
-pub may_compare_from_start : {I V : Type 0} (whole : I → ℤ) (limit : ℕ) (x : I) (old : List (LiveEdge I V))
+-- the lines of the edges that are held and live may be compared with an edge that starts at or before x
+pub may_compare : {I V : Type 0} (whole : I → ℤ) (limit : ℕ) (x : I) (old : List (LiveEdge I V))
     (from : Option I) (d e : Edge) → d ≡ e → IsSweep limit (sweep_of whole old from) →
     MayMoveTo (whole x) (sweep_of whole old from) → IsInRange limit e → e.a.x ≤ℤ whole x →
     IsCallableOn whole (λ line. IsComparable limit (plain_line whole line) d) (live_of whole (whole x) old)
-may_compare_from_start whole limit x old from d e same state moves in_range starts =
+may_compare whole limit x old from d e same state moves in_range starts =
     subst (λ c. IsCallableOn whole (λ line. IsComparable limit (plain_line whole line) c) (live_of whole (whole x) old))
     (sym same)
     (subst (IsCallableOn whole (λ line. IsComparable limit (plain_line whole line) e)) (live_is whole x old from moves)

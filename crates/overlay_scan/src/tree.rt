@@ -3,7 +3,7 @@
 ghost use Rattle.std.specs.Prelude.{◌≡◌, [], ◌∷◌, true, not, int_lt, Some, OnOk, OnErr, IsOkUnless};
 ghost use Rattle.std.specs.Ordering.{is_gt};
 ghost use Rattle.overlay_geom.specs.Lines.{plain_line};
-ghost use Rattle.overlay_scan.specs.Lists.{plain_entry, IsInRange, is_lower};
+ghost use Rattle.overlay_scan.specs.Lists.{plain_entry, IsComparable, is_lower};
 ghost use Rattle.overlay_scan.specs.Scan.{empty_sweep, live_at, moved_to};
 ghost use Rattle.overlay_scan.specs.Scan.{MayMoveTo, IsOver, IsAsked, IsSweep, IsPutIn};
 ghost use Rattle.overlay_scan.specs.Scan.{MeetsOthers, IsNewAmong, value_below};
@@ -144,7 +144,7 @@ impl<I: IntNumber, V: Copy, A: Allocator> Scan<I, V> for ScanTree<I, V, A> {
         let entry = live_edge(edge, value);
         let asked = entry;
         let order = |f: IntLine<I>| -> Ordering
-            requires { IsInRange I.limit (plain_line I.whole f) × IsInRange I.limit (plain_entry I.whole asked).edge }
+            requires { IsComparable I.limit (plain_line I.whole f) (plain_entry I.whole asked).edge }
             ensures { not (is_gt result) ≡ is_lower (plain_line I.whole f) (plain_entry I.whole asked).edge }
         { order_to(f, &asked) };
         self.put_in(x, entry, &order)?;
@@ -165,7 +165,7 @@ impl<I: IntNumber, V: Copy, A: Allocator> Scan<I, V> for ScanTree<I, V, A> {
     {
         let asked = live_edge(edge, default);
         let order = |f: IntLine<I>| -> Ordering
-            requires { IsInRange I.limit (plain_line I.whole f) × IsInRange I.limit (plain_entry I.whole asked).edge }
+            requires { IsComparable I.limit (plain_line I.whole f) (plain_entry I.whole asked).edge }
             ensures { not (is_gt result) ≡ is_lower (plain_line I.whole f) (plain_entry I.whole asked).edge }
         { order_to(f, &asked) };
         let found = self.look_up(x, &order);

@@ -6,7 +6,7 @@ use Rattle.overlay_geom.specs.Lines.{plain_line}
 use Rattle.overlay_geom.specs.declared.point.IntPoint.{IntPoint}
 use Rattle.overlay_scan.specs.HeldEntries.{plain_sweep}
 use Rattle.overlay_scan.specs.Lists.{plain_entry, IsComparable, is_lower}
-use Rattle.overlay_scan.proofs.Asked.{moved, value_is_below, may_compare_from_start}
+use Rattle.overlay_scan.proofs.Asked.{moved, value_is_below, may_compare}
 use Rattle.overlay_scan.proofs.Moving.{sweep_moved}
 use Rattle.overlay_scan.proofs.list.ScanListScan.first_less.Goals as goal
 
@@ -17,7 +17,7 @@ look_up-found-requires g c k d lt a b at_a at_b =
     let old = c.args.self.now in
     let asked = (plain_entry whole c.live_edge-asked.result).edge in
     let comparable : IsComparable limit (plain_line whole (a ∷ b ∷ [])) asked =
-    may_compare_from_start whole limit c.args.x old.live old.reached asked (plain_line whole c.args.edge)
+    may_compare whole limit c.args.x old.live old.reached asked (plain_line whole c.args.edge)
     (ap (λ n. n.edge) c.live_edge-asked.ensures) c.requires.state c.requires.moves
     (record { a = c.requires.asked.a_in_range; b = c.requires.asked.b_in_range })
     (let starts = c.requires.asked.starts in omega (arith, ints))

@@ -7,7 +7,7 @@ use Rattle.overlay_geom.specs.declared.point.IntPoint.{IntPoint}
 use Rattle.overlay_plane.proofs.Under.{covers_from}
 use Rattle.overlay_scan.specs.HeldEntries.{plain_sweep}
 use Rattle.overlay_scan.specs.Lists.{plain_entry, IsComparable, is_lower}
-use Rattle.overlay_scan.proofs.Asked.{only_moved, is_put_in, sweep_with, ends_after, may_compare_from_start, on_err}
+use Rattle.overlay_scan.proofs.Asked.{only_moved, is_put_in, sweep_with, ends_after, may_compare, on_err}
 use Rattle.overlay_scan.proofs.Moving.{sweep_moved}
 use Rattle.overlay_scan.proofs.list.ScanListScan.insert.Goals as goal
 
@@ -24,7 +24,7 @@ put_in-requires-clause-callable g c k d lt a b at_a at_b =
     let old = c.args.self.now in
     let asked = (plain_entry whole c.live_edge-entry.result).edge in
     let comparable : IsComparable limit (plain_line whole (a ∷ b ∷ [])) asked =
-    may_compare_from_start whole limit c.args.x old.live old.reached asked (plain_line whole c.args.edge)
+    may_compare whole limit c.args.x old.live old.reached asked (plain_line whole c.args.edge)
     (ap (λ n. n.edge) c.live_edge-entry.ensures) c.requires.state c.requires.moves
     (record { a = c.requires.over.a_in_range; b = c.requires.over.b_in_range })
     (let from = covers_from (plain_line whole c.args.edge) (whole c.args.x) (pos 1) c.requires.over.over in

@@ -1,10 +1,11 @@
 -- The entries below the start of the edge.
-use Rattle.std.proofs.Common.{◌≡◌, not, rules, List, [], ◌∷◌, sym, ap, subst, ◌∙◌}
+use Rattle.std.proofs.Common.{◌≡◌, not, rules, List, [], ◌∷◌, ap, ◌∙◌, arith}
+use Rattle.std.proofs.lemmas.Int.{ints}
 use Rattle.std.specs.Ordering.{is_gt}
 use Rattle.overlay_geom.specs.Lines.{plain_line}
 use Rattle.overlay_geom.specs.declared.point.IntPoint.{IntPoint}
 use Rattle.overlay_scan.specs.HeldEdges.{held_sweep}
-use Rattle.overlay_scan.specs.Lists.{plain_entry, IsInRange, is_lower}
+use Rattle.overlay_scan.specs.Lists.{plain_entry, IsComparable, is_lower}
 use Rattle.overlay_scan.proofs.Asked.{moved, value_is_below, may_compare}
 use Rattle.overlay_scan.proofs.Moving.{sweep_moved}
 use Rattle.overlay_scan.proofs.tree.ScanTreeScan.first_less.Goals as goal
@@ -15,12 +16,12 @@ look_up-found-requires g c k d lt a b at_a at_b =
     let limit = g.I.IntNumber.limit in
     let old = c.args.self.now in
     let asked = (plain_entry whole c.live_edge-asked.result).edge in
-    let range = subst (IsInRange limit) (sym (ap (λ n. n.edge) c.live_edge-asked.ensures))
-    (record { a = c.requires.asked.a_in_range; b = c.requires.asked.b_in_range }) in
-    let both = may_compare whole limit c.args.x old.entries old.reached asked c.requires.state c.requires.moves range
+    let comparable : IsComparable limit (plain_line whole (a ∷ b ∷ [])) asked =
+    may_compare whole limit c.args.x old.entries old.reached asked (plain_line whole c.args.edge)
+    (ap (λ n. n.edge) c.live_edge-asked.ensures) c.requires.state c.requires.moves
+    (record { a = c.requires.asked.a_in_range; b = c.requires.asked.b_in_range })
+    (let starts = c.requires.asked.starts in omega (arith, ints))
     k d lt a b at_a at_b in
-    let one : IsInRange limit (plain_line whole (a ∷ b ∷ [])) = both.0 in
-    let other : IsInRange limit asked = both.1 in
     search rules
 
 pub returns-clause-value : goal.returns-clause-value

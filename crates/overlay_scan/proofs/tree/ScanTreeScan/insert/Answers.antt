@@ -1,12 +1,14 @@
 -- The entry goes in above those under it.
-use Rattle.std.proofs.Common.{◌≡◌, not, rules, List, [], ◌∷◌, Some, sym, ap, subst}
+use Rattle.std.proofs.Common.{◌≡◌, not, rules, List, [], ◌∷◌, Some, pos, sym, ap, subst, arith}
+use Rattle.std.proofs.lemmas.Int.{ints}
 use Rattle.std.specs.Ordering.{is_gt}
 use Rattle.overlay_geom.specs.Lines.{plain_line}
 use Rattle.overlay_geom.specs.declared.point.IntPoint.{IntPoint}
+use Rattle.overlay_plane.proofs.Under.{covers_from}
 use Rattle.overlay_scan.specs.HeldEntries.{live_of}
 use Rattle.overlay_scan.specs.HeldEdges.{held_sweep, IsQuick}
 use Rattle.overlay_scan.proofs.LookedUp.{still_quick}
-use Rattle.overlay_scan.specs.Lists.{plain_entry, IsInRange, is_lower}
+use Rattle.overlay_scan.specs.Lists.{plain_entry, IsComparable, is_lower}
 use Rattle.overlay_scan.proofs.Asked.{only_moved, is_put_in, sweep_with, ends_after, may_compare, on_err}
 use Rattle.overlay_scan.proofs.Moving.{sweep_moved}
 use Rattle.overlay_scan.proofs.tree.ScanTreeScan.insert.Goals as goal
@@ -23,12 +25,13 @@ put_in-requires-clause-callable g c k d lt a b at_a at_b =
     let limit = g.I.IntNumber.limit in
     let old = c.args.self.now in
     let asked = (plain_entry whole c.live_edge-entry.result).edge in
-    let range = subst (IsInRange limit) (sym (ap (λ n. n.edge) c.live_edge-entry.ensures))
-    (record { a = c.requires.over.a_in_range; b = c.requires.over.b_in_range }) in
-    let both = may_compare whole limit c.args.x old.entries old.reached asked c.requires.state c.requires.moves range
+    let comparable : IsComparable limit (plain_line whole (a ∷ b ∷ [])) asked =
+    may_compare whole limit c.args.x old.entries old.reached asked (plain_line whole c.args.edge)
+    (ap (λ n. n.edge) c.live_edge-entry.ensures) c.requires.state c.requires.moves
+    (record { a = c.requires.over.a_in_range; b = c.requires.over.b_in_range })
+    (let from = covers_from (plain_line whole c.args.edge) (whole c.args.x) (pos 1) c.requires.over.over in
+    omega (arith, ints))
     k d lt a b at_a at_b in
-    let one : IsInRange limit (plain_line whole (a ∷ b ∷ [])) = both.0 in
-    let other : IsInRange limit asked = both.1 in
     search rules
 
 pub returns-in_err-put_in-clause-err : goal.returns-in_err-put_in-clause-err
