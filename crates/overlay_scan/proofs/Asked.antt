@@ -102,7 +102,7 @@ told_by whole post e d fs same tells k f lt a b at_a at_b o answered = tells (a 
     ∙ (λ j. is_lower (record { a = at_a j; b = at_b j }) (same j))
 
 -- each live entry's line is in range, and so is the edge
-pub lines_in_range : {I V : Type 0} (whole : I → ℤ) (limit : ℕ) (x : ℤ) (fs : List (Entry V)) (e : Edge) → AreLive
+lines_in_range : {I V : Type 0} (whole : I → ℤ) (limit : ℕ) (x : ℤ) (fs : List (Entry V)) (e : Edge) → AreLive
     limit x fs →
     IsInRange limit e → IsCallableOn whole (λ line. IsInRange limit (plain_line whole line) × IsInRange limit e) fs
 lines_in_range whole limit x fs e live in_range k d lt a b at_a at_b = (

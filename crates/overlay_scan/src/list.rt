@@ -165,8 +165,8 @@ pub fn has_ended<I: IntNumber, V: Copy>(f: &LiveEdge<I, V>, x: I) -> bool
     !x.compare(f.b.x).is_lt()
 }
 
-/// Returns `Less` for a line under the edge, else `Greater`. The line ends right of the start of the edge. It multiplies
-/// nothing for a line that is over that start, if both ends of the line are below the start, or both above.
+/// Returns `Less` for a line under the edge, else `Greater`. The line ends right of the start of the edge. It
+/// multiplies nothing where the line is over that start, and both its ends are below the start, or both above.
 pub fn order_to<I: IntNumber, V: Copy>(line: IntLine<I>, e: &LiveEdge<I, V>) -> Ordering
     requires { IsComparable I.limit (plain_line I.whole line) (plain_entry I.whole e.now).edge }
     ensures { not (is_gt result) ≡ is_lower (plain_line I.whole line) (plain_entry I.whole e.now).edge }

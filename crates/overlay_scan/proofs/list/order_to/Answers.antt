@@ -1,5 +1,5 @@
 -- A line that lies below or above the start of the edge with both ends is on that side of it.
-use Rattle.std.proofs.Common.{◌≡◌, sym, rules}
+use Rattle.std.proofs.Common.{sym, rules}
 use Rattle.overlay_geom.specs.Lines.{plain_line}
 use Rattle.overlay_plane.proofs.Tests.{ge_from_test}
 use Rattle.overlay_scan.specs.Lists.{plain_entry}
