@@ -109,7 +109,7 @@ impl<I: IntNumber, V: Copy, A: Allocator> Scan<I, V> for ScanList<I, V, A> {
         let order = |f: IntLine<I>| -> Ordering
             requires { IsComparable I.limit (plain_line I.whole f) (plain_entry I.whole asked).edge }
             ensures { not (is_gt result) ≡ is_lower (plain_line I.whole f) (plain_entry I.whole asked).edge }
-        { order_to(f, &asked) };
+        { order_at_start(f, &asked) };
         self.put_in(x, entry, &order)?;
         Ok(())
     }
@@ -129,7 +129,7 @@ impl<I: IntNumber, V: Copy, A: Allocator> Scan<I, V> for ScanList<I, V, A> {
         let order = |f: IntLine<I>| -> Ordering
             requires { IsComparable I.limit (plain_line I.whole f) (plain_entry I.whole asked).edge }
             ensures { not (is_gt result) ≡ is_lower (plain_line I.whole f) (plain_entry I.whole asked).edge }
-        { order_to(f, &asked) };
+        { order_at_start(f, &asked) };
         let found = self.look_up(x, &order);
         found.unwrap_or(default)
     }
@@ -165,35 +165,38 @@ pub fn has_ended<I: IntNumber, V: Copy>(f: &LiveEdge<I, V>, x: I) -> bool
     !x.compare(f.b.x).is_lt()
 }
 
-/// Returns `Less` for a line under the edge, else `Greater`. The line ends right of the start of the edge. It
-/// multiplies nothing where the line is over that start, and both its ends are below the start, or both above.
+/// Returns `Less` for a line under the edge, else `Greater`.
 pub fn order_to<I: IntNumber, V: Copy>(line: IntLine<I>, e: &LiveEdge<I, V>) -> Ordering
-    requires { IsComparable I.limit (plain_line I.whole line) (plain_entry I.whole e.now).edge }
-    ensures { not (is_gt result) ≡ is_lower (plain_line I.whole line) (plain_entry I.whole e.now).edge }
-{
-    let [a, b] = line;
-    if e.a.x.compare(a.x).is_lt() {
-        return order_by_sides(line, e);
-    }
-    let starts_below = a.y.compare(e.a.y).is_lt();
-    let ends_below = b.y.compare(e.a.y).is_lt();
-    if starts_below != ends_below || a.y.compare(e.a.y).is_eq() {
-        order_by_sides(line, e)
-    } else if starts_below {
-        Ordering::Less
-    } else {
-        Ordering::Greater
-    }
-}
-
-// Returns that order by cross products.
-fn order_by_sides<I: IntNumber, V: Copy>(line: IntLine<I>, e: &LiveEdge<I, V>) -> Ordering
     requires one { IsInRange I.limit (plain_line I.whole line) }
     requires other { IsInRange I.limit (plain_entry I.whole e.now).edge }
     ensures { not (is_gt result) ≡ is_lower (plain_line I.whole line) (plain_entry I.whole e.now).edge }
 {
     let f = live_edge(line, e.value);
     if is_under(&f, e) {
+        Ordering::Less
+    } else {
+        Ordering::Greater
+    }
+}
+
+/// Returns that order for a line that ends right of the start of the edge. It multiplies nothing where the line is over
+/// that start, and both its ends are below the start, or both above.
+pub(crate) fn order_at_start<I: IntNumber, V: Copy>(
+    line: IntLine<I>,
+    e: &LiveEdge<I, V>,
+) -> Ordering
+    requires { IsComparable I.limit (plain_line I.whole line) (plain_entry I.whole e.now).edge }
+    ensures { not (is_gt result) ≡ is_lower (plain_line I.whole line) (plain_entry I.whole e.now).edge }
+{
+    let [a, b] = line;
+    if e.a.x.compare(a.x).is_lt() {
+        return order_to(line, e);
+    }
+    let starts_below = a.y.compare(e.a.y).is_lt();
+    let ends_below = b.y.compare(e.a.y).is_lt();
+    if starts_below != ends_below || a.y.compare(e.a.y).is_eq() {
+        order_to(line, e)
+    } else if starts_below {
         Ordering::Less
     } else {
         Ordering::Greater

@@ -11,7 +11,7 @@ ghost use Rattle.overlay_scan.specs.Scan.{IsCallableOn, IsAnsweredBy, AnswersRis
 ghost use Rattle.overlay_scan.specs.HeldEntries.{live_of, IsLookedUp};
 ghost use Rattle.overlay_scan.specs.HeldEdges.{held_sweep, IsQuick};
 
-use crate::list::{LiveEdge, live_edge, order_to};
+use crate::list::{LiveEdge, live_edge, order_at_start};
 use crate::scan::Scan;
 use crate::tree::links::NodeIndex;
 use crate::tree::nodes::ScanNodes;
@@ -146,7 +146,7 @@ impl<I: IntNumber, V: Copy, A: Allocator> Scan<I, V> for ScanTree<I, V, A> {
         let order = |f: IntLine<I>| -> Ordering
             requires { IsComparable I.limit (plain_line I.whole f) (plain_entry I.whole asked).edge }
             ensures { not (is_gt result) ≡ is_lower (plain_line I.whole f) (plain_entry I.whole asked).edge }
-        { order_to(f, &asked) };
+        { order_at_start(f, &asked) };
         self.put_in(x, entry, &order)?;
         Ok(())
     }
@@ -167,7 +167,7 @@ impl<I: IntNumber, V: Copy, A: Allocator> Scan<I, V> for ScanTree<I, V, A> {
         let order = |f: IntLine<I>| -> Ordering
             requires { IsComparable I.limit (plain_line I.whole f) (plain_entry I.whole asked).edge }
             ensures { not (is_gt result) ≡ is_lower (plain_line I.whole f) (plain_entry I.whole asked).edge }
-        { order_to(f, &asked) };
+        { order_at_start(f, &asked) };
         let found = self.look_up(x, &order);
         found.unwrap_or(default)
     }

@@ -4,7 +4,7 @@ use Rattle.overlay_geom.specs.Lines.{plain_line}
 use Rattle.overlay_plane.proofs.Tests.{ge_from_test}
 use Rattle.overlay_scan.specs.Lists.{plain_entry}
 use Rattle.overlay_scan.proofs.EdgesAside.{lower_where_below, not_lower_where_above}
-use Rattle.overlay_scan.proofs.list.order_to.Goals as goal
+use Rattle.overlay_scan.proofs.list.order_at_start.Goals as goal
 
 pub returns-then-starts_below : goal.returns-then-starts_below
 returns-then-starts_below g c =
