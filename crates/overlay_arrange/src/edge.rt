@@ -1,6 +1,9 @@
 //! Counted edges.
 
 ghost use Rattle.std.specs.Prelude.{◌≡◌};
+ghost use Rattle.overlay_geom.specs.Edges.{ends_of};
+ghost use Rattle.overlay_geom.specs.Plane.{edge_eq, edge_lt, point_eq, point_lt};
+ghost use Rattle.overlay_geom.specs.Points.{plain_point};
 ghost use Rattle.overlay_arrange.specs.Content.{plain_edge, edge_cmp};
 
 use crate::count::EdgeCount;
@@ -27,8 +30,47 @@ pub fn compare_edges<I: IntNumber, C: EdgeCount>(
 ) -> Ordering
     ensures { result ≡ edge_cmp (plain_edge I.whole C.counts e.now) (plain_edge I.whole C.counts f.now) }
 {
-    match compare_points(e.a, f.a) {
-        Ordering::Equal => compare_points(e.b, f.b),
-        other => other,
+    if comes_before(e, f) {
+        Ordering::Less
+    } else if comes_before(f, e) {
+        Ordering::Greater
+    } else {
+        Ordering::Equal
     }
+}
+
+/// Returns whether e comes before f: by their smaller ends, then by their larger ends.
+pub(crate) fn comes_before<I: IntNumber, C: EdgeCount>(
+    e: &CountedEdge<I, C>,
+    f: &CountedEdge<I, C>,
+) -> bool
+    ensures { result ≡ edge_lt
+        (ends_of (plain_edge I.whole C.counts e.now)) (ends_of (plain_edge I.whole C.counts f.now)) }
+{
+    is_before(e.a, f.a) || is_at(e.a, f.a) && is_before(e.b, f.b)
+}
+
+/// Returns whether two edges have equal ends.
+pub(crate) fn have_same_ends<I: IntNumber, C: EdgeCount>(
+    e: &CountedEdge<I, C>,
+    f: &CountedEdge<I, C>,
+) -> bool
+    ensures { result ≡ edge_eq
+        (ends_of (plain_edge I.whole C.counts e.now)) (ends_of (plain_edge I.whole C.counts f.now)) }
+{
+    is_at(e.a, f.a) && is_at(e.b, f.b)
+}
+
+/// Returns whether p is smaller than q: by x, then by y.
+pub(crate) fn is_before<I: IntNumber>(p: IntPoint<I>, q: IntPoint<I>) -> bool
+    ensures { result ≡ point_lt (plain_point I.whole p) (plain_point I.whole q) }
+{
+    p.x.compare(q.x).is_lt() || p.x.compare(q.x).is_eq() && p.y.compare(q.y).is_lt()
+}
+
+/// Returns whether p and q are equal.
+pub(crate) fn is_at<I: IntNumber>(p: IntPoint<I>, q: IntPoint<I>) -> bool
+    ensures { result ≡ point_eq (plain_point I.whole p) (plain_point I.whole q) }
+{
+    p.x.compare(q.x).is_eq() && p.y.compare(q.y).is_eq()
 }

@@ -10,7 +10,7 @@ ghost use Rattle.overlay_arrange.specs.Content.{plain_edges, IsContent};
 ghost use Rattle.overlay_arrange.specs.Starts.{starting_ends, numbered_starts, AreByStart};
 
 use crate::count::EdgeCount;
-use crate::edge::{CountedEdge, compare_points};
+use crate::edge::{CountedEdge, is_at, is_before};
 use crate::sort_runs::sort_neighbours;
 use crate::starting_edge::StartingEdge;
 use overlay_geom::number::{IntNumber, WideIntNumber};
@@ -68,8 +68,11 @@ fn edges_with_places<I: IntNumber, C: EdgeCount, A: Allocator>(
 fn compare_starts<I: IntNumber, C: Copy>(e: &StartingEdge<I, C>, f: &StartingEdge<I, C>) -> Ordering
     ensures { is_lt result ≡ is_anchored_before (starting_ends I.whole e.now) (starting_ends I.whole f.now) }
 {
-    match compare_points(e.edge.a, f.edge.a) {
-        Ordering::Equal => cross_at(e.edge.a, f.edge.b, e.edge.b).sign(),
-        other => other,
+    if is_before(e.edge.a, f.edge.a) {
+        Ordering::Less
+    } else if is_at(e.edge.a, f.edge.a) {
+        cross_at(e.edge.a, f.edge.b, e.edge.b).sign()
+    } else {
+        Ordering::Greater
     }
 }

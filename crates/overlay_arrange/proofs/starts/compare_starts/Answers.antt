@@ -1,13 +1,22 @@
 -- The cross product decides for edges from one point.
-use Rattle.std.proofs.Common.{ap, sym, ◌∙◌}
-use Rattle.std.specs.Ordering.{is_lt}
+use Rattle.std.proofs.Common.{◌≡◌, true, refl, ap, sym, ◌∙◌}
+use Rattle.std.specs.Ordering.{is_eq, is_lt}
+use Rattle.std.specs.declared.cmp.Ordering.{Ordering}
+use Rattle.std.specs.declared.cmp.Ordering.TheVariants.{Less, Equal, Greater}
+use Rattle.overlay_geom.proofs.PointComparisons.{point_cmp-is_tie}
 use Rattle.overlay_plane.proofs.TiedStarts.{tied_before}
 use Rattle.overlay_arrange.specs.Starts.{starting_ends}
 use Rattle.overlay_arrange.proofs.starts.compare_starts.Goals as goal
 
-pub returns-in-Equal : goal.returns-in-Equal
-returns-in-Equal g c =
-    let whole = g.I.IntNumber.whole in
+-- an answer that is found equal is `Equal`
+equal_from : (o : Ordering) → is_eq o ≡ true → o ≡ Equal
+equal_from Less h = cc
+equal_from Equal h = refl
+equal_from Greater h = cc
+
+pub returns-then-is_at : goal.returns-then-is_at
+returns-then-is_at g c =
+    let e = starting_ends g.I.IntNumber.whole c.args.e.now in
+    let f = starting_ends g.I.IntNumber.whole c.args.f.now in
     ap is_lt c.sign.ensures
-    ∙ tied_before (starting_ends whole c.args.e.now) (starting_ends whole c.args.f.now) _ (sym c.in-Equal.ensures)
-    c.cross_at.ensures.value
+    ∙ tied_before e f _ (equal_from _ (point_cmp-is_tie e.a f.a ∙ sym c.if-is_at.ensures)) c.cross_at.ensures.value
