@@ -47,7 +47,7 @@ pub(crate) fn comes_before<I: IntNumber, C: EdgeCount>(
     ensures { result ≡ edge_lt
         (ends_of (plain_edge I.whole C.counts e.now)) (ends_of (plain_edge I.whole C.counts f.now)) }
 {
-    is_before(e.a, f.a) || is_at(e.a, f.a) && is_before(e.b, f.b)
+    is_before(e.a, f.a) || is_same(e.a, f.a) && is_before(e.b, f.b)
 }
 
 /// Returns whether two edges have equal ends.
@@ -58,7 +58,7 @@ pub(crate) fn have_same_ends<I: IntNumber, C: EdgeCount>(
     ensures { result ≡ edge_eq
         (ends_of (plain_edge I.whole C.counts e.now)) (ends_of (plain_edge I.whole C.counts f.now)) }
 {
-    is_at(e.a, f.a) && is_at(e.b, f.b)
+    is_same(e.a, f.a) && is_same(e.b, f.b)
 }
 
 /// Returns whether p is smaller than q: by x, then by y.
@@ -69,7 +69,7 @@ pub(crate) fn is_before<I: IntNumber>(p: IntPoint<I>, q: IntPoint<I>) -> bool
 }
 
 /// Returns whether p and q are equal.
-pub(crate) fn is_at<I: IntNumber>(p: IntPoint<I>, q: IntPoint<I>) -> bool
+pub(crate) fn is_same<I: IntNumber>(p: IntPoint<I>, q: IntPoint<I>) -> bool
     ensures { result ≡ point_eq (plain_point I.whole p) (plain_point I.whole q) }
 {
     p.x.compare(q.x).is_eq() && p.y.compare(q.y).is_eq()

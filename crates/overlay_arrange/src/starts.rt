@@ -10,7 +10,7 @@ ghost use Rattle.overlay_arrange.specs.Content.{plain_edges, IsContent};
 ghost use Rattle.overlay_arrange.specs.Starts.{starting_ends, numbered_starts, AreByStart};
 
 use crate::count::EdgeCount;
-use crate::edge::{CountedEdge, is_at, is_before};
+use crate::edge::{CountedEdge, is_same, is_before};
 use crate::sort_runs::sort_neighbours;
 use crate::starting_edge::StartingEdge;
 use overlay_geom::number::{IntNumber, WideIntNumber};
@@ -70,7 +70,7 @@ fn compare_starts<I: IntNumber, C: Copy>(e: &StartingEdge<I, C>, f: &StartingEdg
 {
     if is_before(e.edge.a, f.edge.a) {
         Ordering::Less
-    } else if is_at(e.edge.a, f.edge.a) {
+    } else if is_same(e.edge.a, f.edge.a) {
         cross_at(e.edge.a, f.edge.b, e.edge.b).sign()
     } else {
         Ordering::Greater

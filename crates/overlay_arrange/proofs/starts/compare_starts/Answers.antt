@@ -14,9 +14,9 @@ equal_from Less h = cc
 equal_from Equal h = refl
 equal_from Greater h = cc
 
-pub returns-then-is_at : goal.returns-then-is_at
-returns-then-is_at g c =
+pub returns-then-is_same : goal.returns-then-is_same
+returns-then-is_same g c =
     let e = starting_ends g.I.IntNumber.whole c.args.e.now in
     let f = starting_ends g.I.IntNumber.whole c.args.f.now in
     ap is_lt c.sign.ensures
-    ∙ tied_before e f _ (equal_from _ (point_cmp-is_tie e.a f.a ∙ sym c.if-is_at.ensures)) c.cross_at.ensures.value
+    ∙ tied_before e f _ (equal_from _ (point_cmp-is_tie e.a f.a ∙ sym c.if-is_same.ensures)) c.cross_at.ensures.value
