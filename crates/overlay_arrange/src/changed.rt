@@ -10,7 +10,7 @@ ghost use Rattle.overlay_arrange.specs.Near.{AreNear};
 
 use crate::content::Content;
 use crate::count::EdgeCount;
-use crate::edge::{CountedEdge, compare_edges};
+use crate::edge::{CountedEdge, comes_before, have_same_ends};
 use crate::near::find_near_behind;
 use crate::strips::{Strips, strips_of};
 use overlay_geom::number::IntNumber;
@@ -100,7 +100,7 @@ fn place_from<I: IntNumber, C: EdgeCount>(
     ensures { from ≤ result }
 {
     let mut at = from;
-    while at < edges.len() && compare_edges(&edges[at], e).is_lt() {
+    while at < edges.len() && comes_before(&edges[at], e) {
         at += 1;
     }
     at
@@ -121,7 +121,7 @@ fn was_closed<I: IntNumber, C: EdgeCount>(
     if before.len() <= at {
         return false;
     }
-    !is_open[at] && compare_edges(&before[at], e).is_eq()
+    !is_open[at] && have_same_ends(&before[at], e)
 }
 
 /// Returns the edges at the places, in their order.

@@ -13,7 +13,7 @@ ghost use Rattle.overlay_arrange.specs.Meetings.{plain_meetings, AddsBoth, AddsP
 ghost use Rattle.overlay_arrange.specs.Settle.{AreSettled};
 
 use crate::count::EdgeCount;
-use crate::edge::{CountedEdge, compare_points, is_same};
+use crate::edge::{CountedEdge, is_before, is_same};
 use crate::meetings::Meeting;
 use crate::settle::{meet_in_ends, place_by};
 use overlay_geom::edge_pair::Place;
@@ -290,5 +290,5 @@ pub(crate) fn is_end_of<I: IntNumber, C: EdgeCount>(e: &CountedEdge<I, C>, v: In
 fn is_between<I: IntNumber, C: EdgeCount>(e: &CountedEdge<I, C>, v: IntPoint<I>) -> bool
     ensures { result ≡ is_between (ends_of (plain_edge I.whole C.counts e.now)) (plain_point I.whole v) }
 {
-    compare_points(v, e.a).is_ge() && compare_points(e.b, v).is_ge()
+    !is_before(v, e.a) && !is_before(e.b, v)
 }

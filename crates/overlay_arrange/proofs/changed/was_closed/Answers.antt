@@ -1,10 +1,8 @@
--- The edge at the place has the ends of e where the two compare as equal.
-use Rattle.std.proofs.Common.{ap, sym, ◌∙◌, arith}
-use Rattle.std.specs.Ordering.{is_eq}
+-- The edge at the place has the ends of e where the two are found to have the same ends.
+use Rattle.std.proofs.Common.{sym, ◌∙◌, arith}
 use Rattle.overlay_geom.specs.Edges.{ends_of}
 use Rattle.overlay_geom.proofs.Orders.{edge_eq-same}
 use Rattle.overlay_arrange.specs.Content.{plain_edge}
-use Rattle.overlay_arrange.proofs.EdgeOrder.{edge_cmp-is_tie}
 use Rattle.overlay_arrange.proofs.GatheredMeetings.{placed_in_mapped}
 use Rattle.overlay_arrange.proofs.changed.was_closed.Goals as goal
 
@@ -18,6 +16,5 @@ returns-then-not-is_open-at g c = λ is_equal.
       at = placed_in_mapped plain c.args.before.now c.args.at c.index-before-at.result
           (omega (arith, c.if-before-at.false)) c.index-before-at.is;
       closed = (let l = c.requires in omega (arith, l, c.if-before-at.false), c.if-not-is_open-at.true);
-      ends = edge_eq-same (ends_of f) (ends_of e) (sym (edge_cmp-is_tie f e) ∙ ap is_eq (sym c.compare_edges.ensures)
-          ∙ sym c.is_eq.ensures ∙ is_equal);
+      ends = edge_eq-same (ends_of f) (ends_of e) (sym c.have_same_ends.ensures ∙ is_equal);
     }
