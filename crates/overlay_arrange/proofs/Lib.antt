@@ -59,6 +59,7 @@ pub mod Searches
 pub mod SettledFronts
 pub mod SettledLists
 pub mod SideBits
+pub mod SiftedRuns
 pub mod SnappedThrough
 pub mod SnapsTaken
 pub mod SolverRounds

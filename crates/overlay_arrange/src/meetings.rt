@@ -1,7 +1,7 @@
 //! The whole points through which the edges of a list lead each other, gathered pair by pair.
 
 ghost use Rattle.std.specs.Prelude.{◌≡◌, ◌+◌, ◌<◌, ◌≤◌, true, false, length, nat_le, nat_lt};
-ghost use Rattle.std.specs.Prelude.{All, IfOk, IfSome, IsTrue, OnOk};
+ghost use Rattle.std.specs.Prelude.{All, IfOk, IfSome, OnOk};
 ghost use Rattle.std.specs.List.{AllWithin};
 ghost use Rattle.std.specs.List.Sorted.{IsPartitionPoint, IsPermutation};
 ghost use Rattle.overlay_arrange.specs.Changed.{AreHeldChangesOf, AreOpenBefore, AreOpenIn, StayOpen};
@@ -120,23 +120,8 @@ fn sort_by_place<I: IntNumber, A: Allocator + Clone>(
     ensures order { OnOk result (AreByPlace (plain_meetings I.whole meetings.new.items)) }
 {
     order_by_numbers(meetings, count, |m| m.place)?;
-    if are_by_place(meetings) {
-        return Ok(());
-    }
     meetings.sort_by(|m, n| m.place.cmp(&n.place))?;
     Ok(())
-}
-
-/// Returns whether the meetings are sorted by their places.
-fn are_by_place<I: IntNumber>(meetings: &[Meeting<I>]) -> bool
-    ensures { IsTrue result → AreByPlace (plain_meetings I.whole meetings.now) }
-{
-    for k in 1..meetings.len() {
-        if meetings[k].place < meetings[k - 1].place {
-            return false;
-        }
-    }
-    true
 }
 
 /// Returns the range of the meetings of the edge at place i. The meetings are sorted by their places. It tries whether

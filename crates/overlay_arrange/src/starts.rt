@@ -10,7 +10,7 @@ ghost use Rattle.overlay_arrange.specs.Content.{plain_edges, IsContent};
 ghost use Rattle.overlay_arrange.specs.Starts.{starting_ends, numbered_starts, AreByStart};
 
 use crate::count::EdgeCount;
-use crate::edge::{CountedEdge, is_same, is_before};
+use crate::edge::{CountedEdge, is_before, is_same};
 use crate::sort_runs::sort_neighbours;
 use crate::starting_edge::StartingEdge;
 use overlay_geom::number::{IntNumber, WideIntNumber};
