@@ -70,4 +70,5 @@ pub mod StartsTogether
 pub mod StripOrder
 pub mod Sweepable
 mod SweptFills
+pub mod TakenItems
 pub mod WholeMeetings

@@ -7,6 +7,7 @@ pub mod EdgeData
 pub mod Ends
 pub mod Extents
 pub mod FillTests
+pub mod Gathered
 pub mod Graphs
 pub mod HotPoints
 pub mod Meetings

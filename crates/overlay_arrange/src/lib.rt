@@ -17,6 +17,7 @@ mod fill_rays;
 pub mod fill_rule;
 mod fill_sweep;
 pub mod fill_test;
+mod gather;
 pub mod graph;
 mod hot;
 mod meetings;

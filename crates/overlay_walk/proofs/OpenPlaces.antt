@@ -6,6 +6,7 @@ use Rattle.std.proofs.lemmas.Bool.{both_ways}
 use Rattle.std.proofs.lemmas.List.{length-set}
 use Rattle.std.proofs.lemmas.List.Elements.{All-weaker, All-contains_itself}
 use Rattle.overlay_geom.proofs.Entries.{Contains-head, Contains-later, Contains-cases}
+use Rattle.overlay_arrange.proofs.TakenItems.{filled_up}
 use Rattle.overlay_walk.specs.Places.{is_open}
 use Rattle.overlay_walk.specs.Steps.{unmarked}
 
@@ -70,12 +71,6 @@ unmarked-all (x ∷ xs) (true ∷ ms) same none = unmarked-all xs ms (omega arit
 unmarked-all (x ∷ xs) (false ∷ ms) same none = absurd (both_ways true (none zero (omega arith)) refl)
 
 -- marks that were cleared and filled up with false leave nothing out
-filled_up : (n m : ℕ) (cleared : List Bool) → m ≡ 0 → cleared ≡ [] →
-    take n cleared ++ replicate (n - m) false ≡ replicate n false
-filled_up zero m [] few none = let e : zero - m ≡ zero = omega arith in ap (λ k. replicate k false) e
-filled_up (suc n) m [] few none = let e : suc n - m ≡ suc n = omega arith in ap (λ k. replicate k false) e
-filled_up n m (b ∷ bs) few none = let l = ap length none in absurd (omega arith)
-
 pub unmarked-cleared : {X : Type 0} (xs : List X) (cleared ms : List Bool) (n m : ℕ) → m ≡ 0 → cleared ≡ [] →
     ms ≡ take n cleared ++ replicate (n - m) false → unmarked xs ms ≡ xs
 unmarked-cleared xs cleared ms n m few none filled = ap (unmarked xs) (filled ∙ filled_up n m cleared few none)
