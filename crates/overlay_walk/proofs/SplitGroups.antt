@@ -1,7 +1,7 @@
 -- The groups that are outlines, and the steps of those that are holes: they alternate, each stands once, and each is
 -- long.
 use Rattle.std.proofs.Common.{◌≡◌, Bool, not, ℤ, ℕ, List, [], ◌∷◌, ◌++◌, filter, All, Contains, Vec, refl, ap, ◌∙◌}
-use Rattle.std.specs.List.{AllZip, flat_map}
+use Rattle.std.specs.List.{flat_map}
 use Rattle.std.proofs.lemmas.List.{map-append}
 use Rattle.std.proofs.lemmas.List.Elements.{All-contains}
 use Rattle.overlay_geom.specs.Plane.{Step}
@@ -24,21 +24,11 @@ use Rattle.overlay_plane.proofs.ShuffledCuts.{HaveSame, cut_alike}
 use Rattle.overlay_plane.proofs.ShuffledPairs.{once_shuffled}
 use Rattle.overlay_plane.proofs.ShuffledSteps.{Differ}
 use Rattle.overlay_walk.specs.declared.step.Step.{Step as StepTaken}
-use Rattle.overlay_walk.specs.GroupedContours.{plain_groups}
 use Rattle.overlay_walk.specs.Steps.{plain_step, plain_steps, IsLong}
 use Rattle.overlay_walk.specs.Walks.{plain_walks, IsOwnOrbit}
 use Rattle.overlay_walk.proofs.OwnOrbits.{own_orbit}
 
 module _ {I A : Type 0} (whole : I → ℤ) where
-  -- groups with the walks that they are cut into, as whole numbers
-  pub cut_plain : (hand_of : Step → Hand) (gs : List (Vec (StepTaken I) A)) (cut : List (Vec (Vec (StepTaken I) A) A)) →
-      AllZip (λ g ws. IsCutInto hand_of (plain_steps whole g.items) (plain_walks whole ws.items)) gs cut →
-      AllZip (λ g ws. IsCutInto hand_of g ws) (plain_walks whole gs) (plain_groups whole cut)
-  cut_plain hand_of [] [] each = tt
-  cut_plain hand_of [] (ws ∷ cut) each = absurd each
-  cut_plain hand_of (g ∷ gs) [] each = absurd each
-  cut_plain hand_of (g ∷ gs) (ws ∷ cut) each = (each.0, cut_plain hand_of gs cut each.1)
-
   -- the steps of groups
   steps_plain : (gs : List (Vec (StepTaken I) A)) →
       plain_steps whole (flat_map (λ (g : Vec (StepTaken I) A). g.items) gs) ≡ all_steps (plain_walks whole gs)

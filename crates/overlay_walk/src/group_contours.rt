@@ -1,11 +1,10 @@
 //! Contours made of the walks of groups.
 
-ghost use Rattle.std.specs.Prelude.{◌≡◌, ◌++◌, map, All, IfOk, OnOk};
-ghost use Rattle.std.specs.List.{flat_map};
+ghost use Rattle.std.specs.Prelude.{◌≡◌, [], ◌∷◌, ◌++◌, map, All, IfOk, OnOk};
 ghost use Rattle.overlay_plane.specs.MinimumArea.{reaches};
-ghost use Rattle.overlay_plane.specs.RoledContours.{kept_group, group_contours_from, hole_to_bind};
-ghost use Rattle.overlay_walk.specs.GroupedContours.{plain_contours, plain_groups, first_reaches, contours_of_group};
-ghost use Rattle.overlay_walk.specs.Steps.{IsLong};
+ghost use Rattle.overlay_plane.specs.RoledContours.{hole_to_bind};
+ghost use Rattle.overlay_walk.specs.GroupedContours.{plain_contours, first_reaches, contours_of_group, AddsGroup};
+ghost use Rattle.overlay_walk.specs.Steps.{plain_steps, IsLong};
 ghost use Rattle.overlay_walk.specs.Walks.{plain_walks};
 
 use crate::area::{large_walks, reaches};
@@ -14,31 +13,48 @@ use crate::step::Step;
 use overlay_geom::number::{IntNumber, UIntNumber, WideIntNumber};
 use std::alloc::{AllocError, Allocator};
 
-/// Returns the walks of outlines' groups as contours: each outline that reaches the minimum area, with the holes of its
-/// group that reach it. The outline is the first walk of its group.
-pub(crate) fn group_contours<I: IntNumber, A: Allocator + Clone>(
-    alloc: A,
-    groups: Vec<Vec<Vec<Step<I>, A>, A>, A>,
+/// Adds a walk as the outline of the shape with this number, if it reaches the minimum area, and returns whether it does.
+pub(crate) fn push_outline<I: IntNumber, A: Allocator>(
+    contours: &mut Vec<Contour<I, A>, A>,
+    number: usize,
+    steps: Vec<Step<I>, A>,
     min_output_area: I::WideUInt,
-) -> Result<Vec<Contour<I, A>, A>, AllocError>
-    requires { All (λ ws. All (All (IsLong I.limit)) (plain_walks I.whole ws.items)) groups.items }
-    ensures ok { IfOk result (λ cs. plain_contours I.whole cs.items ≡ group_contours_from 0
-        (flat_map (kept_group (λ w. reaches I.Wide.width (I.WideUInt.natural min_output_area) w))
-        (plain_groups I.whole groups.items))) }
+) -> Result<bool, AllocError>
+    requires { All (IsLong I.limit) (plain_steps I.whole steps.items) }
+    ensures pushed { IfOk result (λ is_kept. AddsGroup
+        (λ w. reaches I.Wide.width (I.WideUInt.natural min_output_area) w) number (plain_steps I.whole steps.items ∷ [])
+        is_kept (plain_contours I.whole contours.old.items) (plain_contours I.whole contours.new.items)) }
 {
-    let mut contours = Vec::new(alloc.clone()?);
-    let mut number = 0;
-    for group in groups {
-        if first_reaches(&group, min_output_area) {
-            push_group(
-                &mut contours,
-                large_walks(alloc.clone()?, group, min_output_area)?,
-                number,
-            )?;
-            number += 1;
-        }
+    let is_kept = reaches(&steps, min_output_area);
+    if is_kept {
+        contours.push(Contour {
+            role: Role::Outline(number),
+            steps,
+        })?;
     }
-    Ok(contours)
+    Ok(is_kept)
+}
+
+/// Adds the walks of a group that reach the minimum area as contours, if its outline does, and returns whether it does.
+/// The outline is the first walk, that of the shape with this number; the others are its holes.
+pub(crate) fn push_group<I: IntNumber, A: Allocator + Clone>(
+    alloc: A,
+    contours: &mut Vec<Contour<I, A>, A>,
+    number: usize,
+    walks: Vec<Vec<Step<I>, A>, A>,
+    min_output_area: I::WideUInt,
+) -> Result<bool, AllocError>
+    requires { All (All (IsLong I.limit)) (plain_walks I.whole walks.items) }
+    ensures pushed { IfOk result (λ is_kept. AddsGroup
+        (λ w. reaches I.Wide.width (I.WideUInt.natural min_output_area) w) number (plain_walks I.whole walks.items)
+        is_kept (plain_contours I.whole contours.old.items) (plain_contours I.whole contours.new.items)) }
+{
+    let is_kept = first_reaches(&walks, min_output_area);
+    if is_kept {
+        let large = large_walks(alloc, walks, min_output_area)?;
+        push_walks(contours, large, number)?;
+    }
+    Ok(is_kept)
 }
 
 // Returns whether there is a first walk and it reaches the minimum area.
@@ -57,7 +73,7 @@ fn first_reaches<I: IntNumber, A: Allocator>(
 }
 
 // Adds the walks of a group as contours: the outline of the shape with this number, and its holes.
-fn push_group<I: IntNumber, A: Allocator>(
+fn push_walks<I: IntNumber, A: Allocator>(
     contours: &mut Vec<Contour<I, A>, A>,
     walks: Vec<Vec<Step<I>, A>, A>,
     number: usize,

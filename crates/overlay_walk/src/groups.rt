@@ -2,7 +2,7 @@
 //! of the empty side, into contours that visit no point twice.
 
 ghost use Rattle.std.specs.Prelude.{◌≡◌, [], not, filter, All, IfOk};
-ghost use Rattle.std.specs.List.{AllZip, flat_map};
+ghost use Rattle.std.specs.List.{flat_map};
 ghost use Rattle.overlay_plane.specs.Alternates.{Alternates};
 ghost use Rattle.overlay_plane.specs.BesideOrbits.{HasEachOnce};
 ghost use Rattle.overlay_plane.specs.Binding.{is_hole};
@@ -11,13 +11,13 @@ ghost use Rattle.overlay_plane.specs.MinimumArea.{reaches};
 ghost use Rattle.overlay_plane.specs.RoledContours.{IsCutInGroups};
 ghost use Rattle.overlay_walk.specs.Steps.{filled_hand, plain_hand, plain_steps, IsLong};
 ghost use Rattle.overlay_walk.specs.Walks.{plain_walks, IsOwnOrbit};
-ghost use Rattle.overlay_walk.specs.GroupedContours.{plain_contours};
+ghost use Rattle.overlay_walk.specs.GroupedContours.{plain_contours, AreCutFromGroups, AddsCutGroup};
 
 use crate::area::large_walks;
 use crate::contour::Contour;
 use crate::contour_cut::{cut_into_contours, empty_hand, filled_hand};
 use crate::filled_side::is_hole;
-use crate::group_contours::{group_contours, push_free_holes};
+use crate::group_contours::{push_free_holes, push_group, push_outline};
 use crate::hand::{Hand, HandRule};
 use crate::open_steps::OpenSteps;
 use crate::points_once::leave_each_point_once;
@@ -55,9 +55,8 @@ pub fn cut_in_groups<I: IntNumber, A: Allocator + Clone>(
     let room = steps.into_room();
     let (outline_groups, hole_steps) = split_groups(alloc.clone()?, groups, direction)?;
     let empty = empty_hand(direction);
-    let inside = cut_each(alloc.clone()?, outline_groups, empty)?;
+    let mut contours = cut_outlines(alloc.clone()?, outline_groups, empty, min_output_area)?;
     let others = cut_again(alloc.clone()?, hole_steps, empty)?;
-    let mut contours = group_contours(alloc.clone()?, inside, min_output_area)?;
     push_free_holes(&mut contours, large_walks(alloc, others, min_output_area)?)?;
     Ok((contours, room))
 }
@@ -85,48 +84,61 @@ fn split_groups<I: IntNumber, A: Allocator + Clone>(
     Ok((outline_groups, hole_steps))
 }
 
-// Returns the walks of each group by a hand. Each group is an orbit from its start.
-fn cut_each<I: IntNumber, A: Allocator + Clone>(
+// Returns the contours of groups by a hand: each outline that reaches the minimum area, with the holes of its group that
+// reach it. Outlines are numbered from 0. Each group is an orbit from its start.
+fn cut_outlines<I: IntNumber, A: Allocator + Clone>(
     alloc: A,
     groups: Vec<Vec<Step<I>, A>, A>,
     hand: Hand,
-) -> Result<Vec<Vec<Vec<Step<I>, A>, A>, A>, AllocError>
+    min_output_area: I::WideUInt,
+) -> Result<Vec<Contour<I, A>, A>, AllocError>
     requires alternate { All Alternates (plain_walks I.whole groups.items) }
     requires once { All HasEachOnce (plain_walks I.whole groups.items) }
     requires long { All (All (IsLong I.limit)) (plain_walks I.whole groups.items) }
     requires own { All IsOwnOrbit (plain_walks I.whole groups.items) }
-    ensures cut { IfOk result (λ r. AllZip (λ g ws. IsCutInto (λ s. plain_hand hand) (plain_steps I.whole g.items)
-        (plain_walks I.whole ws.items)) groups.items r.items) }
-    ensures long { IfOk result (λ r. All (λ ws. All (All (IsLong I.limit)) (plain_walks I.whole ws.items)) r.items) }
+    ensures cut { IfOk result (λ cs. AreCutFromGroups (plain_hand hand)
+        (λ w. reaches I.Wide.width (I.WideUInt.natural min_output_area) w) (plain_walks I.whole groups.items)
+        (plain_contours I.whole cs.items)) }
 {
-    let mut cut = Vec::new(alloc.clone()?);
+    let mut contours = Vec::new(alloc.clone()?);
+    let mut number = 0;
     for group in groups {
-        cut.push(cut_group(alloc.clone()?, group, hand)?)?;
+        let alloc = alloc.clone()?;
+        let is_kept = push_cut(alloc, &mut contours, number, group, hand, min_output_area)?;
+        if is_kept {
+            number += 1;
+        }
     }
-    Ok(cut)
+    Ok(contours)
 }
 
-// Returns the walks of a group by a hand. The group is an orbit from its start: where it visits no point twice, it is
-// its one walk by either hand.
-fn cut_group<I: IntNumber, A: Allocator + Clone>(
+// Adds the contours of a group by a hand, if its outline reaches the minimum area, and returns whether it does. The
+// outline is that of the shape with this number. The group is an orbit from its start: where it visits no point twice, it
+// is its one walk by either hand.
+fn push_cut<I: IntNumber, A: Allocator + Clone>(
     alloc: A,
+    contours: &mut Vec<Contour<I, A>, A>,
+    number: usize,
     group: Vec<Step<I>, A>,
     hand: Hand,
-) -> Result<Vec<Vec<Step<I>, A>, A>, AllocError>
+    min_output_area: I::WideUInt,
+) -> Result<bool, AllocError>
     requires alternate { Alternates (plain_steps I.whole group.items) }
     requires once { HasEachOnce (plain_steps I.whole group.items) }
     requires long { All (IsLong I.limit) (plain_steps I.whole group.items) }
     requires own { IsOwnOrbit (plain_steps I.whole group.items) }
-    ensures cut { IfOk result (λ ws. IsCutInto (λ s. plain_hand hand) (plain_steps I.whole group.items)
-        (plain_walks I.whole ws.items)) }
-    ensures long { IfOk result (λ ws. All (All (IsLong I.limit)) (plain_walks I.whole ws.items)) }
+    ensures added { IfOk result (λ is_kept. AddsCutGroup (plain_hand hand)
+        (λ w. reaches I.Wide.width (I.WideUInt.natural min_output_area) w) number (plain_steps I.whole group.items)
+        is_kept (plain_contours I.whole contours.old.items) (plain_contours I.whole contours.new.items)) }
 {
-    if !leave_each_point_once(alloc.clone()?, &group)? {
-        return cut_again(alloc, group, hand);
+    let is_simple = leave_each_point_once(alloc.clone()?, &group)?;
+    if is_simple {
+        let is_kept = push_outline(contours, number, group, min_output_area)?;
+        return Ok(is_kept);
     }
-    let mut walks = Vec::with_capacity(alloc, 1)?;
-    walks.push(group)?;
-    Ok(walks)
+    let walks = cut_again(alloc.clone()?, group, hand)?;
+    let is_kept = push_group(alloc, contours, number, walks, min_output_area)?;
+    Ok(is_kept)
 }
 
 // Returns the walks of steps by a hand.

@@ -10,15 +10,15 @@ use Rattle.overlay_plane.specs.Binding.{is_hole}
 use Rattle.overlay_plane.specs.Contours.{IsCutInto, all_steps}
 use Rattle.overlay_plane.specs.MinimumArea.{reaches}
 use Rattle.overlay_plane.specs.RoledContours.{hole_to_bind}
-use Rattle.overlay_walk.specs.GroupedContours.{plain_groups}
+use Rattle.overlay_walk.specs.GroupedContours.{plain_contours, AreCutFromGroups}
 use Rattle.overlay_walk.specs.Steps.{filled_hand, plain_hand, plain_steps, IsLong}
 use Rattle.overlay_walk.specs.Walks.{plain_walks, IsOwnOrbit}
-use Rattle.overlay_walk.proofs.SplitGroups.{cut_plain, outlines_plain, holes_plain, AreGood, outlines_good, holes_good}
+use Rattle.overlay_walk.proofs.SplitGroups.{outlines_plain, holes_plain, AreGood, outlines_good, holes_good}
 use Rattle.overlay_walk.proofs.SplitGroups.{outlines_own}
 use Rattle.overlay_walk.proofs.groups.cut_in_groups.Goals as goal
 
-pub cut_each-requires-clause-alternate : goal.cut_each-requires-clause-alternate
-cut_each-requires-clause-alternate g c =
+pub cut_outlines-requires-clause-alternate : goal.cut_outlines-requires-clause-alternate
+cut_outlines-requires-clause-alternate g c =
     let whole = g.I.IntNumber.whole in
     let filled = filled_hand c.args.direction in
     let grouped = subst (λ h. IsCutInto (λ s. h) (plain_steps whole c.args.steps)
@@ -31,8 +31,8 @@ cut_each-requires-clause-alternate g c =
     (record { alternate = c.requires.alternate; once = c.requires.once; long = c.requires.long }) filled
     (plain_walks whole c.in_ok-groups.groups.items) grouped))
 
-pub cut_each-requires-clause-once : goal.cut_each-requires-clause-once
-cut_each-requires-clause-once g c =
+pub cut_outlines-requires-clause-once : goal.cut_outlines-requires-clause-once
+cut_outlines-requires-clause-once g c =
     let whole = g.I.IntNumber.whole in
     let filled = filled_hand c.args.direction in
     let grouped = subst (λ h. IsCutInto (λ s. h) (plain_steps whole c.args.steps)
@@ -45,8 +45,8 @@ cut_each-requires-clause-once g c =
     (record { alternate = c.requires.alternate; once = c.requires.once; long = c.requires.long }) filled
     (plain_walks whole c.in_ok-groups.groups.items) grouped))
 
-pub cut_each-requires-clause-long : goal.cut_each-requires-clause-long
-cut_each-requires-clause-long g c =
+pub cut_outlines-requires-clause-long : goal.cut_outlines-requires-clause-long
+cut_outlines-requires-clause-long g c =
     let whole = g.I.IntNumber.whole in
     let filled = filled_hand c.args.direction in
     let grouped = subst (λ h. IsCutInto (λ s. h) (plain_steps whole c.args.steps)
@@ -59,8 +59,8 @@ cut_each-requires-clause-long g c =
     (record { alternate = c.requires.alternate; once = c.requires.once; long = c.requires.long }) filled
     (plain_walks whole c.in_ok-groups.groups.items) grouped))
 
-pub cut_each-requires-clause-own : goal.cut_each-requires-clause-own
-cut_each-requires-clause-own g c =
+pub cut_outlines-requires-clause-own : goal.cut_outlines-requires-clause-own
+cut_outlines-requires-clause-own g c =
     let whole = g.I.IntNumber.whole in
     let filled = filled_hand c.args.direction in
     let grouped = subst (λ h. IsCutInto (λ s. h) (plain_steps whole c.args.steps)
@@ -123,26 +123,23 @@ returns g c = record {
       c.in_ok-outline_groups.ensures.outlines in
       let holes_are = holes_plain whole filled groups c.in_ok-outline_groups.hole_steps.items
       c.in_ok-outline_groups.ensures.holes in
+      let own = subst (λ gs. AreCutFromGroups (plain_hand c.empty_hand-empty.result) keeps gs
+      (plain_contours whole c.in_ok-contours.contours.items)) outlines_are c.in_ok-contours.ensures.cut in
       record {
         groups = plain_walks whole groups;
         grouped = subst (λ h. IsCutInto (λ s. h) (plain_steps whole c.args.steps) (plain_walks whole groups))
             c.filled_hand.ensures c.in_ok-groups.ensures.cut;
-        inside = plain_groups whole c.in_ok-inside.inside.items;
+        inside = own.inside;
         cut_inside = subst (λ h. AllZip (λ v ws. IsCutInto (λ s. h) v ws)
-            (filter (λ v. not (is_hole filled v)) (plain_walks whole groups))
-            (plain_groups whole c.in_ok-inside.inside.items))
-            c.empty_hand-empty.ensures
-            (subst (λ gs. AllZip (λ v ws. IsCutInto (λ s. plain_hand c.empty_hand-empty.result) v ws) gs
-            (plain_groups whole c.in_ok-inside.inside.items)) outlines_are
-            (cut_plain whole (λ s. plain_hand c.empty_hand-empty.result) c.in_ok-outline_groups.outline_groups.items
-            c.in_ok-inside.inside.items c.in_ok-inside.ensures.cut));
+            (filter (λ v. not (is_hole filled v)) (plain_walks whole groups)) own.inside)
+            c.empty_hand-empty.ensures own.cut_inside;
         others = plain_walks whole others;
         cut_others = subst (λ h. IsCutInto (λ s. h) (all_steps (filter (is_hole filled) (plain_walks whole groups)))
             (plain_walks whole others)) c.empty_hand-empty.ensures
             (subst (λ ss. IsCutInto (λ s. plain_hand c.empty_hand-empty.result) ss (plain_walks whole others)) holes_are
             c.in_ok-others.ensures.cut);
         are = c.in_ok-push_free_holes.ensures.pushed
-            ∙ ap₂ (λ cs ws. cs ++ map hole_to_bind ws) c.in_ok-contours.ensures.ok
+            ∙ ap₂ (λ cs ws. cs ++ map hole_to_bind ws) own.are
             (ap (plain_walks whole) c.in_ok-large_walks.ensures.ok
             ∙ map-filter (λ (w : _). plain_steps whole w.items) keeps others);
       };

@@ -1,12 +1,13 @@
--- With the groups that are left, the contours so far are those of all groups.
+-- The contours of the groups so far, no more than these.
 use Rattle.std.proofs.Common.{◌≡◌, ◌≤◌, ◌++◌, Bool, List, length}
-use Rattle.std.specs.List.{flat_map}
 use Rattle.std.specs.Vec.Iter.{into_iter_items}
 use Rattle.overlay_geom.specs.Plane.{Step}
 use Rattle.overlay_plane.specs.MinimumArea.{reaches}
-use Rattle.overlay_plane.specs.RoledContours.{kept_group, group_contours_from}
-use Rattle.overlay_walk.specs.GroupedContours.{plain_contours, plain_groups}
-use Rattle.overlay_walk.proofs.group_contours.group_contours.Given as goal
+use Rattle.overlay_walk.specs.GroupedContours.{plain_contours}
+use Rattle.overlay_walk.specs.Steps.{plain_hand}
+use Rattle.overlay_walk.specs.Walks.{plain_walks}
+use Rattle.overlay_walk.proofs.GroupContours.{AreCutSoFar}
+use Rattle.overlay_walk.proofs.groups.cut_outlines.Given as goal
 
 abbrev pub invariant-loop-group : goal.invariant-loop-group
 invariant-loop-group g l =
@@ -16,7 +17,5 @@ invariant-loop-group g l =
     (goal.iterator-loop-group g).can_next l.group-iterator ×
     (goal.iterator-loop-group g).is_finite l.group-iterator ×
     (l.fn.groups.items ≡ l.yielded ++ into_iter_items l.group-iterator) ×
-    (plain_contours whole l.contours.items ++ group_contours_from l.number
-    (flat_map (kept_group keeps) (plain_groups whole (into_iter_items l.group-iterator)))
-    ≡ group_contours_from 0 (flat_map (kept_group keeps) (plain_groups whole l.fn.groups.items))) ×
+    AreCutSoFar (plain_hand l.hand) keeps (plain_walks whole l.yielded) l.number (plain_contours whole l.contours.items) ×
     (l.number ≤ length l.yielded)

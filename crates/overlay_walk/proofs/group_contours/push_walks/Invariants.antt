@@ -2,7 +2,7 @@
 use Rattle.std.proofs.Common.{◌≡◌, ◌++◌}
 use Rattle.std.specs.Vec.Iter.{into_iter_items}
 use Rattle.overlay_walk.proofs.GroupContours.{role_after, as_group}
-use Rattle.overlay_walk.proofs.group_contours.push_group.Given as goal
+use Rattle.overlay_walk.proofs.group_contours.push_walks.Given as goal
 
 abbrev pub invariant-loop-steps : goal.invariant-loop-steps
 invariant-loop-steps g l =
