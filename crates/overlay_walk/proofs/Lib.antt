@@ -1,7 +1,7 @@
 pub mod CutsOn
 pub mod FirstPlaces
 pub mod GroupContours
-pub mod HeldStarts
+pub mod StartsCompared
 pub mod InnerProducts
 pub mod KeptOnes
 pub mod NearestPoints

@@ -1,63 +1,70 @@
 -- The places of steps by where their edges start, and those of them that are passed.
 use Rattle.std.proofs.Common.{◌≡◌, ⊎_elim, ℕ}
-use Rattle.std.proofs.Common.{◌+◌, ◌<◌, ◌≤◌, Bool, true, false, List, [], ◌∷◌, ◌++◌, length, map, get_or, Contains, sym}
-use Rattle.std.proofs.Common.{ap, ◌∙◌, subst, below_more, arith}
+use Rattle.std.proofs.Common.{◌+◌, ◌<◌, ◌≤◌, Bool, true, false, List, [], ◌∷◌, ◌++◌, length, get_or, Contains, sym}
+use Rattle.std.proofs.Common.{ap, ◌∙◌, subst, below_more, nat_lt, arith}
 use Rattle.std.specs.List.{All}
 use Rattle.std.specs.List.Sorted.{IsPermutation}
-use Rattle.std.specs.Prelude.{set}
-use Rattle.std.proofs.lemmas.Bool.{both_ways, false_from_ne_true, cases_lt}
+use Rattle.std.specs.Prelude.{set, filter, AllPairs}
+use Rattle.std.proofs.lemmas.Bool.{both_ways, false_from_ne_true, cases_lt, ltb-true, lt-ltb}
 use Rattle.std.proofs.lemmas.Grind.{get_or_default_zero}
-use Rattle.std.proofs.lemmas.List.{map-append}
-use Rattle.std.proofs.lemmas.List.Elements.{All-map, All-push, All-weaker, Contains-append_left, Contains-push}
-use Rattle.std.proofs.lemmas.List.Sorted.{All-permutation, Contains-permutation, IsPermutation-map}
+use Rattle.std.proofs.lemmas.List.{get_or-set_same, get_or-set_other, length-set}
+use Rattle.std.proofs.lemmas.List.Elements.{All-push, All-weaker, Contains-append_left, Contains-push}
+use Rattle.std.proofs.lemmas.List.Sorted.{All-permutation, Contains-permutation}
 use Rattle.overlay_geom.specs.Plane.{Step, edge_of}
-use Rattle.overlay_geom.proofs.Mapped.{AllPairs-map}
-use Rattle.overlay_scan.specs.Scan.{Entry}
-use Rattle.overlay_walk.specs.Places.{is_open, step_at, comes_top_first, is_place_top_first, ArePlacesTopFirst}
-use Rattle.overlay_walk.specs.Places.{ArePassed}
-use Rattle.overlay_walk.specs.Starts.{IsEdgeAt, HaveEdges, AreTopFirst}
+use Rattle.overlay_plane.proofs.Entries.{all_of_entries, Contains-filter, Contains-from_filter}
+use Rattle.overlay_walk.specs.Places.{is_open, step_at, is_place_top_first, ArePassed, HasBelow, HasPlaces}
+use Rattle.overlay_walk.specs.Places.{ArePlacesTopFirst}
 use Rattle.overlay_walk.proofs.FirstPlaces.{IsFirstPlace}
 use Rattle.overlay_walk.proofs.OpenPlaces.{marked_is_open}
 use Rattle.overlay_walk.proofs.StartOrder.{comes_top_first-itself}
 
 -- ---- the places
 
-module _ (ss : List Step) where
-  -- the edge of the next step is added
-  pub edge_pushed : (n : ℕ) (fs : List (Entry ℕ)) (f : Entry ℕ) → HaveEdges ss n fs →
-      n < length ss → f ≡ record { edge = edge_of (step_at ss n); value = n } →
-      HaveEdges ss (n + 1) (fs ++ f ∷ [])
-  edge_pushed n fs f have within is = record {
-    from = All-push (IsEdgeAt ss) fs f have.from
-        (subst (IsEdgeAt ss) (sym is) (record { below = within; along = λ i. edge_of (step_at ss n) }));
-    all = below_more (λ k. Contains (map (λ (h : Entry ℕ). h.value) (fs ++ f ∷ [])) k) n
-        (λ k lt. subst (λ ns. Contains ns k) (sym mapped) (Contains-append_left (map (λ h. h.value) fs) (f.value ∷ []) k
-        (have.all k lt)))
-        (subst (λ ns. Contains ns n) (sym mapped)
-        (subst (Contains (map (λ h. h.value) fs ++ f.value ∷ [])) (ap (λ (h : Entry ℕ). h.value) is)
-        (Contains-push (map (λ h. h.value) fs) f.value)));
-  }
-    where
-      mapped : map (λ (h : Entry ℕ). h.value) (fs ++ f ∷ []) ≡ map (λ h. h.value) fs ++ f.value ∷ []
-      mapped = map-append (λ (h : Entry ℕ). h.value) fs (f ∷ [])
+-- one more place is put where none of those before stands
+pub place_put : (xs : List ℕ) (place at held : ℕ) → HasBelow place xs → at < length xs → held ≡ get_or xs at held →
+    place ≤ held → HasBelow (place + 1) (set xs at place)
+place_put xs place at held has within is free = below_more (λ k. Contains (set xs at place) k) place
+    (λ k lt. still k lt (has k lt))
+    (at, omega (arith, within, length-set xs at place), get_or-set_same xs at place place within)
+  where
+    still : (k : ℕ) → k < place → Contains xs k → Contains (set xs at place) k
+    still k lt stands = (
+      stands.0,
+      omega (arith, stands.1, length-set xs at place),
+      get_or-set_other xs at stands.0 place k (λ same. absurd
+          (place_is_none (ap (λ j. get_or xs j 0) (sym same)
+          ∙ sym (get_or_default_zero xs stands.0 k stands.1) ∙ stands.2))) ∙ stands.2,
+    )
+      where
+        place_is_none : get_or xs at 0 ≡ k → ⊥
+        place_is_none same = let none : held ≡ k = is ∙ get_or_default_zero xs at held within ∙ same in
+            omega (arith, none, free, lt)
 
-  -- all of them, sorted, tell the places
-  pub places_sorted : (fs gs : List (Entry ℕ)) → HaveEdges ss (length ss) fs → IsPermutation fs gs →
-      AreTopFirst gs →
-      ArePlacesTopFirst ss (map (λ f. f.value) gs)
-  places_sorted fs gs have moved order = record {
-    within = All-map (λ k. k < length ss) (λ (f : Entry ℕ). f.value) gs
-        (All-weaker (IsEdgeAt ss) (λ f. f.value < length ss) (λ f at. at.below) gs from);
-    all = λ k h. Contains-permutation (map (λ f. f.value) fs) (map (λ f. f.value) gs) k
-        (IsPermutation-map (λ f. f.value) fs gs moved) (have.all k h);
-    order = AllPairs-map (λ j k. is_place_top_first ss k j ≡ false) (λ (f : Entry ℕ). f.value) gs (λ i j d l m.
-        subst (λ e. comes_top_first (edge_of (step_at ss (get_or gs j d).value)) e ≡ false)
-        (from i d (omega arith)).along
-        (subst (λ e. comes_top_first e (get_or gs i d).edge ≡ false) (from j d m).along (order i j d l m)));
-  }
-    where
-      from : All (IsEdgeAt ss) gs
-      from = All-permutation (IsEdgeAt ss) fs gs moved have.from
+-- one more place is added behind all before
+pub place_pushed : (n : ℕ) (xs : List ℕ) → HasPlaces n xs → HasPlaces (n + 1) (xs ++ n ∷ [])
+place_pushed n xs has = record {
+  within = All-push (λ k. k < n + 1) xs n
+      (All-weaker (λ k. k < n) (λ k. k < n + 1) (λ k lt. omega (arith, lt)) xs has.within) (omega arith);
+  all = below_more (λ k. Contains (xs ++ n ∷ []) k) n (λ k lt. Contains-append_left xs (n ∷ []) k (has.all k lt))
+      (Contains-push xs n);
+}
+
+-- places below n are kept
+pub places_kept : (n : ℕ) (xs : List ℕ) → HasBelow n xs → HasPlaces n (filter (λ k. nat_lt k n) xs)
+places_kept n xs has = record {
+  within = all_of_entries (λ k. k < n) (filter (λ k. nat_lt k n) xs)
+      (λ k c. ltb-true k n (Contains-from_filter (λ m. nat_lt m n) xs k c).1);
+  all = λ k lt. Contains-filter (λ m. nat_lt m n) xs k (has k lt) (lt-ltb k n lt);
+}
+
+-- sorted, they are the places by the starts
+pub places_sorted : (ss : List Step) (xs ys : List ℕ) → HasPlaces (length ss) xs → IsPermutation xs ys →
+    AllPairs (λ j k. is_place_top_first ss k j ≡ false) ys → ArePlacesTopFirst ss ys
+places_sorted ss xs ys has moved order = record {
+  within = All-permutation (λ k. k < length ss) xs ys moved has.within;
+  all = λ k lt. Contains-permutation xs ys k moved (has.all k lt);
+  order = order;
+}
 
 -- ---- those that are passed
 

@@ -6,7 +6,6 @@ pub mod Nearest
 pub mod Places
 pub mod PointsOnce
 pub mod Selection
-pub mod Starts
 pub mod Steps
 pub mod WalkEdges
 pub mod Walks

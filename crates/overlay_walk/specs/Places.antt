@@ -21,6 +21,15 @@ comes_top_first e f = point_lt e.a f.a || (point_eq e.a f.a && turns_left f e)
 abbrev pub is_place_top_first : List Step → ℕ → ℕ → Bool
 is_place_top_first ss j k = comes_top_first (edge_of (step_at ss j)) (edge_of (step_at ss k))
 
+-- all places below n are in the list
+abbrev pub HasBelow : ℕ → List ℕ → Type 0
+HasBelow n places = (k : ℕ) → k < n → Contains places k
+
+-- they are in the list, and no other places
+pub record HasPlaces (n : ℕ) (places : List ℕ) : Type 0 where
+  pub within : All (λ k. k < n) places
+  pub all : HasBelow n places
+
 -- the places of the steps, sorted by the starts of their edges, top first
 pub record ArePlacesTopFirst (ss : List Step) (places : List ℕ) : Type 0 where
   pub within : All (λ k. k < length ss) places

@@ -13,7 +13,7 @@ use crate::step::Step;
 use overlay_geom::number::{IntNumber, UIntNumber, WideIntNumber};
 use std::alloc::{AllocError, Allocator};
 
-/// Adds a walk as the outline of the shape with this number, if it reaches the minimum area, and returns whether it does.
+/// Adds a walk as the outline of the shape with this number, if it reaches the minimum area. Returns whether it does.
 pub(crate) fn push_outline<I: IntNumber, A: Allocator>(
     contours: &mut Vec<Contour<I, A>, A>,
     number: usize,

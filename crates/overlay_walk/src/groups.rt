@@ -84,8 +84,8 @@ fn split_groups<I: IntNumber, A: Allocator + Clone>(
     Ok((outline_groups, hole_steps))
 }
 
-// Returns the contours of groups by a hand: each outline that reaches the minimum area, with the holes of its group that
-// reach it. Outlines are numbered from 0. Each group is an orbit from its start.
+// Returns the contours of groups by a hand: each outline that reaches the minimum area, with the holes of its group
+// that reach it. Outlines are numbered from 0. Each group is an orbit from its start.
 fn cut_outlines<I: IntNumber, A: Allocator + Clone>(
     alloc: A,
     groups: Vec<Vec<Step<I>, A>, A>,
@@ -112,9 +112,9 @@ fn cut_outlines<I: IntNumber, A: Allocator + Clone>(
     Ok(contours)
 }
 
-// Adds the contours of a group by a hand, if its outline reaches the minimum area, and returns whether it does. The
-// outline is that of the shape with this number. The group is an orbit from its start: where it visits no point twice, it
-// is its one walk by either hand.
+// Adds the contours of a group by a hand, if its outline reaches the minimum area. Returns whether it does. The outline
+// gets the number. The group is an orbit from its start: where it visits no point twice, it is its one walk by either
+// hand.
 fn push_cut<I: IntNumber, A: Allocator + Clone>(
     alloc: A,
     contours: &mut Vec<Contour<I, A>, A>,

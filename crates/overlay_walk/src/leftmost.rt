@@ -1,19 +1,13 @@
 //! The places of steps by the starts of their edges, and the first of them that is not taken.
 
-ghost use Rattle.std.specs.Prelude.{◌≡◌, ◌<◌, true, length, map, slice_index_or, All, IfOk};
-ghost use Rattle.std.specs.List.Sorted.{IsPermutation};
-ghost use Rattle.overlay_walk.specs.Places.{is_open, ArePassed, ArePlacesTopFirst};
-ghost use Rattle.overlay_walk.specs.Starts.{HaveEdges};
+ghost use Rattle.std.specs.Prelude.{◌≡◌, ◌<◌, [], true, length, slice_index_or, nat_lt, filter, All};
+ghost use Rattle.std.specs.Prelude.{IfOk, OnOk, IsTrue};
+ghost use Rattle.overlay_walk.specs.Places.{is_open, ArePassed, ArePlacesTopFirst, HasBelow, HasPlaces};
 ghost use Rattle.overlay_walk.specs.Steps.{plain_steps, IsLong};
-ghost use Rattle.overlay_walk.specs.WalkEdges.{numbered_entries};
 
-use crate::filled_side::edge_along;
-use crate::numbered_edge::NumberedEdge;
 use crate::open_places::is_open;
 use crate::step::Step;
-use crate::top_first::{compare_top_first, sort_top_first};
-use overlay_arrange::sort_numbers::order_by_numbers;
-use overlay_arrange::sort_runs::order_neighbours;
+use crate::top_first::sort_top_first;
 use overlay_geom::number::IntNumber;
 use std::alloc::{AllocError, Allocator};
 
@@ -22,36 +16,41 @@ const MOST_EDGES_A_STEP: usize = 16;
 
 /// Returns the places of the steps, sorted by the starts of their edges: by the smaller ends, and from one point by
 /// slope, highest first.
-pub fn places_top_first<I: IntNumber, A: Allocator + Clone>(
+pub fn places_top_first<I: IntNumber, A: Allocator>(
     alloc: A,
     steps: &[Step<I>],
 ) -> Result<Vec<usize, A>, AllocError>
     requires { All (IsLong I.limit) (plain_steps I.whole steps.now) }
     ensures ok { IfOk result (λ v. ArePlacesTopFirst (plain_steps I.whole steps.now) v.items) }
 {
-    let mut edges = edges_along(alloc.clone()?, steps)?;
-    order_by_steps(&mut edges, steps)?;
-    order_neighbours(&mut edges, |e, f| compare_top_first(e, f));
-    sort_top_first(&mut edges)?;
-    numbers_of(alloc, &edges)
+    let mut places = all_places(alloc, steps)?;
+    sort_top_first(&mut places, steps)?;
+    Ok(places)
 }
 
-/// Sorts the edges of the steps by the numbers of their edges in the arrangement, unless the arrangement has many more
-/// edges than there are steps. The list stays a permutation of itself.
-fn order_by_steps<I: IntNumber, A: Allocator + Clone>(
-    edges: &mut Vec<NumberedEdge<I>, A>,
+// Returns the places of all steps: in the order of the numbers of their edges where these differ, unless the
+// arrangement has many more edges than there are steps.
+fn all_places<I: IntNumber, A: Allocator>(
+    alloc: A,
     steps: &[Step<I>],
-) -> Result<(), AllocError>
-    ensures permutation { IsPermutation edges.old.items edges.new.items }
+) -> Result<Vec<usize, A>, AllocError>
+    ensures ok { IfOk result (λ v. HasPlaces (length steps.now) v.items) }
 {
+    let mut places = Vec::new(alloc);
     let count = edge_count(steps);
-    if count / MOST_EDGES_A_STEP > steps.len() {
-        return Ok(());
+    if count / MOST_EDGES_A_STEP <= steps.len() {
+        places.resize(count, steps.len())?;
+        if put_by_edges(&mut places, steps) {
+            keep_below(&mut places, steps.len());
+            return Ok(places);
+        }
+        places.clear();
     }
-    order_by_numbers(edges, count, |e| edge_number(steps, e.number))
+    push_places(&mut places, steps.len())?;
+    Ok(places)
 }
 
-/// Returns a lower bound on the number of edges in the arrangement: one more than the greatest number of a step's edge.
+// Returns a lower bound on the number of edges in the arrangement: one more than the greatest number of a step's edge.
 fn edge_count<I: IntNumber>(steps: &[Step<I>]) -> usize {
     let mut count: usize = 0;
     for step in steps {
@@ -60,42 +59,41 @@ fn edge_count<I: IntNumber>(steps: &[Step<I>]) -> usize {
     count
 }
 
-/// Returns the number of the edge of the step at a place, or 0 where there is none.
-fn edge_number<I: IntNumber>(steps: &[Step<I>], place: usize) -> usize {
-    match steps.get(place) {
-        Some(step) => step.edge,
-        None => 0,
-    }
-}
-
-/// Returns the edges of the steps, each with its step's place.
-fn edges_along<I: IntNumber, A: Allocator>(
-    alloc: A,
-    steps: &[Step<I>],
-) -> Result<Vec<NumberedEdge<I>, A>, AllocError>
-    requires { All (IsLong I.limit) (plain_steps I.whole steps.now) }
-    ensures ok { IfOk result (λ v. HaveEdges (plain_steps I.whole steps.now) (length steps.now)
-        (numbered_entries I.whole v.items)) }
+// Puts the place of each step at the number of its edge, where no place of a step stands yet, and returns whether all
+// are put.
+fn put_by_edges<I: IntNumber, A: Allocator>(places: &mut Vec<usize, A>, steps: &[Step<I>]) -> bool
+    ensures { IsTrue result → HasBelow (length steps.now) places.new.items }
 {
-    let mut edges = Vec::with_capacity(alloc, steps.len())?;
     for place in 0..steps.len() {
-        edges.push(edge_along(&steps[place], place))?;
+        let number = steps[place].edge;
+        if number >= places.len() {
+            return false;
+        }
+        let held = places[number];
+        if held < steps.len() {
+            return false;
+        }
+        places[number] = place;
     }
-    Ok(edges)
+    true
 }
 
-/// Returns the numbers of the edges, in their order.
-fn numbers_of<I: IntNumber, A: Allocator>(
-    alloc: A,
-    edges: &[NumberedEdge<I>],
-) -> Result<Vec<usize, A>, AllocError>
-    ensures ok { IfOk result (λ v. v.items ≡ map (λ f. f.value) (numbered_entries I.whole edges.now)) }
+// Drops the numbers that are not below `limit`.
+fn keep_below<A: Allocator>(numbers: &mut Vec<usize, A>, limit: usize)
+    ensures { numbers.new.items ≡ filter (λ k. nat_lt k limit) numbers.old.items }
 {
-    let mut numbers = Vec::with_capacity(alloc, edges.len())?;
-    for edge in edges {
-        numbers.push(edge.number)?;
+    numbers.retain(|k| *k < limit);
+}
+
+// Adds all places below `count` to the list, which is empty.
+fn push_places<A: Allocator>(places: &mut Vec<usize, A>, count: usize) -> Result<(), AllocError>
+    requires { places.old.items ≡ [] }
+    ensures ok { OnOk result (HasPlaces count places.new.items) }
+{
+    for place in 0..count {
+        places.push(place)?;
     }
-    Ok(numbers)
+    Ok(())
 }
 
 /// Returns the number of taken places before the first open place. The first `passed` places are taken.

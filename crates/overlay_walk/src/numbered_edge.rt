@@ -7,8 +7,7 @@ ghost use Rattle.overlay_geom.specs.Points.{plain_point, InRange};
 use overlay_geom::number::IntNumber;
 use overlay_geom::point::IntPoint;
 
-/// An edge, from its smaller to its larger end, with the number of its walk or step: the walk's index, or the step's
-/// place.
+/// An edge, from its smaller to its larger end, with the number of its walk: the index of this walk.
 #[derive(Drop)]
 pub struct NumberedEdge<I: IntNumber> {
     /// The smaller end.

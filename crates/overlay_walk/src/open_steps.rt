@@ -18,6 +18,7 @@ use crate::onward::{noted, onward_places};
 use crate::step::Step;
 use overlay_arrange::edge::compare_points;
 use overlay_arrange::sort_points::order_by_points;
+use overlay_arrange::sort_runs::sort_neighbours;
 use overlay_geom::flat::copied;
 use overlay_geom::number::IntNumber;
 use std::alloc::{AllocError, Allocator};
@@ -166,6 +167,9 @@ fn sort_steps<I: IntNumber, A: Allocator + Clone>(
     ensures order { OnOk result (IsByFrom (plain_steps I.whole steps.new.items)) }
 {
     order_by_points(steps, |s| s.from)?;
+    if sort_neighbours(steps, |s, t| compare_points(s.from, t.from)) {
+        return Ok(());
+    }
     steps.sort_by(|s, t| compare_points(s.from, t.from))?;
     Ok(())
 }

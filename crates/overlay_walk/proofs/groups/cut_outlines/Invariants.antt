@@ -17,5 +17,6 @@ invariant-loop-group g l =
     (goal.iterator-loop-group g).can_next l.group-iterator ×
     (goal.iterator-loop-group g).is_finite l.group-iterator ×
     (l.fn.groups.items ≡ l.yielded ++ into_iter_items l.group-iterator) ×
-    AreCutSoFar (plain_hand l.hand) keeps (plain_walks whole l.yielded) l.number (plain_contours whole l.contours.items) ×
+    AreCutSoFar (plain_hand l.hand) keeps (plain_walks whole l.yielded) l.number
+    (plain_contours whole l.contours.items) ×
     (l.number ≤ length l.yielded)

@@ -16,7 +16,25 @@ returns-clause-order g c =
     let answer : r ≡ point_cmp (plain_step whole a.0.now).from (plain_step whole a.1.0.now).from = search rules in
     ap is_lt answer ∙ point_cmp-is_less (plain_step whole a.0.now).from (plain_step whole a.1.0.now).from)))
 
+pub returns-then-sort_neighbours-clause-order : goal.returns-then-sort_neighbours-clause-order
+returns-then-sort_neighbours-clause-order g c =
+    let whole = g.I.IntNumber.whole in
+    IsByFrom-from_sorted whole c.sort_neighbours.new.items.items
+    (c.sort_neighbours.ensures.sorted c.if-sort_neighbours.true (leaves_smaller whole) (leaves_smaller-order whole)
+    (λ s t o h.
+    let answer : o ≡ point_cmp (plain_step whole s).from (plain_step whole t).from = search rules in
+    ap is_lt answer ∙ point_cmp-is_less (plain_step whole s).from (plain_step whole t).from))
+
+pub returns-then-sort_neighbours-clause-permutation : goal.returns-then-sort_neighbours-clause-permutation
+returns-then-sort_neighbours-clause-permutation g c =
+    IsPermutation-trans _ _ _ c.order_by_points.ensures.items c.sort_neighbours.ensures.permutation
+
 pub returns-clause-permutation : goal.returns-clause-permutation
 returns-clause-permutation g c =
-    IsPermutation-trans c.args.steps.now.items c.order_by_points.new.items.items c.sort_by.new.self.items
-    c.order_by_points.ensures.items c.in_ok-sort_by.ensures.permutation
+    IsPermutation-trans _ _ _ c.order_by_points.ensures.items
+    (IsPermutation-trans _ _ _ c.sort_neighbours.ensures.permutation c.sort_by.ensures.permutation)
+
+pub returns-in_err-sort_by-clause-permutation : goal.returns-in_err-sort_by-clause-permutation
+returns-in_err-sort_by-clause-permutation g c =
+    IsPermutation-trans _ _ _ c.order_by_points.ensures.items
+    (IsPermutation-trans _ _ _ c.sort_neighbours.ensures.permutation c.sort_by.ensures.permutation)
