@@ -1,9 +1,10 @@
 //! Whether a list of points, or a walk, visits a point twice.
 
-ghost use Rattle.std.specs.Prelude.{◌≡◌, ◌↔◌, IsTrue, IfOk};
-ghost use Rattle.overlay_geom.specs.Plane.{points_of};
+ghost use Rattle.std.specs.Prelude.{◌≡◌, ◌↔◌, ◌<◌, ℕ, true, false, length, IsTrue, IfOk};
+ghost use Rattle.overlay_geom.specs.Plane.{points_of, point_eq};
 ghost use Rattle.overlay_geom.specs.Points.{plain_points};
 ghost use Rattle.overlay_plane.specs.Groups.{HasEachPointOnce};
+ghost use Rattle.overlay_walk.specs.Places.{step_at};
 ghost use Rattle.overlay_walk.specs.PointsOnce.{all_next_differ};
 ghost use Rattle.overlay_walk.specs.Steps.{plain_steps};
 
@@ -15,6 +16,9 @@ use overlay_geom::number::IntNumber;
 use overlay_geom::point::IntPoint;
 use std::alloc::{AllocError, Allocator};
 
+// Greatest number of steps whose pairs are looked at.
+const FEW_STEPS: usize = 16;
+
 /// Returns whether no point stands twice in the list.
 pub fn has_each_point_once<I: IntNumber, A: Allocator + Clone>(
     alloc: A,
@@ -25,14 +29,47 @@ pub fn has_each_point_once<I: IntNumber, A: Allocator + Clone>(
     are_different(copied(alloc, points)?)
 }
 
-/// Returns whether no two of the steps leave one point.
+/// Returns whether no two of the steps leave one point. It takes no memory for few steps.
 pub(crate) fn leave_each_point_once<I: IntNumber, A: Allocator + Clone>(
     alloc: A,
     steps: &[Step<I>],
 ) -> Result<bool, AllocError>
     ensures ok { IfOk result (λ b. IsTrue b ↔ HasEachPointOnce (points_of (plain_steps I.whole steps.now))) }
 {
+    if steps.len() <= FEW_STEPS {
+        return Ok(few_leave_once(steps));
+    }
     are_different(points_left(alloc, steps)?)
+}
+
+// Returns whether no two of the steps leave one point, by a look at each pair.
+fn few_leave_once<I: IntNumber>(steps: &[Step<I>]) -> bool
+    ensures { IsTrue result ↔ HasEachPointOnce (points_of (plain_steps I.whole steps.now)) }
+{
+    for place in 0..steps.len() {
+        if is_left_before(steps, place) {
+            return false;
+        }
+    }
+    true
+}
+
+// Returns whether a step before the one at a place leaves the same point.
+fn is_left_before<I: IntNumber>(steps: &[Step<I>], place: usize) -> bool
+    requires { place < length steps.now }
+    ensures found { result ≡ true → (k : ℕ) × (k < place)
+        × ((step_at (plain_steps I.whole steps.now) k).from ≡ (step_at (plain_steps I.whole steps.now) place).from) }
+    ensures none { result ≡ false → (k : ℕ) → k < place →
+        point_eq (step_at (plain_steps I.whole steps.now) k).from (step_at (plain_steps I.whole steps.now) place).from
+        ≡ false }
+{
+    let point = steps[place].from;
+    for k in 0..place {
+        if compare_points(steps[k].from, point).is_eq() {
+            return true;
+        }
+    }
+    false
 }
 
 // Returns the points that the steps leave.
