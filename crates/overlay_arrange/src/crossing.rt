@@ -13,10 +13,11 @@ ghost use Rattle.overlay_arrange.specs.Meetings.{plain_meetings, AddsBoth, AddsP
 ghost use Rattle.overlay_arrange.specs.Settle.{AreSettled};
 
 use crate::count::EdgeCount;
-use crate::edge::{CountedEdge, is_before, is_same};
+use crate::edge::CountedEdge;
 use crate::meetings::Meeting;
 use crate::settle::{meet_in_ends, place_by};
-use overlay_geom::edge_pair::Place;
+use overlay_geom::edge::is_before;
+use overlay_geom::edge_pair::{Place, is_same};
 use overlay_geom::number::{IntNumber, WideIntNumber};
 use overlay_geom::point::IntPoint;
 use overlay_geom::vector::cross_at;

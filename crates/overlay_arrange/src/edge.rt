@@ -2,12 +2,13 @@
 
 ghost use Rattle.std.specs.Prelude.{◌≡◌};
 ghost use Rattle.overlay_geom.specs.Edges.{ends_of};
-ghost use Rattle.overlay_geom.specs.Plane.{edge_eq, edge_lt, point_eq, point_lt};
-ghost use Rattle.overlay_geom.specs.Points.{plain_point};
+ghost use Rattle.overlay_geom.specs.Plane.{edge_eq, edge_lt};
 ghost use Rattle.overlay_arrange.specs.Content.{plain_edge, edge_cmp};
 
 use crate::count::EdgeCount;
 pub use overlay_geom::edge::compare_points;
+use overlay_geom::edge::is_before;
+use overlay_geom::edge_pair::is_same;
 use overlay_geom::number::IntNumber;
 use overlay_geom::point::IntPoint;
 use std::cmp::Ordering;
@@ -59,18 +60,4 @@ pub(crate) fn have_same_ends<I: IntNumber, C: EdgeCount>(
         (ends_of (plain_edge I.whole C.counts e.now)) (ends_of (plain_edge I.whole C.counts f.now)) }
 {
     is_same(e.a, f.a) && is_same(e.b, f.b)
-}
-
-/// Returns whether p is smaller than q: by x, then by y.
-pub(crate) fn is_before<I: IntNumber>(p: IntPoint<I>, q: IntPoint<I>) -> bool
-    ensures { result ≡ point_lt (plain_point I.whole p) (plain_point I.whole q) }
-{
-    p.x.compare(q.x).is_lt() || p.x.compare(q.x).is_eq() && p.y.compare(q.y).is_lt()
-}
-
-/// Returns whether p and q are equal.
-pub(crate) fn is_same<I: IntNumber>(p: IntPoint<I>, q: IntPoint<I>) -> bool
-    ensures { result ≡ point_eq (plain_point I.whole p) (plain_point I.whole q) }
-{
-    p.x.compare(q.x).is_eq() && p.y.compare(q.y).is_eq()
 }

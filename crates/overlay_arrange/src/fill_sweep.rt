@@ -12,13 +12,14 @@ ghost use Rattle.overlay_arrange.specs.Starts.{plain_starts, wound_entries, wind
 ghost use Rattle.overlay_arrange.specs.Starts.{AreAboveTheOneBefore};
 
 use crate::count::EdgeCount;
-use crate::edge::{CountedEdge, is_same};
+use crate::edge::CountedEdge;
 use crate::fill_rule::FillRule;
 use crate::fill_test::{FillTest, NoTest};
 use crate::starting_edge::StartingEdge;
 use crate::starts::edges_by_start;
 use crate::vector::SideFill;
 use crate::windings::{Windings, bits_between};
+use overlay_geom::edge_pair::is_same;
 use overlay_geom::number::IntNumber;
 use overlay_scan::scan::Scan;
 use std::alloc::{AllocError, Allocator};

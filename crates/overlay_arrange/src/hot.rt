@@ -7,9 +7,10 @@ ghost use Rattle.overlay_arrange.specs.HotPoints.{AreHotPoints, ArePointsAscendi
 ghost use Rattle.overlay_arrange.specs.Meetings.{plain_meetings, AreMeetings};
 
 use crate::count::EdgeCount;
-use crate::edge::{CountedEdge, compare_points, is_same};
+use crate::edge::{CountedEdge, compare_points};
 use crate::meetings::Meeting;
 use crate::sort_points::order_by_points;
+use overlay_geom::edge_pair::is_same;
 use overlay_geom::number::IntNumber;
 use overlay_geom::point::IntPoint;
 use std::alloc::{AllocError, Allocator};

@@ -8,8 +8,9 @@ ghost use Rattle.overlay_plane.specs.SnapPoints.{half_girth, is_amid, is_in_box,
 ghost use Rattle.overlay_arrange.specs.Content.{plain_edge, IsHeld};
 
 use crate::count::EdgeCount;
-use crate::edge::{CountedEdge, is_same};
+use crate::edge::CountedEdge;
 use crate::extents::is_less;
+use overlay_geom::edge_pair::is_same;
 use overlay_geom::number::IntNumber;
 use overlay_geom::point::IntPoint;
 use overlay_geom::vector::cross_at;

@@ -10,9 +10,11 @@ ghost use Rattle.overlay_arrange.specs.Content.{plain_edges, IsContent};
 ghost use Rattle.overlay_arrange.specs.Starts.{starting_ends, numbered_starts, AreByStart};
 
 use crate::count::EdgeCount;
-use crate::edge::{CountedEdge, is_before, is_same};
+use crate::edge::CountedEdge;
 use crate::sort_runs::sort_neighbours;
 use crate::starting_edge::StartingEdge;
+use overlay_geom::edge::is_before;
+use overlay_geom::edge_pair::is_same;
 use overlay_geom::number::{IntNumber, WideIntNumber};
 use overlay_geom::vector::cross_at;
 use std::alloc::{AllocError, Allocator};

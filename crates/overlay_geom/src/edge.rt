@@ -1,6 +1,7 @@
 //! Edges between two different points.
 
 ghost use Rattle.std.specs.Prelude.{◌≡◌, option_map, option_to_list, IfSome};
+ghost use Rattle.overlay_geom.specs.Plane.{point_lt};
 ghost use Rattle.overlay_geom.specs.Points.{plain_point, InRange};
 ghost use Rattle.overlay_geom.specs.Resolved.{point_cmp, plain_edge, edges_between, IsLongEdge};
 
@@ -25,6 +26,13 @@ pub fn compare_points<I: IntNumber>(p: IntPoint<I>, q: IntPoint<I>) -> Ordering
         Ordering::Equal => p.y.compare(q.y),
         other => other,
     }
+}
+
+/// Returns whether p is smaller than q: by x, then by y.
+pub fn is_before<I: IntNumber>(p: IntPoint<I>, q: IntPoint<I>) -> bool
+    ensures { result ≡ point_lt (plain_point I.whole p) (plain_point I.whole q) }
+{
+    p.x.compare(q.x).is_lt() || p.x.compare(q.x).is_eq() && p.y.compare(q.y).is_lt()
 }
 
 /// Returns the edge between two points in range, or nothing where the points are equal.

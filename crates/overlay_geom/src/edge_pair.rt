@@ -85,5 +85,5 @@ fn shares_end<I: IntNumber>(e: IntEdge<I>, f: IntEdge<I>) -> bool
 pub fn is_same<I: IntNumber>(p: IntPoint<I>, q: IntPoint<I>) -> bool
     ensures { result ≡ point_eq (plain_point I.whole p) (plain_point I.whole q) }
 {
-    compare_points(p, q).is_eq()
+    p.x.compare(q.x).is_eq() && p.y.compare(q.y).is_eq()
 }

@@ -15,7 +15,8 @@ returns-clause-ok g c =
       longer = search rules;
       thinned = c.in_ok-write_bent.ensures.narrowed.thins (plain_points whole part)
           (subst (λ ps. IsThinned (plain_points whole ps) (plain_points whole (slice_range ps
-          c.bent_part-from.result.0 c.bent_part-from.result.1))) c.deref.ensures.value c.bent_part-from.ensures.thinned);
+          c.bent_part-from.result.0 c.bent_part-from.result.1))) c.deref.ensures.value
+          c.bent_part-from.ensures.thinned);
       in_range = All-mapped_range (InRange g.I.IntNumber.limit) (plain_point whole) bent c.bent_part-from.result.0
           c.bent_part-from.result.1 c.in_ok-write_bent.ensures.in_range;
     }

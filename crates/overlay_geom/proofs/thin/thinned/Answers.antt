@@ -13,7 +13,8 @@ returns-clause-in_range g c =
     let to = c.bent_part-from.result.1 in
     let left : c.truncate.new.self.items ≡ slice_range c.write_bent.new.bent.items from to = search rules in
     subst (λ xs. AllInRange limit (plain_points whole xs)) (sym left)
-    (All-mapped_range (InRange limit) (plain_point whole) c.write_bent.new.bent.items from to c.in_ok-write_bent.ensures.in_range)
+    (All-mapped_range (InRange limit) (plain_point whole) c.write_bent.new.bent.items from to
+    c.in_ok-write_bent.ensures.in_range)
 
 pub returns-clause-ok : goal.returns-clause-ok
 returns-clause-ok g c = grind (arith, common_steps)
