@@ -13,6 +13,8 @@ use crate::nearest::{NearestVector, Ray};
 use crate::open_places::is_open;
 use crate::step::Step;
 use overlay_arrange::edge::compare_points;
+use overlay_geom::edge::is_before;
+use overlay_geom::edge_pair::is_same;
 use overlay_geom::number::IntNumber;
 use overlay_geom::point::IntPoint;
 
@@ -91,7 +93,7 @@ fn run_end<I: IntNumber>(steps: &[Step<I>], low: usize, p: IntPoint<I>) -> usize
     ensures { LeaveAlike (plain_steps I.whole steps.now) (plain_point I.whole p) low result }
 {
     let mut high = low;
-    while high < steps.len() && compare_points(steps[high].from, p).is_eq() {
+    while high < steps.len() && is_same(steps[high].from, p) {
         high += 1;
     }
     high
@@ -102,5 +104,5 @@ pub fn leaves_below<I: IntNumber>(steps: &[Step<I>], place: usize, p: IntPoint<I
     requires { place < length steps.now }
     ensures { result ≡ point_lt (step_at (plain_steps I.whole steps.now) place).from (plain_point I.whole p) }
 {
-    compare_points(steps[place].from, p).is_lt()
+    is_before(steps[place].from, p)
 }

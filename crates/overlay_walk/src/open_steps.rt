@@ -19,6 +19,7 @@ use crate::step::Step;
 use overlay_arrange::edge::compare_points;
 use overlay_arrange::sort_points::order_by_points;
 use overlay_arrange::sort_runs::sort_neighbours;
+use overlay_geom::edge_pair::is_same;
 use overlay_geom::flat::copied;
 use overlay_geom::number::IntNumber;
 use std::alloc::{AllocError, Allocator};
@@ -151,7 +152,7 @@ impl<I: IntNumber, A: Allocator + Clone> OpenSteps<I, A> {
         loop {
             room.push(step)?;
             step = self.take_next(step, hand);
-            if is_same(step, start) {
+            if is_same_step(step, start) {
                 let walk = copied(alloc, room)?;
                 return Ok(walk);
             }
@@ -175,8 +176,8 @@ fn sort_steps<I: IntNumber, A: Allocator + Clone>(
 }
 
 /// Returns whether two steps lead between equal points.
-fn is_same<I: IntNumber>(s: Step<I>, t: Step<I>) -> bool
+fn is_same_step<I: IntNumber>(s: Step<I>, t: Step<I>) -> bool
     ensures { result ≡ step_eq (plain_step I.whole s) (plain_step I.whole t) }
 {
-    compare_points(s.from, t.from).is_eq() && compare_points(s.to, t.to).is_eq()
+    is_same(s.from, t.from) && is_same(s.to, t.to)
 }

@@ -11,6 +11,7 @@ ghost use Rattle.overlay_walk.specs.Steps.{plain_steps};
 use crate::step::Step;
 use overlay_arrange::sort_points::order_by_points;
 use overlay_geom::edge::compare_points;
+use overlay_geom::edge_pair::is_same;
 use overlay_geom::flat::copied;
 use overlay_geom::number::IntNumber;
 use overlay_geom::point::IntPoint;
@@ -65,7 +66,7 @@ fn is_left_before<I: IntNumber>(steps: &[Step<I>], place: usize) -> bool
 {
     let point = steps[place].from;
     for k in 0..place {
-        if compare_points(steps[k].from, point).is_eq() {
+        if is_same(steps[k].from, point) {
             return true;
         }
     }

@@ -5,7 +5,7 @@ ghost use Rattle.overlay_geom.specs.Plane.{edge_of, is_forward};
 ghost use Rattle.overlay_geom.specs.Points.{plain_point};
 ghost use Rattle.overlay_walk.specs.Steps.{plain_step};
 
-use overlay_arrange::edge::compare_points;
+use overlay_geom::edge::is_before;
 use overlay_geom::number::IntNumber;
 use overlay_geom::point::IntPoint;
 
@@ -24,7 +24,7 @@ pub struct Step<I> {
 pub fn is_forward<I: IntNumber>(step: &Step<I>) -> bool
     ensures { result ≡ is_forward (plain_step I.whole step.now) }
 {
-    compare_points(step.from, step.to).is_lt()
+    is_before(step.from, step.to)
 }
 
 /// Returns the ends of the edge along which the step leads, the smaller end first.

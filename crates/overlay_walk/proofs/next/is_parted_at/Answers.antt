@@ -1,5 +1,5 @@
 -- The steps before the place leave points below p by the step right before it, the others do not by the step there.
-use Rattle.std.proofs.Common.{◌≡◌, ◌-◌, ◌<◌, true, false, length, sym, ◌∙◌, subst, arith}
+use Rattle.std.proofs.Common.{◌≡◌, ◌-◌, ◌<◌, true, length, sym, ◌∙◌, subst, arith}
 use Rattle.overlay_geom.specs.Plane.{point_lt}
 use Rattle.overlay_geom.specs.Points.{plain_point}
 use Rattle.overlay_walk.specs.Places.{step_at}

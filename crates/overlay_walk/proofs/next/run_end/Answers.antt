@@ -1,16 +1,13 @@
 -- One step more that leaves p.
 use Rattle.std.proofs.Common.{◌≡◌, ⊎_elim, ◌<◌, ◌≤◌, true, subst, sym, ap, ◌∙◌, arith}
-use Rattle.std.specs.Ordering.{is_eq}
 use Rattle.std.proofs.Math.Nat.{eq-or-lt_of_le}
 use Rattle.overlay_geom.specs.Plane.{point_eq}
 use Rattle.overlay_geom.specs.Points.{plain_point}
 use Rattle.overlay_geom.proofs.Mapped.{read_mapped}
 use Rattle.overlay_geom.proofs.Orders.{point_eq-same}
-use Rattle.overlay_arrange.specs.Content.{point_cmp}
 use Rattle.overlay_plane.specs.Turn.{no_step}
 use Rattle.overlay_walk.specs.Places.{step_at}
 use Rattle.overlay_walk.specs.Steps.{plain_step, plain_steps}
-use Rattle.overlay_walk.proofs.Runs.{point_cmp-is_tie}
 use Rattle.overlay_walk.proofs.next.run_end.Goals as goal
 
 pub loop-high-preserved : goal.loop-high-preserved
@@ -23,9 +20,7 @@ loop-high-preserved g c =
     let less = c.loop-high-test.true in
     let s = plain_step whole c.index-steps-high.result in
     let here : point_eq s.from p ≡ true =
-    sym (point_cmp-is_tie s.from p)
-    ∙ ap (λ t. is_eq (point_cmp (plain_step whole t).from p)) c.index-steps-high.is
-    ∙ ap is_eq (sym c.compare_points.ensures) ∙ sym c.is_eq.ensures ∙ c.if-is_eq.true in
+    ap (λ t. point_eq (plain_step whole t).from p) c.index-steps-high.is ∙ sym c.is_same.ensures ∙ c.if-is_same.true in
     let there : (step_at ss high).from ≡ p =
     subst (λ t. t.from ≡ p)
     (sym (read_mapped (plain_step whole) c.args.steps.now high c.index-steps-high.result no_step less

@@ -1,10 +1,7 @@
 -- The next step leaves another point.
-use Rattle.std.proofs.Common.{◌≡◌, false, get_or, sym, ap, ◌∙◌, below_more, arith}
-use Rattle.std.specs.Ordering.{is_eq}
+use Rattle.std.proofs.Common.{◌≡◌, false, get_or, sym, ◌∙◌, below_more, arith}
 use Rattle.std.proofs.lemmas.List.{get_or-map}
 use Rattle.overlay_geom.specs.Plane.{point_eq}
-use Rattle.overlay_geom.specs.Points.{plain_point}
-use Rattle.overlay_geom.proofs.PointComparisons.{point_cmp-is_tie}
 use Rattle.overlay_plane.specs.Turn.{no_step}
 use Rattle.overlay_walk.specs.Places.{step_at}
 use Rattle.overlay_walk.specs.Steps.{plain_step, plain_steps}
@@ -23,6 +20,4 @@ loop-k-preserved g c =
     let at_place = get_or-map (plain_step whole) steps c.args.place t no_step c.requires in
     below_more (λ j. point_eq (step_at ss j).from (step_at ss c.args.place).from ≡ false) l.k l.invariant
     ((λ i. point_eq (at_k i).from (at_place i).from)
-    ∙ sym (point_cmp-is_tie (plain_point whole (get_or steps l.k s).from)
-    (plain_point whole (get_or steps c.args.place t).from))
-    ∙ ap is_eq (sym c.compare_points.ensures) ∙ sym c.is_eq.ensures ∙ c.if-is_eq.false)
+    ∙ sym c.is_same.ensures ∙ c.if-is_same.false)

@@ -42,8 +42,8 @@ take_next-step-requires-clause-goes_on g c =
     pending_goes_on g.I.IntNumber.whole g.I.IntNumber.limit c.args.self.now (plain_hand c.args.hand) c.args.start
     c.requires.leads_on l.room.items l.step l.self l.invariant
 
-pub returns-then-is_same-clause-orbit : goal.returns-then-is_same-clause-orbit
-returns-then-is_same-clause-orbit g c =
+pub returns-then-is_same_step-clause-orbit : goal.returns-then-is_same_step-clause-orbit
+returns-then-is_same_step-clause-orbit g c =
     let l = c.loop-self in
     let whole = g.I.IntNumber.whole in
     rw c.in_ok-walk.ensures.ok
@@ -51,26 +51,26 @@ returns-then-is_same-clause-orbit g c =
     (taken_round whole g.I.IntNumber.limit c.args.self.now (plain_hand c.args.hand) c.args.start c.requires.leads_on
     l.room.items l.step l.self l.invariant
     c.take_next-step.result c.take_next-step.new.self c.take_next-step.ensures.next c.take_next-step.ensures.left
-    (same_steps (plain_step whole c.take_next-step.result) (plain_step whole c.args.start) (sym c.is_same.ensures
-    ∙ c.if-is_same.true)))))
+    (same_steps (plain_step whole c.take_next-step.result) (plain_step whole c.args.start) (sym c.is_same_step.ensures
+    ∙ c.if-is_same_step.true)))))
 
-pub returns-then-is_same-clause-begins : goal.returns-then-is_same-clause-begins
-returns-then-is_same-clause-begins g c = rw c.in_ok-walk.ensures.ok
+pub returns-then-is_same_step-clause-begins : goal.returns-then-is_same_step-clause-begins
+returns-then-is_same_step-clause-begins g c = rw c.in_ok-walk.ensures.ok
     (rw c.deref.ensures.value (rw c.in_ok-push.ensures.items
     (subst (λ ss. step_round ss 0 ≡ plain_step g.I.IntNumber.whole c.args.start)
     (sym (map-append (plain_step g.I.IntNumber.whole) c.loop-self.room.items (c.loop-self.step ∷ [])))
     c.loop-self.invariant.way.begins)))
 
-pub returns-then-is_same-clause-among : goal.returns-then-is_same-clause-among
-returns-then-is_same-clause-among g c =
+pub returns-then-is_same_step-clause-among : goal.returns-then-is_same_step-clause-among
+returns-then-is_same_step-clause-among g c =
     let l = c.loop-self in
     rw c.in_ok-walk.ensures.ok
     (rw c.deref.ensures.value (rw c.in_ok-push.ensures.items
     (walked_on g.I.IntNumber.whole g.I.IntNumber.limit c.args.self.now (plain_hand c.args.hand) c.args.start
     c.requires.leads_on l.room.items l.step l.self l.invariant)))
 
-pub returns-then-is_same-clause-left : goal.returns-then-is_same-clause-left
-returns-then-is_same-clause-left g c =
+pub returns-then-is_same_step-clause-left : goal.returns-then-is_same_step-clause-left
+returns-then-is_same_step-clause-left g c =
     let l = c.loop-self in
     let whole = g.I.IntNumber.whole in
     rw c.in_ok-walk.ensures.ok
@@ -78,11 +78,11 @@ returns-then-is_same-clause-left g c =
     (all_taken whole g.I.IntNumber.limit c.args.self.now (plain_hand c.args.hand) c.args.start c.requires.leads_on
     l.room.items l.step l.self l.invariant
     c.take_next-step.result c.take_next-step.new.self c.take_next-step.ensures.next c.take_next-step.ensures.left
-    (same_steps (plain_step whole c.take_next-step.result) (plain_step whole c.args.start) (sym c.is_same.ensures
-    ∙ c.if-is_same.true)))))
+    (same_steps (plain_step whole c.take_next-step.result) (plain_step whole c.args.start) (sym c.is_same_step.ensures
+    ∙ c.if-is_same_step.true)))))
 
-pub returns-then-is_same-clause-fewer : goal.returns-then-is_same-clause-fewer
-returns-then-is_same-clause-fewer g c =
+pub returns-then-is_same_step-clause-fewer : goal.returns-then-is_same_step-clause-fewer
+returns-then-is_same_step-clause-fewer g c =
     let l = c.loop-self in
     fewer_taken g.I.IntNumber.whole g.I.IntNumber.limit c.args.self.now (plain_hand c.args.hand) c.args.start
     c.requires.leads_on l.room.items l.step l.self l.invariant
@@ -108,4 +108,5 @@ loop-self-preserved g c =
     l.room.items l.step l.self l.invariant
     c.take_next-step.result c.take_next-step.new.self c.take_next-step.ensures.next c.take_next-step.ensures.left
     c.take_next-step.ensures.among c.take_next-step.ensures.fewer
-    (λ same. both_ways (step_eq t start) (sym c.is_same.ensures ∙ c.if-is_same.false) (equal_steps t start same)))
+    (λ same. both_ways (step_eq t start) (sym c.is_same_step.ensures ∙ c.if-is_same_step.false)
+    (equal_steps t start same)))
