@@ -57,6 +57,7 @@ pub mod SlicesAlone
 pub mod SlicesShown
 pub mod StepCounts
 pub mod Sweeping
+pub mod TakenBehind
 pub mod TourParts
 pub mod TourRanks
 pub mod TourSplits

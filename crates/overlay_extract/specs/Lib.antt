@@ -20,6 +20,7 @@ pub mod SidesByBits
 pub mod Sliced
 pub mod Slices
 pub mod SlicingWalks
+pub mod TakenBehind
 pub mod TourOrder
 pub mod Tours
 pub mod WalkEntries

@@ -112,8 +112,8 @@ fn points_of<I: IntNumber, A: Allocator>(
     Ok(points)
 }
 
-// Puts the points at which the steps of the walk begin into the list, and drops those that it had.
-fn write_points<I: IntNumber, A: Allocator>(
+/// Puts the points at which the steps of the walk begin into the list, and drops those that it had.
+pub(crate) fn write_points<I: IntNumber, A: Allocator>(
     points: &mut IntContour<I, A>,
     walk: &[Step<I>],
 ) -> Result<(), AllocError>

@@ -2,7 +2,8 @@
 
 ghost use Rattle.std.specs.Prelude.{◌≡◌, [], map, All, IfOk, OnOk, OnErr, IsOkUnless};
 ghost use Rattle.std.specs.List.{AllZip};
-ghost use Rattle.overlay_geom.specs.Flat.{paths_in};
+ghost use Rattle.overlay_geom.specs.Flat.{paths_in, shapes_in};
+ghost use Rattle.overlay_geom.specs.FlatShapes.{AreShapesPacked};
 ghost use Rattle.overlay_geom.specs.Packed.{IsPacked};
 ghost use Rattle.overlay_geom.specs.Paths.{plain_shapes};
 ghost use Rattle.overlay_geom.specs.Plane.{points_of};
@@ -16,12 +17,14 @@ ghost use Rattle.overlay_extract.specs.Results.{asked, AreKeptWalks, IsResult, I
 use crate::assemble::{assembled, contour};
 use crate::binding::placed::{placed_contours, placed_contours_of};
 use crate::binding::scans::TREE_FROM_PARENTS;
+use crate::flat_shapes::flat_assembled;
 use overlay_arrange::count::EdgeCount;
 use overlay_arrange::graph::Graph;
 use overlay_arrange::options::IntOverlayOptions;
 use overlay_arrange::overlay_rule::OverlayRule;
 use overlay_geom::error::OverlayError;
 use overlay_geom::flat::contours::FlatContoursBuffer;
+use overlay_geom::flat::shapes::FlatShapesBuffer;
 use overlay_geom::number::IntNumber;
 use overlay_geom::path::IntShapes;
 use overlay_walk::area::large_walks;
@@ -85,6 +88,28 @@ pub fn extract_shapes_of<I: IntNumber, C: EdgeCount, A: Allocator + Clone>(
     let placed = placed_contours_of(graph, overlay_rule, options, buffer, TREE_FROM_PARENTS)?;
     let keeps_points = options.preserve_output_collinear;
     assembled(alloc, &placed.contours, &placed.places, keeps_points)
+}
+
+/// Returns the shapes that [`extract_shapes`] gives, with their points in a single list: contours and points in their
+/// order, without gaps. It drops the graph and the buffer before it puts the shapes together.
+pub fn extract_flat_shapes_of<I: IntNumber, C: EdgeCount, A: Allocator + Clone>(
+    graph: Graph<I, C, A>,
+    overlay_rule: OverlayRule,
+    options: IntOverlayOptions<I::WideUInt>,
+    mut buffer: BooleanExtractionBuffer<I, A>,
+) -> Result<FlatShapesBuffer<I, A>, AllocError>
+    requires { HasBalancedCounts (graph_edges graph) }
+    ensures result { IfOk result (λ b. IsResult
+        (asked I.Wide.width I.WideUInt.natural graph.fill_rule overlay_rule options)
+        (graph_edges graph) (shapes_in I.whole b.points.items b.contour_ranges.items b.shape_ranges.items)) }
+    ensures packed { IfOk result
+        (λ b. AreShapesPacked b.points.items b.contour_ranges.items b.shape_ranges.items) }
+{
+    let alloc = graph.allocator().clone()?;
+    let placed = placed_contours_of(graph, overlay_rule, options, &mut buffer, TREE_FROM_PARENTS)?;
+    drop(buffer);
+    let keeps_points = options.preserve_output_collinear;
+    flat_assembled(alloc, &placed.contours, &placed.places, keeps_points)
 }
 
 /// Writes the contours round the region where the rules hold to the output, in the order in which they are found. They

@@ -6,6 +6,7 @@ pub mod assemble;
 pub mod binding;
 pub mod child_link;
 pub mod extract;
+pub mod flat_shapes;
 pub mod hierarchy;
 mod in_shapes;
 pub mod laws;
