@@ -24,7 +24,7 @@ use overlay_builder::path::{PathKind, add_path};
 use overlay_builder::points::gathered;
 use overlay_geom::error::OverlayError;
 use overlay_geom::flat::copied;
-use overlay_geom::thin::thinned;
+use overlay_geom::thin::{push_thinned, thinned};
 use overlay_relate::in_contour::locate_in_contour;
 use overlay_relate::in_shapes::{locate_in_shape, locate_in_shapes};
 use overlay_relate::resolved::is_resolved_in;
@@ -141,6 +141,11 @@ fn check_paths<I: Width>(trial: &Trial<'_, impl Abort>) -> Result<(), Fail> {
         point(0, 2),
     ];
     let points = trial.refuse_call("overlay_geom::thinned", || thinned(memory, &longer))?;
+    assert!(trial.rt; &points[..] == &more[..]);
+    let points = trial.refuse_call("overlay_geom::push_thinned", || {
+        let (mut output, mut room) = (Vec::new(memory), Vec::new(memory));
+        push_thinned(&mut output, &mut room, &longer).map(|_| output)
+    })?;
     assert!(trial.rt; &points[..] == &more[..]);
     Ok(())
 }

@@ -24,8 +24,10 @@ use overlay_extract::binding::placed::{bound_places, placed_contours, placed_con
 use overlay_extract::binding::places::shape_places;
 use overlay_extract::binding::scans::{scan_for_holes, scan_for_islands};
 use overlay_extract::extract::{
-    extract_contours, extract_shapes, extract_shapes_of, extract_shapes_with_trees_from,
+    extract_contours, extract_flat_shapes_of, extract_shapes, extract_shapes_of,
+    extract_shapes_with_trees_from,
 };
+use overlay_extract::flat_shapes::flat_assembled;
 use overlay_extract::hierarchy::{
     extract_shape_hierarchy, extract_shape_hierarchy_with_trees_from,
 };
@@ -338,6 +340,16 @@ fn check_shapes<I: Width>(trial: &Trial<'_, impl Abort>) -> Result<(), Fail> {
         |graph, it| extract_shapes_of(graph, SUBJECT, options, it),
     )?;
     assert!(trial.rt; alike == shapes);
+    let flat = trial.refuse_each(
+        "overlay_extract::extract_flat_shapes_of",
+        || Ok((Some(plain_graph::<I>(memory)?), Some(BooleanExtractionBuffer::default(memory)))),
+        |it| {
+            let buffer = it.1.take().ok_or(AllocError)?;
+            extract_flat_shapes_of(it.0.take().ok_or(AllocError)?, SUBJECT, options, buffer)
+        },
+        |_| Ok(true),
+    )?;
+    assert!(trial.rt; flat.to_shapes()? == shapes);
     let linked = lends(trial, "overlay_extract::extract_shape_hierarchy", |it| {
         extract_shape_hierarchy(&graph, SUBJECT, options, it)
     })?;
@@ -347,6 +359,10 @@ fn check_shapes<I: Width>(trial: &Trial<'_, impl Abort>) -> Result<(), Fail> {
         let again = trial.refuse_call("overlay_extract::assembled", || {
             assembled(memory, &contours, &places, keeps_points)
         })?;
+        let flat = trial.refuse_call("overlay_extract::flat_assembled", || {
+            flat_assembled(memory, &contours, &places, keeps_points)
+        })?;
+        assert!(trial.rt; flat.to_shapes()? == shapes);
         let first = trial.refuse_call("overlay_extract::contour", || {
             contour(memory, &contours[0].steps, keeps_points)
         })?;

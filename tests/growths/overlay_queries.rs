@@ -10,6 +10,7 @@ use i_overlay::i_shape::flat::buffer::FlatContoursBuffer;
 use i_overlay::i_shape::int::shape::{IntShape, IntShapes};
 use i_overlay::overlay::{Overlay, ShapeType};
 use i_overlay::overlay_rule::OverlayRule;
+use overlay_geom::error::OverlayError;
 use std::process::Abort;
 use std::test::Fail;
 
@@ -163,6 +164,27 @@ fn check_overlay_into<I: Width>(trial: &Trial<'_, impl Abort>) -> Result<(), Fai
             Ok(is_emptied && is_emptied_again && it.1 == wanted)
         },
     )
+}
+
+// Refuses the growths of a query that uses the builder up, and asks it of one that has failed.
+fn check_into_flat_shapes<I: Width>(trial: &Trial<'_, impl Abort>) -> Result<(), Fail> {
+    let memory = trial.memory;
+    let flat = trial.refuse_each(
+        "Overlay::into_flat_shapes",
+        || Ok(Some(overlapping::<I>(memory)?)),
+        |it| it.take().ok_or(OverlayError::Failed)?.into_flat_shapes(UNION, RULE),
+        |_| Ok(true),
+    )?;
+    assert!(trial.rt; flat.to_shapes()? == overlapping::<I>(memory)?.overlay(UNION, RULE)?);
+    let mut failed = overlapping::<I>(memory)?;
+    assert!(trial.rt; trial.without_memory(|| failed.overlay(UNION, RULE).is_err()));
+    assert!(trial.rt; is_failed(trial.without_memory(|| failed.into_flat_shapes(UNION, RULE))));
+    Ok(())
+}
+
+#[test]
+fn overlay_into_flat_shapes(rt: HostRuntime) -> Result<(), Fail> {
+    at_a_width!(rt, check_into_flat_shapes)
 }
 
 #[test]

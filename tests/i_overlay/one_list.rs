@@ -7,6 +7,7 @@ use i_overlay::overlay::{IntOverlayOptions, Overlay};
 use i_overlay::overlay_rule::OverlayRule;
 use overlay_geom::error::OverlayError;
 use overlay_geom::flat::contours::FlatContoursBuffer;
+use overlay_geom::flat::shapes::FlatShapesBuffer;
 use overlay_geom::integer::OverlayInt;
 use small_points::contours::{Points, contour_of};
 use std::alloc::Global;
@@ -42,6 +43,44 @@ fn check_into<I: OverlayInt + PartialEq + From<i16>>(
     )?;
     overlay.overlay_into(OverlayRule::Subject, FillRule::EvenOdd, &mut output)?;
     check_one(rt, alloc, &output, TOUCHING_HOLE.wanted[0][0])
+}
+
+// Checks that a builder that is used up gives the shape in one list.
+fn check_used_up<I: OverlayInt + PartialEq + From<i16>>(
+    rt: &impl Abort,
+    alloc: Global,
+) -> Result<(), OverlayError> {
+    let overlay: Overlay<I, Global> = builder_of(
+        rt,
+        alloc,
+        &TOUCHING_HOLE,
+        IntOverlayOptions::default(),
+    )?;
+    let flat: FlatShapesBuffer<I, Global> = overlay.into_flat_shapes(
+        OverlayRule::Subject,
+        FillRule::EvenOdd,
+    )?;
+    let wanted = contour_of::<I>(alloc, TOUCHING_HOLE.wanted[0][0])?;
+    assert!(rt; flat.points == wanted);
+    assert!(rt; flat.contour_ranges.len() == 1 && flat.shape_ranges.len() == 1);
+    let shapes = flat.to_shapes()?;
+    assert!(rt; shapes.len() == 1 && shapes[0].len() == 1 && shapes[0][0] == wanted);
+    Ok(())
+}
+
+#[test]
+fn shapes_of_a_used_builder_at_i16(rt: HostRuntime) -> Result<(), Fail> {
+    Ok(check_used_up::<i16>(&rt, rt.alloc())?)
+}
+
+#[test]
+fn shapes_of_a_used_builder_at_i32(rt: HostRuntime) -> Result<(), Fail> {
+    Ok(check_used_up::<i32>(&rt, rt.alloc())?)
+}
+
+#[test]
+fn shapes_of_a_used_builder_at_i64(rt: HostRuntime) -> Result<(), Fail> {
+    Ok(check_used_up::<i64>(&rt, rt.alloc())?)
 }
 
 #[test]

@@ -21,4 +21,5 @@ pub mod TestedContours
 pub mod ToldRelations
 pub mod TurnedParts
 pub mod TwoSources
+pub mod UsedUp
 pub mod Views

@@ -12,4 +12,5 @@ pub mod Relations
 pub mod ShapeVectors
 pub mod Simple
 pub mod Simplified
+pub mod UsedUp
 pub mod Views

@@ -32,6 +32,7 @@ mod adders;
 mod alone;
 mod constructors;
 mod deprecated;
+mod flat;
 mod hierarchy;
 mod shape_vectors;
 mod simplify;

@@ -1,0 +1,42 @@
+-- The shapes are those of the arranged edges; over no edges there is none.
+use Rattle.std.proofs.Common.{◌≡◌, is_err, sym, subst, rules}
+use Rattle.std.specs.Prelude.{Some, Err, IfOk}
+use Rattle.overlay_builder.specs.Held.{plain_held}
+use Rattle.overlay_extract.specs.Results.{asked, IsResult}
+use Rattle.overlay_geom.specs.Flat.{shapes_in}
+use Rattle.i_overlay.specs.UsedUp.{GivesFlatShapes}
+use Rattle.i_overlay.proofs.Queries.{extracted_from, refused_before}
+use Rattle.i_overlay.proofs.UsedUp.{no_flat_shapes}
+use Rattle.i_overlay.proofs.overlay.Overlay.into_flat_shapes.Goals as goal
+
+pub returns-in_err-arrange-clause-answers : goal.returns-in_err-arrange-clause-answers
+returns-in_err-arrange-clause-answers g c =
+    let mid = plain_held c.arrange.new.self in
+    let e = c.in_err-arrange.field-0.0 in
+    let refused : c.from_residual.result ≡ Err e = search rules in
+    subst (GivesFlatShapes g.I.IntNumber.whole g.I.IntNumber.limit (asked g.I.Wide.WideIntNumber.width
+    g.I.WideUInt.UIntNumber.natural c.args.fill_rule c.args.overlay_rule c.args.self.options) c.args.self)
+    (sym refused) (record {
+      after = record c.args.self { edges = mid.edges; failed = mid.failed };
+      extracts = refused_before g.I.IntNumber.limit c.self.view_is mid e c.in_err-arrange.ensures.query;
+      is_result = tt;
+      empty = λ none. tt;
+    })
+
+pub returns-clause-answers : goal.returns-clause-answers
+returns-clause-answers g c =
+    let whole = g.I.IntNumber.whole in
+    let mid = plain_held c.arrange.new.self in
+    let r = c.extracted.result in
+    let result = subst (λ b. IfOk r (λ v. IsResult
+    (asked g.I.Wide.WideIntNumber.width g.I.WideUInt.UIntNumber.natural c.args.fill_rule c.args.overlay_rule b.options)
+    mid.edges (shapes_in whole v.points.items v.contour_ranges.items v.shape_ranges.items))) c.self.view_is
+    c.extracted.ensures.result in
+    record {
+      after = record c.args.self { edges = mid.edges; boolean_buffer = Some tt; failed = is_err r };
+      extracts = extracted_from g.I.IntNumber.limit c.self.view_is mid c.in_ok-arrange.field-0
+          c.in_ok-arrange.ensures.query r c.extracted.ensures.err;
+      is_result = result;
+      empty = no_flat_shapes whole (asked g.I.Wide.WideIntNumber.width g.I.WideUInt.UIntNumber.natural
+          c.args.fill_rule c.args.overlay_rule c.args.self.options) mid.edges r result;
+    }
