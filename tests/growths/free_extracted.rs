@@ -342,7 +342,10 @@ fn check_shapes<I: Width>(trial: &Trial<'_, impl Abort>) -> Result<(), Fail> {
     assert!(trial.rt; alike == shapes);
     let flat = trial.refuse_each(
         "overlay_extract::extract_flat_shapes_of",
-        || Ok((Some(plain_graph::<I>(memory)?), Some(BooleanExtractionBuffer::default(memory)))),
+        || Ok((
+            Some(plain_graph::<I>(memory)?),
+            Some(BooleanExtractionBuffer::default(memory)),
+        )),
         |it| {
             let buffer = it.1.take().ok_or(AllocError)?;
             extract_flat_shapes_of(it.0.take().ok_or(AllocError)?, SUBJECT, options, buffer)

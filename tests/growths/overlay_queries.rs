@@ -172,7 +172,10 @@ fn check_into_flat_shapes<I: Width>(trial: &Trial<'_, impl Abort>) -> Result<(),
     let flat = trial.refuse_each(
         "Overlay::into_flat_shapes",
         || Ok(Some(overlapping::<I>(memory)?)),
-        |it| it.take().ok_or(OverlayError::Failed)?.into_flat_shapes(UNION, RULE),
+        |it| it
+            .take()
+            .ok_or(OverlayError::Failed)?
+            .into_flat_shapes(UNION, RULE),
         |_| Ok(true),
     )?;
     assert!(trial.rt; flat.to_shapes()? == overlapping::<I>(memory)?.overlay(UNION, RULE)?);

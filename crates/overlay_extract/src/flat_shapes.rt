@@ -31,8 +31,8 @@ struct ContourRoom<I, A: Allocator> {
     bent: Vec<IntPoint<I>, A>,
 }
 
-/// Returns the shapes that [`assembled`](crate::assemble::assembled) gives, with their points in a single list: contours
-/// and points in their order, without gaps.
+/// Returns the shapes that [`assembled`](crate::assemble::assembled) gives, with their points in a single list, without
+/// gaps.
 pub fn flat_assembled<I: IntNumber, A: Allocator + Clone>(
     alloc: A,
     contours: &[Contour<I, A>],
