@@ -9,12 +9,15 @@ use Rattle.overlay_arrange.specs.declared.overlay_rule.OverlayRule.{OverlayRule}
 use Rattle.overlay_builder.specs.GivenPaths.{added_paths, subject_and_clip}
 use Rattle.overlay_builder.specs.PathLists.{HoldsPaths, MayRefuseBuilder}
 use Rattle.overlay_extract.specs.Results.{Asked, asked, IsResult}
+use Rattle.overlay_geom.specs.Flat.{shapes_in}
 use Rattle.overlay_geom.specs.Plane.{Point}
 use Rattle.overlay_geom.specs.declared.error.OverlayError.{OverlayError}
+use Rattle.overlay_geom.specs.declared.flat.shapes.FlatShapesBuffer.{FlatShapesBuffer}
 use Rattle.overlay_geom.specs.declared.solver.Solver.{Solver}
 use Rattle.i_overlay.specs.Builder.{Builder, empty_builder, held_by}
 use Rattle.i_overlay.specs.OneShot.{MayRefusePaths}
 use Rattle.i_overlay.specs.Queries.{BuilderExtracts}
+use Rattle.i_overlay.specs.UsedUp.{GivesFlatShapes}
 use Rattle.i_overlay.proofs.OneShots as one_shot
 use Rattle.polyover_c.specs.declared.fault.Fault.{Fault}
 use Rattle.polyover_c.proofs.Refusals.{unread, without_memory, unanswered}
@@ -102,23 +105,33 @@ module _ {I U : Type 0} (whole : I → ℤ) (limit rule fill : ℕ) (options : O
     same_asked width natural = ap₂ (λ x y. asked width natural x y b.options) is.fill_asked is.rule_asked
         ∙ ap (asked width natural (fill_of fill) (rule_of rule)) is.options_asked
 
-    pub overlay_answered : {V : Type 0} (v : V) (new : Builder U) (width : Width) (natural : U → ℕ)
-        (shapes : List (List (List Point))) (flat : Flat I) → BuilderExtracts {V = V} limit b new (Ok v) →
-        IsResult (asked width natural f r b.options) new.edges shapes → AreFlattened whole shapes flat →
+    -- ---- as flat lists
+
+    pub flat_refused : {A : Type 0} (q : Asked) (e : OverlayError) →
+        GivesFlatShapes {A = A} whole limit q b (Err e) → is_refused (status_of_error e)
+    flat_refused {A = A} q e gives = query_refused {V = FlatShapesBuffer I A} gives.after e gives.extracts
+
+    pub overlay_answered : {A : Type 0} (v : FlatShapesBuffer I A) (width : Width) (natural : U → ℕ) (flat : Flat I) →
+        GivesFlatShapes whole limit (asked width natural f r b.options) b (Ok v) →
+        AreFlattened whole (shapes_in whole v.points.items v.contour_ranges.items v.shape_ranges.items) flat →
         IsFlat (IsOverlay whole limit width natural rule fill options subject clip) whole flat
-    overlay_answered v new width natural shapes flat extracts result flattened = record {
-      shapes = shapes;
-      answer = record {
-        known = is.known;
-        subject_given = is.subject_given;
-        clip_given = is.clip_given;
-        is_result = record {
-          content = b.edges;
-          edges = new.edges;
-          holds = is.holds;
-          arranged = subst (λ t. IsArranged t b.edges new.edges) is.solver_asked extracts.query.arranged;
-          is_result = subst (λ a. IsResult a new.edges shapes) (same_asked width natural) result;
-        };
-      };
-      flattened = flattened;
-    }
+    overlay_answered v width natural flat gives flattened =
+        let shapes = shapes_in whole v.points.items v.contour_ranges.items v.shape_ranges.items in
+        record {
+          shapes = shapes;
+          answer = record {
+            known = is.known;
+            subject_given = is.subject_given;
+            clip_given = is.clip_given;
+            is_result = record {
+              content = b.edges;
+              edges = gives.after.edges;
+              holds = is.holds;
+              arranged = subst (λ t. IsArranged t b.edges gives.after.edges) is.solver_asked
+                  gives.extracts.query.arranged;
+              is_result = subst (λ a. IsResult a gives.after.edges shapes) (same_asked width natural)
+                  gives.is_result;
+            };
+          };
+          flattened = flattened;
+        }

@@ -1,6 +1,8 @@
 //! Shapes as arrays, and these put into arrays of a caller.
 
 ghost use Rattle.std.specs.Prelude.{◌≡◌, map, IfOk, IsOkUnless};
+ghost use Rattle.overlay_geom.specs.Flat.{shapes_in};
+ghost use Rattle.overlay_geom.specs.FlatShapes.{AreShapesPacked};
 ghost use Rattle.overlay_geom.specs.Paths.{plain_shapes};
 ghost use Rattle.polyover_c.specs.Written.{AreFlattened, ArePut, flat_shapes, shape_room};
 
@@ -32,9 +34,25 @@ pub(crate) fn flattened<I: IntNumber>(
     ensures only { IsOkUnless result Status.Memory }
 {
     let flat = FlatShapesBuffer::from_shapes(alloc, shapes)?;
-    let coordinates = coordinates_of(alloc, &flat.points)?;
+    flat_answer(alloc, flat)
+}
+
+/// The shapes of a buffer, whose parts are dropped one by one once they are read. The only refusal is `Memory`.
+pub(crate) fn flat_answer<I: IntNumber>(
+    alloc: Global,
+    flat: FlatShapesBuffer<I, Global>,
+) -> Result<Answer<I>, Status>
+    requires packed { AreShapesPacked flat.points.items flat.contour_ranges.items flat.shape_ranges.items }
+    ensures flattened { IfOk result (λ a. AreFlattened I.whole
+        (shapes_in I.whole flat.points.items flat.contour_ranges.items flat.shape_ranges.items)
+        (flat_shapes a.coordinates.items a.contour_ends.items a.shape_ends.items)) }
+    ensures only { IsOkUnless result Status.Memory }
+{
     let contour_ends = ends_of(alloc, &flat.contour_ranges)?;
+    drop(flat.contour_ranges);
     let shape_ends = ends_of(alloc, &flat.shape_ranges)?;
+    drop(flat.shape_ranges);
+    let coordinates = coordinates_of(alloc, &flat.points)?;
     Ok(Answer {
         coordinates,
         contour_ends,

@@ -15,7 +15,7 @@ pub fn coordinates_of<I: IntNumber, A: Allocator>(
 ) -> Result<Vec<I, A>, AllocError>
     ensures coordinates { IfOk result (λ v. v.items ≡ coordinates_of points.now) }
 {
-    let mut coordinates = Vec::new(alloc);
+    let mut coordinates = Vec::with_capacity(alloc, points.len().saturating_mul(2))?;
     for point in points {
         coordinates.push(point.x)?;
         coordinates.push(point.y)?;
@@ -27,7 +27,7 @@ pub fn coordinates_of<I: IntNumber, A: Allocator>(
 pub fn ends_of<A: Allocator>(alloc: A, ranges: &[Range<usize>]) -> Result<Vec<usize, A>, AllocError>
     ensures ends { IfOk result (λ v. v.items ≡ ends_of ranges.now) }
 {
-    let mut ends = Vec::new(alloc);
+    let mut ends = Vec::with_capacity(alloc, ranges.len())?;
     for range in ranges {
         ends.push(range.end)?;
     }

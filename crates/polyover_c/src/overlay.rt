@@ -5,7 +5,7 @@ ghost use Rattle.polyover_c.specs.Given.{contours_of};
 ghost use Rattle.polyover_c.specs.Written.{IsFlat, flat_shapes, shape_room};
 ghost use Rattle.polyover_c.specs.Overlays.{IsOverlay, IsOverlayRefused, OverlayEnds};
 
-use crate::answer::{Answer, flattened, put, widened};
+use crate::answer::{Answer, flat_answer, put, widened};
 use crate::asked::asked_overlay;
 use crate::counts::Counts;
 use crate::given::Contours;
@@ -43,7 +43,7 @@ pub(crate) fn overlay_arrays<I: ArrayInt>(
 }
 
 // The overlay that the numbers ask for, as arrays.
-#[tactic(auto, using(crate::proofs::Overlays::memory_refused, crate::proofs::Overlays::query_refused, crate::proofs::Overlays::overlay_answered))]
+#[tactic(auto, using(crate::proofs::Overlays::memory_refused, crate::proofs::Overlays::flat_refused, crate::proofs::Overlays::overlay_answered))]
 fn overlay_answer<I: OverlayInt>(
     alloc: Global,
     rule: u32,
@@ -61,9 +61,9 @@ fn overlay_answer<I: OverlayInt>(
         (contours_of subject.now.coordinates.now subject.now.ends.now)
         (contours_of clip.now.coordinates.now clip.now.ends.now)) }
 {
-    let mut asked = asked_overlay(alloc, rule, fill, options, subject, clip)?;
-    let shapes = asked.builder.overlay(asked.rule, asked.fill)?;
-    let answer = flattened(alloc, &shapes)?;
+    let asked = asked_overlay(alloc, rule, fill, options, subject, clip)?;
+    let flat = asked.builder.into_flat_shapes(asked.rule, asked.fill)?;
+    let answer = flat_answer(alloc, flat)?;
     Ok(answer)
 }
 
