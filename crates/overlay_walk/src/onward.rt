@@ -10,16 +10,19 @@ use std::alloc::{AllocError, Allocator};
 
 // Number of steps from which on places are noted.
 const LEAST_STEPS: usize = 64;
+// Note of a place that no note holds.
+const NO_PLACE: u32 = u32::MAX;
 // Length of the first stretch of a search, and how much longer each next one is.
 const STRETCH: usize = 4;
 
-/// Returns for each step the first place of the steps that leave its end, where it is found. The steps are in the order
-/// of the points that they leave, and the places in the order of their edges' starts. No place is noted of few steps.
+/// Returns for each step the first place of the steps that leave its end, where it is found and a note holds it. The
+/// steps are in the order of the points that they leave, and the places in the order of their edges' starts. No place
+/// is noted of few steps.
 pub fn onward_places<I: IntNumber, A: Allocator>(
     alloc: A,
     steps: &[Step<I>],
     places: &[usize],
-) -> Result<Vec<usize, A>, AllocError> {
+) -> Result<Vec<u32, A>, AllocError> {
     let mut onward = Vec::new(alloc);
     if steps.len() >= LEAST_STEPS {
         onward.resize(steps.len(), 0)?;
@@ -32,7 +35,7 @@ pub fn onward_places<I: IntNumber, A: Allocator>(
 // are in order, so that for steps back the place moves on. For a step forward it is looked for near that of the step
 // forward before, or near the step itself if that leads straight up.
 fn note_all<I: IntNumber, A: Allocator>(
-    onward: &mut Vec<usize, A>,
+    onward: &mut Vec<u32, A>,
     steps: &[Step<I>],
     places: &[usize],
 ) {
@@ -46,13 +49,22 @@ fn note_all<I: IntNumber, A: Allocator>(
         let step = steps[place];
         if !is_forward(&step) {
             back = first_behind(steps, back, step.to);
-            onward[place] = back;
+            onward[place] = note_of(back);
         } else if stand_in_column(step.from, step.to) {
-            onward[place] = first_near(steps, place, step.to);
+            onward[place] = note_of(first_near(steps, place, step.to));
         } else {
             ahead = first_near(steps, ahead, step.to);
-            onward[place] = ahead;
+            onward[place] = note_of(ahead);
         }
+    }
+}
+
+// Returns the note of a place.
+fn note_of(place: usize) -> u32 {
+    if place < NO_PLACE as usize {
+        place as u32
+    } else {
+        NO_PLACE
     }
 }
 
@@ -139,9 +151,9 @@ fn first_between<I: IntNumber>(steps: &[Step<I>], from: usize, to: usize, p: Int
 }
 
 /// Returns the place noted for the step at a place, or a place behind all steps where none is noted.
-pub fn noted(onward: &[usize], place: usize) -> usize {
+pub fn noted(onward: &[u32], place: usize) -> usize {
     match onward.get(place) {
-        Some(first) => *first,
+        Some(first) => *first as usize,
         None => usize::MAX,
     }
 }

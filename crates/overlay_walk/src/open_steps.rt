@@ -36,8 +36,8 @@ pub struct OpenSteps<I: IntNumber, A: Allocator> {
     places: Vec<usize, A>,
     // the number of these places, from the front, that are known to be taken
     passed: usize,
-    // for each step the place where the steps that leave its end are looked for first
-    onward: Vec<usize, A>,
+    // for each step a note of the place where the steps that leave its end are looked for first
+    onward: Vec<u32, A>,
     // that place for the step to be walked on from
     near: usize,
 }
