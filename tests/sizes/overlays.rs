@@ -84,6 +84,18 @@ fn contours_of_pairs(rt: HostRuntime) -> Result<(), Fail> {
 }
 
 #[test]
+fn shapes_of_pairs_in_one_list(rt: HostRuntime) -> Result<(), Fail> {
+    let flat = pairs(rt.alloc())?.into_flat_shapes(OverlayRule::Union, RULE)?;
+    assert!(&rt; flat.shape_ranges.len() == COUNT && flat.points.len() == 8 * COUNT);
+    let both = flat.to_shapes()?;
+    for number in 0..COUNT {
+        assert!(&rt; both[number].len() == 1);
+        assert!(&rt; both[number][0].as_slice() == both_at(number).as_slice());
+    }
+    Ok(())
+}
+
+#[test]
 fn vectors_of_pairs(rt: HostRuntime) -> Result<(), Fail> {
     let alloc = rt.alloc();
     let edges = pairs(alloc)?.build_separate_vectors(RULE)?;
