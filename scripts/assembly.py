@@ -9,9 +9,11 @@ says what it was made of on standard error, and in a line at the head of the fil
 """
 
 import argparse
+import os
 import re
 import sys
 import tempfile
+import time
 from dataclasses import dataclass
 from pathlib import Path
 
@@ -118,6 +120,8 @@ def leave(file: Path, processor: str, is_proved: bool) -> None:
     """Leaves the assembly, and says what it is made of."""
     if is_proved and not is_newer(MODULE, LIBRARY):
         answer_of([ROOT / ".ci" / "library"], cwd=ROOT)
+    # (what is made gets this time, so that a source which changes on the way is newer)
+    began = time.time()
     made_of = PROVED if is_newer(MODULE, LIBRARY) else UNPROVED
     head = f"/* The library polyover for {processor}, {made_of}. */\n"
     if is_newer(file, LIBRARY) and head_of(file) == head and file.stat().st_mtime >= time_of(MODULE):
@@ -125,11 +129,13 @@ def leave(file: Path, processor: str, is_proved: bool) -> None:
     print(f"polyover: the library for {processor}, {made_of} ..", file=sys.stderr, flush=True)
     if made_of == UNPROVED and not is_newer(CHECKED, LIBRARY):
         leave_library(CHECKED)
+        os.utime(CHECKED, (began, began))
     text = text_of(MODULE) if made_of == PROVED else library_text(CHECKED)
     file.parent.mkdir(parents=True, exist_ok=True)
     target = PROCESSORS[processor]
     compiled(text, target, file, *target.code, "-ffunction-sections", "-fno-addrsig", "-S")
     file.write_text(head + file.read_text())
+    os.utime(file, (began, began))
 
 
 def main() -> None:
