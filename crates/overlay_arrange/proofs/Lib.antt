@@ -2,6 +2,9 @@ pub mod Adding
 pub mod AlongEdges
 pub mod Appended
 pub mod ArrangedLists
+pub mod BundleLines
+pub mod BundleLists
+pub mod BundlesBeside
 pub mod CarriedEdges
 pub mod CarriedLoop
 pub mod CarriedMerges

@@ -6,10 +6,11 @@ use Rattle.std.specs.List.Sorted.{IsPermutation}
 use Rattle.std.proofs.lemmas.Bool.{cases_lt}
 use Rattle.std.proofs.lemmas.List.{get_or_default}
 use Rattle.overlay_geom.specs.Edges.{CountedEdge}
+use Rattle.overlay_arrange.specs.Bundles.{IsPassed}
 use Rattle.overlay_arrange.specs.Content.{IsAscending, IsHeld}
 use Rattle.overlay_arrange.specs.Extents.{Extent, extent_of, extents_of, IsApart}
 use Rattle.overlay_arrange.specs.Meetings.{IsAt, IsRunEnd}
-use Rattle.overlay_arrange.specs.Near.{run_of, AreBetween, AreNearBehind, IsFar, IsSearchedTo}
+use Rattle.overlay_arrange.specs.Near.{run_of, AreBetween, AreNearBehind, IsFar, IsSearchedBy, IsSearchedTo}
 use Rattle.overlay_arrange.specs.Settle.{AreSettled}
 use Rattle.overlay_arrange.proofs.FarEdges.{settled_where_far}
 use Rattle.overlay_arrange.proofs.PlacedExtents.{extent_there, item_there}
@@ -38,10 +39,12 @@ module _ (es : List CountedEdge) (first end : ℕ) (e : CountedEdge) (limit : �
         (λ (behind : end ≤ j). inr (settled j f at_f (inl (right_of_run j f behind at_f)))) (cases_lt j end);
   }
 
-  -- a search for boxes that do not lie apart from that of its run finds them
-  pub searched_near : (ss : List Extent) (js : List ℕ) → IsPermutation (extents_of es) ss →
-      IsSearchedTo ss (run_of e first end) (length ss) js → AreNearBehind es e first js
-  searched_near ss js moved searched = record { within = within; all = all }
+  -- a search for boxes that do not lie apart from that of its run finds them, where those passed over are of edges that
+  -- it meets in ends alone
+  pub searched_by : (IsPassed : Extent → Type 0) (ss : List Extent) (js : List ℕ) → IsPermutation (extents_of es) ss →
+      ((j : ℕ) (f : CountedEdge) → first ≤ j → IsAt es j f → IsPassed (extent_of f j) → AreSettled e f) →
+      IsSearchedBy IsPassed ss (run_of e first end) (length ss) js → AreNearBehind es e first js
+  searched_by IsPassed ss js moved settles searched = record { within = within; all = all }
     where
       within : (j : ℕ) → Contains js j → (first ≤ j) × (j < length es)
       within j has =
@@ -56,15 +59,33 @@ module _ (es : List CountedEdge) (first end : ℕ) (e : CountedEdge) (limit : �
             omega (arith, begins, inside),
           )
 
-      far : (j : ℕ) (f : CountedEdge) → first ≤ j → IsAt es j f → IsApart (run_of e first end) (extent_of f j) →
-          IsFar e f
-      far j f past at_f (inl under) = inr (inl under)
-      far j f past at_f (inr (inl above)) = inr (inr above)
-      far j f past at_f (inr (inr (inl behind))) = inl (right_of_run j f (omega (arith, behind)) at_f)
-      far j f past at_f (inr (inr (inr before))) = absurd (omega (arith, past, before))
-
       all : (j : ℕ) (f : CountedEdge) → first ≤ j → IsAt es j f → Contains js j ⊎ AreSettled e f
       all j f past at_f =
           let has = extent_there extent_of es ss moved j f at_f in
-          ⊎_elim (λ apart. inr (settled j f at_f (far j f past at_f apart))) (λ there. inl there)
+          ⊎_elim (λ passed. inr (settles j f past at_f passed)) (λ there. inl there)
           (searched.all has.0 (extent_of f j) has.1 (has.1, has.2))
+
+  -- an edge whose box lies apart from that of its run
+  settled_apart : (j : ℕ) (f : CountedEdge) → first ≤ j → IsAt es j f → IsApart (run_of e first end) (extent_of f j) →
+      AreSettled e f
+  settled_apart j f past at_f apart = settled j f at_f (far apart)
+    where
+      far : IsApart (run_of e first end) (extent_of f j) → IsFar e f
+      far (inl under) = inr (inl under)
+      far (inr (inl above)) = inr (inr above)
+      far (inr (inr (inl behind))) = inl (right_of_run j f (omega (arith, behind)) at_f)
+      far (inr (inr (inr before))) = absurd (omega (arith, past, before))
+
+  -- a search that passes over boxes that lie apart
+  pub searched_near : (ss : List Extent) (js : List ℕ) → IsPermutation (extents_of es) ss →
+      IsSearchedTo ss (run_of e first end) (length ss) js → AreNearBehind es e first js
+  searched_near ss js moved searched = searched_by (IsApart (run_of e first end)) ss js moved settled_apart searched
+
+  -- a search that also passes over boxes of edges in bundles beside the edge
+  pub searched_beside : (ss : List Extent) (js : List ℕ) → IsPermutation (extents_of es) ss →
+      IsSearchedBy (IsPassed es e (run_of e first end)) ss (run_of e first end) (length ss) js →
+      AreNearBehind es e first js
+  searched_beside ss js moved searched =
+      searched_by (IsPassed es e (run_of e first end)) ss js moved (λ j f past at_f passed.
+      ⊎_elim (λ apart. settled_apart j f past at_f apart) (λ (beside : (g : CountedEdge) → IsAt es j g → AreSettled e g).
+      beside f at_f) passed) searched

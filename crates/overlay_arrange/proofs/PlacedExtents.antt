@@ -90,3 +90,12 @@ module _ {X : Type 0} (extent : X → ℕ → Extent) where
           get_or-map (λ (n : Numbered X). extent n.item n.place) (numbered 0 xs) has.0 d (extent x j) inside
               ∙ ap₂ extent item_is place_is,
         )
+
+    -- the place of a box is that of an item
+    pub place_there : (k : ℕ) (s : Extent) → ((x : X) (place : ℕ) → (extent x place).first ≡ place) → IsAt ss k s →
+        s.first < length xs
+    place_there k s own at_s =
+        let there = item_there k s at_s in
+        let is : there.0 ≡ s.first = sym (own there.1 there.0) ∙ ap (λ (t : Extent). t.first) there.3 in
+        let inside = there.2.0 in
+        omega (arith, is, inside)

@@ -1,58 +1,89 @@
--- A search of boxes for those that do not lie apart from a box: its begin, a further box, several boxes apart; and all
--- places between two places.
-use Rattle.std.proofs.Common.{◌≡◌, ⊎_elim, inl, inr, ℕ, ◌+◌, ◌<◌, ◌≤◌, List, [], ◌∷◌, ◌++◌, Contains}
+-- A search of boxes for those that do not lie apart from a box: its begin, some boxes passed over, and places that are
+-- added; and all places between two places.
+use Rattle.std.proofs.Common.{◌≡◌, ◌⊎◌, ⊎_elim, inl, inr, ℕ, ◌+◌, ◌<◌, ◌≤◌, List, [], ◌∷◌, ◌++◌, Contains}
 use Rattle.std.proofs.Common.{sym, subst, arith}
 use Rattle.std.proofs.lemmas.Bool.{cases_lt}
 use Rattle.std.proofs.lemmas.List.Elements.{Contains-append_left, Contains-push, Contains-push_cases}
 use Rattle.std.proofs.Math.Nat.{eq-or-lt_of_le}
 use Rattle.overlay_arrange.specs.Extents.{Extent, IsApart}
 use Rattle.overlay_arrange.specs.Meetings.{IsAt}
-use Rattle.overlay_arrange.specs.Near.{AreApartFrom, AreBetween, IsSearchedTo}
+use Rattle.overlay_arrange.specs.Near.{AreBetween, AreNearAdded, IsSearchedBy}
 use Rattle.overlay_arrange.proofs.GatheredMeetings.{one_entry}
 
-module _ (ss : List Extent) (s : Extent) where
+-- a search that passes over some boxes
+module _ (IsPassed : Extent → Type 0) (ss : List Extent) (s : Extent) where
   -- at first none is searched
-  pub searched_none : IsSearchedTo ss s 0 []
+  pub searched_none : IsSearchedBy IsPassed ss s 0 []
   searched_none = record {
     from = λ j has. absurd (omega (arith, has.1));
     all = λ k t less at_t. absurd (omega (arith, less));
   }
 
   -- those before an earlier place are searched
-  pub searched_before : (at to : ℕ) (js : List ℕ) → to ≤ at → IsSearchedTo ss s at js → IsSearchedTo ss s to js
+  pub searched_before : (at to : ℕ) (js : List ℕ) → to ≤ at → IsSearchedBy IsPassed ss s at js →
+      IsSearchedBy IsPassed ss s to js
   searched_before at to js short searched = record {
     from = searched.from;
     all = λ k t less at_t. searched.all k t (omega (arith, less, short)) at_t;
   }
 
-  -- those that lie apart may be passed over
-  pub searched_past : (at to : ℕ) (js : List ℕ) → AreApartFrom ss s at to → IsSearchedTo ss s at js →
-      IsSearchedTo ss s to js
-  searched_past at to js apart searched = record {
+  -- some may be passed over
+  pub searched_past : (at to : ℕ) (js : List ℕ) →
+      ((k : ℕ) (t : Extent) → at ≤ k → k < to → IsAt ss k t → IsPassed t) → IsSearchedBy IsPassed ss s at js →
+      IsSearchedBy IsPassed ss s to js
+  searched_past at to js passed searched = record {
     from = searched.from;
     all = λ k t less at_t. ⊎_elim (λ before. searched.all k t before at_t)
-        (λ (past : at ≤ k). inl (apart k t past less at_t)) (cases_lt k at);
+        (λ (past : at ≤ k). inl (passed k t past less at_t)) (cases_lt k at);
   }
 
-  module _ (k : ℕ) (t : Extent) (at_t : IsAt ss k t) (js : List ℕ) (searched : IsSearchedTo ss s k js) where
+  -- the places of those that do not lie apart may be added, where boxes that do are passed over
+  pub searched_added : (at to : ℕ) (js more : List ℕ) → ((t : Extent) → IsApart s t → IsPassed t) →
+      AreNearAdded ss s at to js more → IsSearchedBy IsPassed ss s at js → IsSearchedBy IsPassed ss s to more
+  searched_added at to js more passed added searched = record {
+    from = λ j has. ⊎_elim (λ before. searched.from j before) (λ near. near) (added.near j has);
+    all = λ k t less at_t. ⊎_elim
+        (λ before. ⊎_elim (λ over. inl over) (λ has. inr (added.keeps t.first has)) (searched.all k t before at_t))
+        (λ (past : at ≤ k). ⊎_elim (λ apart. inl (passed t apart)) (λ has. inr has)
+        (added.all k t past less at_t)) (cases_lt k at);
+  }
+
+-- places that are added
+module _ (ss : List Extent) (s : Extent) (from : ℕ) (old : List ℕ) where
+  -- at first there is none
+  pub added_none : AreNearAdded ss s from from old old
+  added_none = record {
+    keeps = λ j has. has;
+    near = λ j has. inl has;
+    all = λ k t past less. absurd (omega (arith, past, less));
+  }
+
+  module _ (k : ℕ) (t : Extent) (at_t : IsAt ss k t) (js : List ℕ) (added : AreNearAdded ss s from k old js) where
+    -- the box at place k, or one before it
+    here_or_before : (P : Extent → Type 0) (l : ℕ) (u : Extent) → l < k + 1 → IsAt ss l u → P t → (l < k → P u) → P u
+    here_or_before P l u less at_u here before = ⊎_elim
+        (λ (same : l ≡ k). subst P (one_entry ss k t u at_t (subst (λ n. IsAt ss n u) same at_u)) here) before
+        (eq-or-lt_of_le (let le : l ≤ k = omega (arith, less) in le))
+
     -- one that lies apart is passed over
-    pub searched_apart : IsApart s t → IsSearchedTo ss s (k + 1) js
-    searched_apart apart = searched_past k (k + 1) js (λ l u past less at_u.
-        let same : k ≡ l = omega (arith, past, less) in
-        subst (IsApart s) (one_entry ss k t u at_t (subst (λ n. IsAt ss n u) (sym same) at_u)) apart) searched
+    pub added_apart : IsApart s t → AreNearAdded ss s from (k + 1) old js
+    added_apart apart = record {
+      keeps = added.keeps;
+      near = added.near;
+      all = λ l u past less at_u. here_or_before (λ v. IsApart s v ⊎ Contains js v.first) l u less at_u (inl apart)
+          (λ before. added.all l u past before at_u);
+    }
 
     -- the place of a box that is not apart is added
-    pub searched_near : ¬ (IsApart s t) → IsSearchedTo ss s (k + 1) (js ++ t.first ∷ [])
-    searched_near near = record {
-      from = λ j has. ⊎_elim (λ before. searched.from j before)
-          (λ (is : t.first ≡ j). record { place = k; extent = t; at = at_t; is = is; near = near })
+    pub added_near : ¬ (IsApart s t) → AreNearAdded ss s from (k + 1) old (js ++ t.first ∷ [])
+    added_near near = record {
+      keeps = λ j has. Contains-append_left js (t.first ∷ []) j (added.keeps j has);
+      near = λ j has. ⊎_elim (λ before. added.near j before)
+          (λ (is : t.first ≡ j). inr (record { place = k; extent = t; at = at_t; is = is; near = near }))
           (Contains-push_cases js t.first j has);
-      all = λ l u less at_u. ⊎_elim
-          (λ (same : l ≡ k). inr (subst (λ (v : Extent). Contains (js ++ t.first ∷ []) v.first)
-          (one_entry ss k t u at_t (subst (λ n. IsAt ss n u) same at_u)) (Contains-push js t.first)))
-          (λ (before : l < k). ⊎_elim (λ apart. inl apart)
-          (λ has. inr (Contains-append_left js (t.first ∷ []) u.first has)) (searched.all l u before at_u))
-          (eq-or-lt_of_le (let le : l ≤ k = omega (arith, less) in le));
+      all = λ l u past less at_u. here_or_before (λ v. IsApart s v ⊎ Contains (js ++ t.first ∷ []) v.first) l u less
+          at_u (inr (Contains-push js t.first)) (λ before. ⊎_elim (λ apart. inl apart)
+          (λ has. inr (Contains-append_left js (t.first ∷ []) u.first has)) (added.all l u past before at_u));
     }
 
 -- at first there is no place

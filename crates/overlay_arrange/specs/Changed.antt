@@ -3,7 +3,7 @@ use Rattle.std.specs.Prelude.{◌≡◌, ◌⊎◌, ℕ, ◌<◌, ◌≤◌, ℤ
 use Rattle.overlay_geom.specs.Counts.{Counts}
 use Rattle.overlay_geom.specs.Edges.{CountedEdge, ends_of}
 use Rattle.overlay_arrange.specs.Content.{plain_edges}
-use Rattle.overlay_arrange.specs.Extents.{AreHeldStripsOf}
+use Rattle.overlay_arrange.specs.Strips.{AreHeldStripsOf}
 use Rattle.overlay_arrange.specs.Meetings.{IsAt}
 use Rattle.overlay_arrange.specs.Settle.{AreSettled}
 use Rattle.overlay_arrange.specs.declared.changed.Changed.{Changed}
@@ -57,10 +57,10 @@ pub record AreChangesOf (es : List CountedEdge) (places : List ℕ) (cs : List C
       Contains places i ⊎ (Contains places j ⊎ AreSettled e f)
 
 -- the program's changed edges, with their strips, are such edges
-pub record AreHeldChangesOf {I C A : Type 0} (whole : I → ℤ) (counts : C → Counts) (es : List CountedEdge)
-    (changed : Changed I C A) : Type 0 where
+pub record AreHeldChangesOf {I C A : Type 0} (whole : I → ℤ) (counts : C → Counts) (limit : ℕ)
+    (es : List CountedEdge) (changed : Changed I C A) : Type 0 where
   pub changes : AreChangesOf es changed.places.items (plain_edges whole counts changed.edges.items)
-  pub strips : AreHeldStripsOf whole (plain_edges whole counts changed.edges.items) changed.strips
+  pub strips : AreHeldStripsOf whole limit (plain_edges whole counts changed.edges.items) changed.strips
 
 -- ---- places
 

@@ -7,7 +7,6 @@ use Rattle.overlay_geom.specs.Edges.{CountedEdge}
 use Rattle.overlay_geom.specs.Numbered.{Numbered, numbered}
 use Rattle.overlay_arrange.specs.Meetings.{IsAt}
 use Rattle.overlay_arrange.specs.declared.extents.Extent.{Extent as HeldExtent}
-use Rattle.overlay_arrange.specs.declared.strips.Strips.{Strips}
 
 -- a box: the least and the greatest y-coordinate of edges or points, and their first and last place
 pub record Extent : Type 0 where
@@ -86,22 +85,6 @@ AreInStrips width ss = (k : ℕ) (s : Extent) → IsAt ss k s → (s.first / wid
 abbrev pub AreByHeights : ℕ → List Extent → Type 0
 AreByHeights width ss = (j k : ℕ) (s t : Extent) → j ≤ k → j / width ≡ k / width → IsAt ss j s → IsAt ss k t →
     s.low ≤ℤ t.low
-
--- they are the boxes of the edges, in strips `width` wide
-pub record AreStripsOf (es : List CountedEdge) (width : ℕ) (ss of_8 of_64 of_512 of_4096 of_32768 : List Extent) :
-    Type 0 where
-  pub some : 0 < width
-  pub permutation : IsPermutation (extents_of es) ss
-  pub strips : AreInStrips width ss
-  pub heights : AreByHeights width ss
-  pub blocks : AreInBlocks ss of_8 of_64 of_512 of_4096 of_32768
-
--- the program's strips are such boxes
-abbrev pub AreHeldStripsOf : {I A : Type 0} → (I → ℤ) → List CountedEdge → Strips I A → Type 0
-AreHeldStripsOf whole es strips =
-    AreStripsOf es strips.width (plain_extents whole strips.edges.items) (plain_extents whole strips.of_8.items)
-    (plain_extents whole strips.of_64.items) (plain_extents whole strips.of_512.items)
-    (plain_extents whole strips.of_4096.items) (plain_extents whole strips.of_32768.items)
 
 -- they are the boxes of the points, in strips `width` wide
 pub record ArePointsByStrips (vs : List Point) (width : ℕ) (ss : List Extent) : Type 0 where

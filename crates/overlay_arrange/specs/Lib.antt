@@ -1,4 +1,5 @@
 pub mod Arranged
+pub mod Bundles
 pub mod Changed
 pub mod Content
 pub mod Counts
@@ -23,4 +24,5 @@ pub mod SnapMeetings
 pub mod Snapping
 pub mod Starts
 pub mod Stores
+pub mod Strips
 pub mod Vectors

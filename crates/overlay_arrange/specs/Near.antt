@@ -39,10 +39,21 @@ pub record IsNearAt (ss : List Extent) (s : Extent) (j : ℕ) : Type 0 where
   pub is : extent.first ≡ j
   pub near : ¬ (IsApart s extent)
 
--- the places of the boxes before `at` that do not lie apart from s
-pub record IsSearchedTo (ss : List Extent) (s : Extent) (at : ℕ) (js : List ℕ) : Type 0 where
+-- the places of boxes before `at` that do not lie apart from s: those of all that are not passed over
+pub record IsSearchedBy (IsPassed : Extent → Type 0) (ss : List Extent) (s : Extent) (at : ℕ) (js : List ℕ) :
+    Type 0 where
   pub from : (j : ℕ) → Contains js j → IsNearAt ss s j
-  pub all : (k : ℕ) (t : Extent) → k < at → IsAt ss k t → IsApart s t ⊎ Contains js t.first
+  pub all : (k : ℕ) (t : Extent) → k < at → IsAt ss k t → IsPassed t ⊎ Contains js t.first
+
+-- the places of the boxes before `at` that do not lie apart from s
+abbrev pub IsSearchedTo : List Extent → Extent → ℕ → List ℕ → Type 0
+IsSearchedTo ss s at js = IsSearchedBy (IsApart s) ss s at js
+
+-- the places of the boxes from `from` up to `to` that do not lie apart from s are added
+pub record AreNearAdded (ss : List Extent) (s : Extent) (from to : ℕ) (old new : List ℕ) : Type 0 where
+  pub keeps : (j : ℕ) → Contains old j → Contains new j
+  pub near : (j : ℕ) → Contains new j → Contains old j ⊎ IsNearAt ss s j
+  pub all : (k : ℕ) (t : Extent) → from ≤ k → k < to → IsAt ss k t → IsApart s t ⊎ Contains new t.first
 
 -- all places from `from` up to `to`
 pub record AreBetween (from to : ℕ) (js : List ℕ) : Type 0 where

@@ -5,7 +5,7 @@ ghost use Rattle.overlay_plane.specs.Carried.{edges_in};
 ghost use Rattle.overlay_arrange.specs.Changed.{AreChangedBefore, AreHeldChangesOf, AreOpenIn, ArePlacesAt, StandAt};
 ghost use Rattle.overlay_arrange.specs.Changed.{IsFirstFrom, WasClosed};
 ghost use Rattle.overlay_arrange.specs.Content.{plain_edge, plain_edges, IsAscending, IsHeld};
-ghost use Rattle.overlay_arrange.specs.Extents.{AreHeldStripsOf};
+ghost use Rattle.overlay_arrange.specs.Strips.{AreHeldStripsOf};
 ghost use Rattle.overlay_arrange.specs.Near.{AreNear};
 
 use crate::content::Content;
@@ -48,7 +48,7 @@ pub(crate) fn changes_since<I: IntNumber, C: EdgeCount, A: Allocator + Clone>(
     requires ascending { IsAscending (plain_edges I.whole C.counts edges.now) }
     requires before { IfSome before.now (λ s. AreOpenIn (edges_in s.edges) s.is_open.items) }
     ensures ok { IfOk result (λ found.
-        IfSome found (AreHeldChangesOf I.whole C.counts (plain_edges I.whole C.counts edges.now))) }
+        IfSome found (AreHeldChangesOf I.whole C.counts I.limit (plain_edges I.whole C.counts edges.now))) }
 {
     let Some(before) = before else {
         return Ok(None);
@@ -152,9 +152,9 @@ pub(crate) fn find_open<I: IntNumber, C: EdgeCount, A: Allocator>(
 ) -> Result<(), AllocError>
     requires held { All (IsHeld I.limit) (plain_edges I.whole C.counts edges.now) }
     requires ascending { IsAscending (plain_edges I.whole C.counts edges.now) }
-    requires strips { AreHeldStripsOf I.whole (plain_edges I.whole C.counts edges.now) strips.now }
+    requires strips { AreHeldStripsOf I.whole I.limit (plain_edges I.whole C.counts edges.now) strips.now }
     requires changed { IfSome changed.now
-        (AreHeldChangesOf I.whole C.counts (plain_edges I.whole C.counts edges.now)) }
+        (AreHeldChangesOf I.whole C.counts I.limit (plain_edges I.whole C.counts edges.now)) }
     requires within { i < length edges.now }
     ensures ok { OnOk result (AreNear (plain_edges I.whole C.counts edges.now) i near.new.items) }
 {

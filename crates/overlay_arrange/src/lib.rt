@@ -3,6 +3,8 @@
 #![tactic(auto)]
 
 pub mod balance;
+mod beside;
+mod bundles;
 mod changed;
 pub mod content;
 pub mod count;
@@ -20,6 +22,7 @@ pub mod fill_test;
 mod gather;
 pub mod graph;
 mod hot;
+mod lines;
 mod meetings;
 mod merge;
 mod near;

@@ -6,7 +6,7 @@ ghost use Rattle.std.specs.List.{AllWithin};
 ghost use Rattle.std.specs.List.Sorted.{IsPartitionPoint, IsPermutation};
 ghost use Rattle.overlay_arrange.specs.Changed.{AreHeldChangesOf, AreOpenBefore, AreOpenIn, StayOpen};
 ghost use Rattle.overlay_arrange.specs.Content.{plain_edges, IsHeld, IsAscending};
-ghost use Rattle.overlay_arrange.specs.Extents.{AreHeldStripsOf};
+ghost use Rattle.overlay_arrange.specs.Strips.{AreHeldStripsOf};
 ghost use Rattle.overlay_arrange.specs.Meetings.{plain_meetings, AreByPlace, AreGathered, AreMeetings};
 ghost use Rattle.overlay_arrange.specs.Meetings.{AreSettledBefore, HasBefore, IsAt, IsRunAt};
 ghost use Rattle.overlay_arrange.specs.Near.{AreNear};
@@ -44,9 +44,9 @@ pub(crate) fn gather<I: IntNumber, C: EdgeCount, A: Allocator + Clone>(
 ) -> Result<(Vec<Meeting<I>, A>, Vec<bool, A>), AllocError>
     requires held { All (IsHeld I.limit) (plain_edges I.whole C.counts edges.now) }
     requires ascending { IsAscending (plain_edges I.whole C.counts edges.now) }
-    requires strips { AreHeldStripsOf I.whole (plain_edges I.whole C.counts edges.now) strips.now }
+    requires strips { AreHeldStripsOf I.whole I.limit (plain_edges I.whole C.counts edges.now) strips.now }
     requires changed { IfSome changed.now
-        (AreHeldChangesOf I.whole C.counts (plain_edges I.whole C.counts edges.now)) }
+        (AreHeldChangesOf I.whole C.counts I.limit (plain_edges I.whole C.counts edges.now)) }
     requires settled { AreSettledBefore (plain_edges I.whole C.counts edges.now) from }
     ensures ok { IfOk result (λ gathered. AreMeetings
         (plain_edges I.whole C.counts edges.now) (plain_meetings I.whole gathered.0.items)) }

@@ -3,20 +3,27 @@
 ghost use Rattle.std.specs.Prelude.{◌≡◌, ◌⊎◌, ◌+◌, ◌≤◌, ◌<◌, ◌/◌, [], All, length, IsTrue, OnOk};
 ghost use Rattle.overlay_arrange.specs.Content.{plain_edge, plain_edges, IsAscending, IsHeld};
 ghost use Rattle.overlay_arrange.specs.Extents.{plain_extent, plain_extents, AreByHeights, AreInBlocks};
-ghost use Rattle.overlay_arrange.specs.Extents.{AreHeldStripsOf, AreInStrips};
-ghost use Rattle.overlay_arrange.specs.Near.{run_of, AreApartFrom, AreBetween, AreNearBehind, BeginsApart};
-ghost use Rattle.overlay_arrange.specs.Near.{IsSearchedTo};
+ghost use Rattle.overlay_arrange.specs.Extents.{AreInStrips};
+ghost use Rattle.overlay_arrange.specs.Strips.{AreHeldStripsOf};
+ghost use Rattle.overlay_arrange.specs.Near.{run_of, AreApartFrom, AreBetween, AreNearAdded, AreNearBehind};
+ghost use Rattle.overlay_arrange.specs.Near.{BeginsApart, IsSearchedTo};
 
+use crate::beside::find_in_bundles;
 use crate::count::EdgeCount;
 use crate::edge::CountedEdge;
 use crate::extents::{Extent, extent_of, is_apart, is_under};
+use crate::settle::meet_in_ends;
 use crate::spans::run_end;
-use crate::strips::Strips;
+use crate::strips::{SAMPLES, Strips};
 use overlay_geom::number::IntNumber;
 use std::alloc::{AllocError, Allocator};
 
 // Length of a run from which on it is searched by blocks; a shorter run is taken whole.
 const FEW: usize = 8;
+// Number of edges from which on bundles may be made, and of edges that an edge of a sample then finds on average.
+const MANY: usize = 4096;
+
+const FOUND: usize = 64;
 // Number of boxes that are tested one by one at a time.
 const BLOCK: usize = 8;
 
@@ -32,7 +39,7 @@ pub(crate) fn find_near_behind<I: IntNumber, C: EdgeCount, A: Allocator>(
 ) -> Result<(), AllocError>
     requires held { All (IsHeld I.limit) (plain_edges I.whole C.counts edges.now) }
     requires ascending { IsAscending (plain_edges I.whole C.counts edges.now) }
-    requires strips { AreHeldStripsOf I.whole (plain_edges I.whole C.counts edges.now) strips.now }
+    requires strips { AreHeldStripsOf I.whole I.limit (plain_edges I.whole C.counts edges.now) strips.now }
     requires one { IsHeld I.limit (plain_edge I.whole C.counts e.now) }
     requires within { from ≤ length edges.now }
     ensures ok { OnOk result (AreNearBehind (plain_edges I.whole C.counts edges.now) (plain_edge I.whole C.counts e.now)
@@ -42,9 +49,60 @@ pub(crate) fn find_near_behind<I: IntNumber, C: EdgeCount, A: Allocator>(
     near.clear();
     if end - from < FEW {
         take_run(near, from, end)
+    } else if let Some(bundles) = &strips.bundles {
+        find_in_bundles(near, bundles, e, run_of(e, from, end))
     } else {
         find_by_blocks(near, strips, run_of(e, from, end))
     }
+}
+
+/// Returns whether edges of a sample find many edges by their boxes, and meet few of them elsewhere than in ends. It only
+/// serves as an estimate. Short lists are not tried.
+pub(crate) fn misses_many<I: IntNumber, C: EdgeCount, A: Allocator>(
+    alloc: A,
+    edges: &[CountedEdge<I, C>],
+    strips: &Strips<I, A>,
+) -> Result<bool, AllocError>
+    requires held { All (IsHeld I.limit) (plain_edges I.whole C.counts edges.now) }
+    requires ascending { IsAscending (plain_edges I.whole C.counts edges.now) }
+    requires strips { AreHeldStripsOf I.whole I.limit (plain_edges I.whole C.counts edges.now) strips.now }
+{
+    if edges.len() < MANY {
+        return Ok(false);
+    }
+    let distance = edges.len() / SAMPLES;
+    let mut near = Vec::new(alloc);
+    let mut found: usize = 0;
+    let mut met: usize = 0;
+    for k in 0..SAMPLES {
+        let i = k.saturating_mul(distance);
+        if i < edges.len() {
+            let e = &edges[i];
+            find_near_behind(&mut near, edges, strips, e, i + 1)?;
+            found = found.saturating_add(near.len());
+            met = met.saturating_add(count_met(edges, e, &near));
+        }
+    }
+    Ok(found / SAMPLES >= FOUND && found / 4 > met)
+}
+
+/// Returns how many of the edges at the places e meets elsewhere than in ends.
+fn count_met<I: IntNumber, C: EdgeCount>(
+    edges: &[CountedEdge<I, C>],
+    e: &CountedEdge<I, C>,
+    places: &[usize],
+) -> usize
+    requires held { All (IsHeld I.limit) (plain_edges I.whole C.counts edges.now) }
+    requires one { IsHeld I.limit (plain_edge I.whole C.counts e.now) }
+    requires within { All (λ j. j < length edges.now) places.now }
+{
+    let mut count: usize = 0;
+    for place in places {
+        if !meet_in_ends(e, &edges[*place]) {
+            count = count.saturating_add(1);
+        }
+    }
+    count
 }
 
 /// Takes all places from `from` up to `to`.
@@ -181,7 +239,7 @@ fn begins_apart<I: IntNumber>(blocks: &[Extent<I>], size: usize, of: Extent<I>, 
 }
 
 /// Adds the places of the boxes from `from` up to `to` that do not lie apart from `of`.
-fn push_near<I: IntNumber, A: Allocator>(
+pub(crate) fn push_near<I: IntNumber, A: Allocator>(
     near: &mut Vec<usize, A>,
     of: Extent<I>,
     extents: &[Extent<I>],
@@ -190,9 +248,8 @@ fn push_near<I: IntNumber, A: Allocator>(
 ) -> Result<(), AllocError>
     requires ordered { from ≤ to }
     requires within { to ≤ length extents.now }
-    requires so_far { IsSearchedTo (plain_extents I.whole extents.now) (plain_extent I.whole of) from near.old.items }
-    ensures ok { OnOk result (IsSearchedTo (plain_extents I.whole extents.now) (plain_extent I.whole of)
-        to near.new.items) }
+    ensures ok { OnOk result (AreNearAdded (plain_extents I.whole extents.now) (plain_extent I.whole of)
+        from to near.old.items near.new.items) }
 {
     for k in from..to {
         let extent = extents[k];

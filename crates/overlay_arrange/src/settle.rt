@@ -6,7 +6,7 @@ ghost use Rattle.overlay_geom.specs.Resolved.{IsPlaced};
 ghost use Rattle.overlay_geom.specs.Settled.{MeetInEnds, IsSettled};
 ghost use Rattle.overlay_arrange.specs.Changed.{AreHeldChangesOf};
 ghost use Rattle.overlay_arrange.specs.Content.{plain_edge, plain_edges, IsHeld, IsAscending};
-ghost use Rattle.overlay_arrange.specs.Extents.{AreHeldStripsOf};
+ghost use Rattle.overlay_arrange.specs.Strips.{AreHeldStripsOf};
 ghost use Rattle.overlay_arrange.specs.Meetings.{AreSettledBefore, AreSettledUpTo};
 ghost use Rattle.overlay_arrange.specs.Near.{AreNear};
 
@@ -47,9 +47,9 @@ pub(crate) fn count_settled<I: IntNumber, C: EdgeCount, A: Allocator>(
 ) -> Result<usize, AllocError>
     requires held { All (IsHeld I.limit) (plain_edges I.whole C.counts edges.now) }
     requires ascending { IsAscending (plain_edges I.whole C.counts edges.now) }
-    requires strips { AreHeldStripsOf I.whole (plain_edges I.whole C.counts edges.now) strips.now }
+    requires strips { AreHeldStripsOf I.whole I.limit (plain_edges I.whole C.counts edges.now) strips.now }
     requires changed { IfSome changed.now
-        (AreHeldChangesOf I.whole C.counts (plain_edges I.whole C.counts edges.now)) }
+        (AreHeldChangesOf I.whole C.counts I.limit (plain_edges I.whole C.counts edges.now)) }
     ensures ok { IfOk result (λ count. AreSettledBefore (plain_edges I.whole C.counts edges.now) count) }
     ensures most { IfOk result (λ count. count < length edges.now
         → ¬ (AreSettledUpTo (plain_edges I.whole C.counts edges.now) count (length edges.now))) }

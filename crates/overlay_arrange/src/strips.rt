@@ -5,12 +5,15 @@ ghost use Rattle.std.specs.List.Sorted.{IsPermutation};
 ghost use Rattle.overlay_geom.specs.Points.{plain_points};
 ghost use Rattle.overlay_arrange.specs.Content.{plain_edges, IsAscending, IsHeld};
 ghost use Rattle.overlay_arrange.specs.Extents.{extents_of, extents_of_points, plain_extents, AreBlocks, AreByHeights};
-ghost use Rattle.overlay_arrange.specs.Extents.{AreAtPlaces, AreHeldStripsOf, AreInStrips, ArePointsByStrips};
+ghost use Rattle.overlay_arrange.specs.Extents.{AreAtPlaces, AreInStrips, ArePointsByStrips};
+ghost use Rattle.overlay_arrange.specs.Strips.{AreHeldStripsOf};
 ghost use Rattle.overlay_arrange.specs.declared.extents.Extent.{Extent};
 
+use crate::bundles::{Bundles, bundles_of};
 use crate::count::EdgeCount;
 use crate::edge::CountedEdge;
 use crate::extents::{Extent, extent_of, extent_of_point, joined};
+use crate::near::misses_many;
 use crate::spans::length_of_runs;
 use overlay_geom::number::IntNumber;
 use overlay_geom::point::IntPoint;
@@ -44,16 +47,39 @@ pub(crate) struct Strips<I: Copy, A: Allocator> {
     pub of_4096: Vec<Extent<I>, A>,
     /// The boxes of each 32768 edges.
     pub of_32768: Vec<Extent<I>, A>,
+    /// The bundles of the edges, where a search by boxes alone would find many edges that an edge does not meet.
+    pub bundles: Option<Bundles<I, A>>,
 }
 
-/// Makes the strips of the edges.
+/// Makes the strips of the edges, with bundles where a search by boxes alone would find many edges that an edge does
+/// not meet.
 pub(crate) fn strips_of<I: IntNumber, C: EdgeCount, A: Allocator + Clone>(
     alloc: A,
     edges: &[CountedEdge<I, C>],
 ) -> Result<Strips<I, A>, AllocError>
     requires held { All (IsHeld I.limit) (plain_edges I.whole C.counts edges.now) }
     requires ascending { IsAscending (plain_edges I.whole C.counts edges.now) }
-    ensures ok { IfOk result (AreHeldStripsOf I.whole (plain_edges I.whole C.counts edges.now)) }
+    ensures ok { IfOk result (AreHeldStripsOf I.whole I.limit (plain_edges I.whole C.counts edges.now)) }
+{
+    let strips = strips_of_boxes(alloc.clone()?, edges)?;
+    if !misses_many(alloc.clone()?, edges, &strips)? {
+        return Ok(strips);
+    }
+    let bundles = bundles_of(alloc, edges)?;
+    Ok(Strips {
+        bundles: Some(bundles),
+        ..strips
+    })
+}
+
+/// Makes the strips of the edges, without bundles.
+fn strips_of_boxes<I: IntNumber, C: EdgeCount, A: Allocator + Clone>(
+    alloc: A,
+    edges: &[CountedEdge<I, C>],
+) -> Result<Strips<I, A>, AllocError>
+    requires held { All (IsHeld I.limit) (plain_edges I.whole C.counts edges.now) }
+    requires ascending { IsAscending (plain_edges I.whole C.counts edges.now) }
+    ensures ok { IfOk result (AreHeldStripsOf I.whole I.limit (plain_edges I.whole C.counts edges.now)) }
 {
     let width = strip_width(length_of_runs(edges, SAMPLES));
     let extents = edges_by_strips(alloc.clone()?, edges, width)?;
@@ -70,6 +96,7 @@ pub(crate) fn strips_of<I: IntNumber, C: EdgeCount, A: Allocator + Clone>(
         of_512,
         of_4096,
         of_32768,
+        bundles: None,
     })
 }
 
@@ -116,7 +143,7 @@ pub(crate) fn points_by_strips<I: IntNumber, A: Allocator + Clone>(
 }
 
 /// Returns the boxes of the edges, each at its place.
-fn extents_of_edges<I: IntNumber, C: EdgeCount, A: Allocator>(
+pub(crate) fn extents_of_edges<I: IntNumber, C: EdgeCount, A: Allocator>(
     alloc: A,
     edges: &[CountedEdge<I, C>],
 ) -> Result<Vec<Extent<I>, A>, AllocError>

@@ -1,12 +1,13 @@
 -- The whole run is taken, or searched.
-use Rattle.std.proofs.Common.{length, sym, ap, subst, arith}
+use Rattle.std.proofs.Common.{IfSome, length, sym, ap, subst, arith}
 use Rattle.std.proofs.lemmas.List.{length-map}
 use Rattle.std.proofs.lemmas.List.Sorted.{length_permutation}
 use Rattle.std.proofs.lemmas.Result.{on_ok_weaker}
+use Rattle.overlay_arrange.specs.Bundles.{AreBundlesOf, IsPassed}
 use Rattle.overlay_arrange.specs.Content.{plain_edge, plain_edges}
 use Rattle.overlay_arrange.specs.Extents.{Extent, extent_of, extents_of, plain_extent, plain_extents}
-use Rattle.overlay_arrange.specs.Near.{run_of, IsSearchedTo}
-use Rattle.overlay_arrange.proofs.NearEdges.{run_near, searched_near}
+use Rattle.overlay_arrange.specs.Near.{run_of, IsSearchedBy, IsSearchedTo}
+use Rattle.overlay_arrange.proofs.NearEdges.{run_near, searched_beside, searched_near}
 use Rattle.overlay_arrange.proofs.PlacedExtents.{as_many_placed}
 use Rattle.overlay_arrange.proofs.near.find_near_behind.Goals as goal
 
@@ -23,7 +24,7 @@ find_by_blocks-requires-clause-within g c =
     let whole = g.I.IntNumber.whole in
     let plain = plain_edge whole g.C.EdgeCount.counts in
     let extents = c.args.strips.now.edges.items in
-    let last = ap (λ (s : Extent). s.last) c.run_of.ensures in
+    let last = ap (λ (s : Extent). s.last) c.run_of-in_default.ensures in
     let es = plain_edges whole g.C.EdgeCount.counts c.args.edges.now in
     let moved = length_permutation (extents_of es) (plain_extents whole extents) c.requires.strips.permutation in
     let count = as_many_placed extent_of es in
@@ -33,8 +34,8 @@ find_by_blocks-requires-clause-within g c =
     let up_to = c.run_end-end.ensures.within in
     omega (arith, last, moved, count, l, m, ordered, up_to)
 
-pub returns-else-end-from-lt-FEW : goal.returns-else-end-from-lt-FEW
-returns-else-end-from-lt-FEW g c = record {
+pub returns-in_default : goal.returns-in_default
+returns-in_default g c = record {
   ok = let whole = g.I.IntNumber.whole in
       let plain = plain_edge whole g.C.EdgeCount.counts in
       let es = plain_edges whole g.C.EdgeCount.counts c.args.edges.now in
@@ -47,5 +48,33 @@ returns-else-end-from-lt-FEW g c = record {
       (λ searched. searched_near es c.args.from end e g.I.IntNumber.limit c.requires.held c.requires.one
       c.requires.ascending c.run_end-end.ensures ss js c.requires.strips.permutation
       (subst (λ n. IsSearchedTo ss (run_of e c.args.from end) n js) (sym (length-map extents (plain_extent whole)))
-      (subst (λ s. IsSearchedTo ss s (length extents) js) c.run_of.ensures searched))) c.find_by_blocks.ensures.ok;
+      (subst (λ s. IsSearchedTo ss s (length extents) js) c.run_of-in_default.ensures searched)))
+      c.find_by_blocks.ensures.ok;
+}
+
+pub find_in_bundles-requires-clause-bundles : goal.find_in_bundles-requires-clause-bundles
+find_in_bundles-requires-clause-bundles g c =
+    let whole = g.I.IntNumber.whole in
+    let es = plain_edges whole g.C.EdgeCount.counts c.args.edges.now in
+    (es, subst (λ o. IfSome o (AreBundlesOf whole g.I.IntNumber.limit es)) c.in-Some.is c.requires.strips.bundles)
+
+pub returns-in-Some : goal.returns-in-Some
+returns-in-Some g c = record {
+  ok = let whole = g.I.IntNumber.whole in
+      let plain = plain_edge whole g.C.EdgeCount.counts in
+      let es = plain_edges whole g.C.EdgeCount.counts c.args.edges.now in
+      let e = plain c.args.e.now in
+      let end = c.run_end-end.result in
+      let of = run_of e c.args.from end in
+      let extents = c.in-Some.bundles.edges.items in
+      let ss = plain_extents whole extents in
+      let js = c.find_in_bundles.new.near.items in
+      let bundles = subst (λ o. IfSome o (AreBundlesOf whole g.I.IntNumber.limit es)) c.in-Some.is
+      c.requires.strips.bundles in
+      on_ok_weaker c.find_in_bundles.result
+      (λ searched. searched_beside es c.args.from end e g.I.IntNumber.limit c.requires.held c.requires.one
+      c.requires.ascending c.run_end-end.ensures ss js bundles.permutation
+      (subst (λ n. IsSearchedBy (IsPassed es e of) ss of n js) (sym (length-map extents (plain_extent whole)))
+      (subst (λ s. IsSearchedBy (IsPassed es e s) ss s (length extents) js) c.run_of.ensures
+      (searched es bundles)))) c.find_in_bundles.ensures.ok;
 }
