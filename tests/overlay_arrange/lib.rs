@@ -1,5 +1,6 @@
 //! Tests of `overlay_arrange`: edges that are merged, cut and filled.
 
+mod bundles;
 mod copies;
 mod cut;
 mod data;

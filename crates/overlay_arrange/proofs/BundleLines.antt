@@ -1,5 +1,5 @@
--- The two lines of a bundle: moved apart they reach a further point, and an edge with both ends beyond one of them meets
--- no edge between them.
+-- The two lines of a bundle: moved apart they reach a further point. An edge with both ends beyond one of them meets no
+-- edge between them.
 use Rattle.std.proofs.Common.{◌≡◌, ◌⊎◌, inl, inr, ℕ, ℤ, pos, ◌+ℤ◌, ◌-ℤ◌, ◌*ℤ◌, ◌<ℤ◌, ◌≤ℤ◌, refl, sym, ◌∙◌, subst}
 use Rattle.std.proofs.lemmas.Int.{by_lt_z}
 use Rattle.overlay_geom.specs.Edges.{CountedEdge, ends_of}

@@ -87,5 +87,5 @@ module _ (es : List CountedEdge) (first end : ℕ) (e : CountedEdge) (limit : �
       AreNearBehind es e first js
   searched_beside ss js moved searched =
       searched_by (IsPassed es e (run_of e first end)) ss js moved (λ j f past at_f passed.
-      ⊎_elim (λ apart. settled_apart j f past at_f apart) (λ (beside : (g : CountedEdge) → IsAt es j g → AreSettled e g).
-      beside f at_f) passed) searched
+      ⊎_elim (λ apart. settled_apart j f past at_f apart)
+      (λ (beside : (g : CountedEdge) → IsAt es j g → AreSettled e g). beside f at_f) passed) searched

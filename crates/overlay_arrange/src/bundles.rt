@@ -31,8 +31,8 @@ pub(crate) struct Bundle<I> {
     pub right: IntPoint<I>,
 }
 
-/// The boxes of the edges of a list, in the order of their lines, and bundles of each 8, 64, 512, 4096 and 32768 of them.
-/// A bundle of n begins at each multiple of n.
+/// The boxes of the edges of a list, in the order of their lines, and the bundles of each 8, 64, 512, 4096 and 32768 of
+/// them. A bundle of n begins at each multiple of n.
 #[derive(Drop)]
 pub(crate) struct Bundles<I: Copy, A: Allocator> {
     /// The boxes of the edges.

@@ -56,8 +56,8 @@ pub(crate) fn find_near_behind<I: IntNumber, C: EdgeCount, A: Allocator>(
     }
 }
 
-/// Returns whether edges of a sample find many edges by their boxes, and meet few of them elsewhere than in ends. It only
-/// serves as an estimate. Short lists are not tried.
+/// Returns whether the edges of a sample find many edges by their boxes, and meet few of them elsewhere than in ends.
+/// It only serves as an estimate. Short lists are not tried.
 pub(crate) fn misses_many<I: IntNumber, C: EdgeCount, A: Allocator>(
     alloc: A,
     edges: &[CountedEdge<I, C>],

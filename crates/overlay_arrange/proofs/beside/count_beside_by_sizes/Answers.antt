@@ -36,10 +36,12 @@ returns-then-begins_beside g c es of =
     bundle_passed g.I.IntNumber.limit 32768 es (plain_extents whole bundles.edges.items)
     (plain_bundles whole bundles.of_32768.items) of.permutation of.by_32768 e s c.args.at (omega arith) of.es_held
     c.requires.one
-    (subst (λ (xs : List _). BeginsBeside (plain_bundles whole xs) 32768 e s c.args.at) c.deref.ensures.value
+    (subst (λ (xs : List _). BeginsBeside (plain_bundles whole xs) 32768 e s c.args.at)
+    c.deref.ensures.value
     (c.if-begins_beside.ensures refl))
 
-pub begins_beside-requires-else-begins_beside-clause-within : goal.begins_beside-requires-else-begins_beside-clause-within
+pub begins_beside-requires-else-begins_beside-clause-within :
+    goal.begins_beside-requires-else-begins_beside-clause-within
 begins_beside-requires-else-begins_beside-clause-within g c =
     let whole = g.I.IntNumber.whole in
     let e = plain_edge whole g.C.EdgeCount.counts c.args.e.now in
@@ -69,10 +71,12 @@ returns-then-begins_beside-2 g c es of =
     bundle_passed g.I.IntNumber.limit 4096 es (plain_extents whole bundles.edges.items)
     (plain_bundles whole bundles.of_4096.items) of.permutation of.by_4096 e s c.args.at (omega arith) of.es_held
     c.requires.one
-    (subst (λ (xs : List _). BeginsBeside (plain_bundles whole xs) 4096 e s c.args.at) c.deref-else-begins_beside.ensures.value
+    (subst (λ (xs : List _). BeginsBeside (plain_bundles whole xs) 4096 e s c.args.at)
+    c.deref-else-begins_beside.ensures.value
     (c.if-begins_beside-2.ensures refl))
 
-pub begins_beside-requires-else-begins_beside-2-clause-within : goal.begins_beside-requires-else-begins_beside-2-clause-within
+pub begins_beside-requires-else-begins_beside-2-clause-within :
+    goal.begins_beside-requires-else-begins_beside-2-clause-within
 begins_beside-requires-else-begins_beside-2-clause-within g c =
     let whole = g.I.IntNumber.whole in
     let e = plain_edge whole g.C.EdgeCount.counts c.args.e.now in
@@ -88,7 +92,8 @@ begins_beside-requires-else-begins_beside-2-clause-within g c =
     (bundle_held (plain_extent whole) (plain_bundle whole) g.I.IntNumber.limit 512 some.0 bundles.edges.items
     bundles.of_512.items d c.args.at some.1.permutation some.1.by_512 c.requires.within)
 
-pub begins_beside-requires-else-begins_beside-2-clause-held : goal.begins_beside-requires-else-begins_beside-2-clause-held
+pub begins_beside-requires-else-begins_beside-2-clause-held :
+    goal.begins_beside-requires-else-begins_beside-2-clause-held
 begins_beside-requires-else-begins_beside-2-clause-held g c =
     subst (λ (xs : List _). All (IsHeldBundle g.I.IntNumber.limit) (plain_bundles g.I.IntNumber.whole xs))
     (sym c.deref-else-begins_beside-2.ensures.value) c.requires.bundles.1.by_512.held
@@ -102,10 +107,12 @@ returns-then-begins_beside-3 g c es of =
     bundle_passed g.I.IntNumber.limit 512 es (plain_extents whole bundles.edges.items)
     (plain_bundles whole bundles.of_512.items) of.permutation of.by_512 e s c.args.at (omega arith) of.es_held
     c.requires.one
-    (subst (λ (xs : List _). BeginsBeside (plain_bundles whole xs) 512 e s c.args.at) c.deref-else-begins_beside-2.ensures.value
+    (subst (λ (xs : List _). BeginsBeside (plain_bundles whole xs) 512 e s c.args.at)
+    c.deref-else-begins_beside-2.ensures.value
     (c.if-begins_beside-3.ensures refl))
 
-pub begins_beside-requires-else-begins_beside-3-clause-within : goal.begins_beside-requires-else-begins_beside-3-clause-within
+pub begins_beside-requires-else-begins_beside-3-clause-within :
+    goal.begins_beside-requires-else-begins_beside-3-clause-within
 begins_beside-requires-else-begins_beside-3-clause-within g c =
     let whole = g.I.IntNumber.whole in
     let e = plain_edge whole g.C.EdgeCount.counts c.args.e.now in
@@ -121,7 +128,8 @@ begins_beside-requires-else-begins_beside-3-clause-within g c =
     (bundle_held (plain_extent whole) (plain_bundle whole) g.I.IntNumber.limit 64 some.0 bundles.edges.items
     bundles.of_64.items d c.args.at some.1.permutation some.1.by_64 c.requires.within)
 
-pub begins_beside-requires-else-begins_beside-3-clause-held : goal.begins_beside-requires-else-begins_beside-3-clause-held
+pub begins_beside-requires-else-begins_beside-3-clause-held :
+    goal.begins_beside-requires-else-begins_beside-3-clause-held
 begins_beside-requires-else-begins_beside-3-clause-held g c =
     subst (λ (xs : List _). All (IsHeldBundle g.I.IntNumber.limit) (plain_bundles g.I.IntNumber.whole xs))
     (sym c.deref-else-begins_beside-3.ensures.value) c.requires.bundles.1.by_64.held
@@ -135,10 +143,12 @@ returns-then-begins_beside-4 g c es of =
     bundle_passed g.I.IntNumber.limit 64 es (plain_extents whole bundles.edges.items)
     (plain_bundles whole bundles.of_64.items) of.permutation of.by_64 e s c.args.at (omega arith) of.es_held
     c.requires.one
-    (subst (λ (xs : List _). BeginsBeside (plain_bundles whole xs) 64 e s c.args.at) c.deref-else-begins_beside-3.ensures.value
+    (subst (λ (xs : List _). BeginsBeside (plain_bundles whole xs) 64 e s c.args.at)
+    c.deref-else-begins_beside-3.ensures.value
     (c.if-begins_beside-4.ensures refl))
 
-pub begins_beside-requires-else-begins_beside-4-clause-within : goal.begins_beside-requires-else-begins_beside-4-clause-within
+pub begins_beside-requires-else-begins_beside-4-clause-within :
+    goal.begins_beside-requires-else-begins_beside-4-clause-within
 begins_beside-requires-else-begins_beside-4-clause-within g c =
     let whole = g.I.IntNumber.whole in
     let e = plain_edge whole g.C.EdgeCount.counts c.args.e.now in
@@ -154,7 +164,8 @@ begins_beside-requires-else-begins_beside-4-clause-within g c =
     (bundle_held (plain_extent whole) (plain_bundle whole) g.I.IntNumber.limit 8 some.0 bundles.edges.items
     bundles.of_8.items d c.args.at some.1.permutation some.1.by_8 c.requires.within)
 
-pub begins_beside-requires-else-begins_beside-4-clause-held : goal.begins_beside-requires-else-begins_beside-4-clause-held
+pub begins_beside-requires-else-begins_beside-4-clause-held :
+    goal.begins_beside-requires-else-begins_beside-4-clause-held
 begins_beside-requires-else-begins_beside-4-clause-held g c =
     subst (λ (xs : List _). All (IsHeldBundle g.I.IntNumber.limit) (plain_bundles g.I.IntNumber.whole xs))
     (sym c.deref-else-begins_beside-4.ensures.value) c.requires.bundles.1.by_8.held
@@ -168,5 +179,6 @@ returns-then-begins_beside-5 g c es of =
     bundle_passed g.I.IntNumber.limit 8 es (plain_extents whole bundles.edges.items)
     (plain_bundles whole bundles.of_8.items) of.permutation of.by_8 e s c.args.at (omega arith) of.es_held
     c.requires.one
-    (subst (λ (xs : List _). BeginsBeside (plain_bundles whole xs) 8 e s c.args.at) c.deref-else-begins_beside-4.ensures.value
+    (subst (λ (xs : List _). BeginsBeside (plain_bundles whole xs) 8 e s c.args.at)
+    c.deref-else-begins_beside-4.ensures.value
     (c.if-begins_beside-5.ensures refl))

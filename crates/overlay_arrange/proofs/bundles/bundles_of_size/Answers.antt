@@ -76,7 +76,8 @@ index-requires g c =
     (λ x place. refl) at_s in let l = length-map c.args.edges.now edge in omega (arith, inside, l)) in
     let olds = plain_bundles whole c.loop-k.bundles.items in
     let e = edge c.index-edges-extent.result in
-    let at_e = placed_in_mapped edge c.args.edges.now s.first c.index-edges-extent.result bound c.index-edges-extent.is in
+    let at_e = placed_in_mapped edge c.args.edges.now s.first c.index-edges-extent.result bound
+    c.index-edges-extent.is in
     let inside = last_bundle c.args.size c.requires.some es ss olds k c.loop-k.invariant.0 s e at_s at_e
     c.if-k-size-eq0.false in
     let l = length-map c.loop-k.bundles.items (plain_bundle whole) in
@@ -96,7 +97,8 @@ widened-requires-clause-held g c =
     (λ x place. refl) at_s in let l = length-map c.args.edges.now edge in omega (arith, inside, l)) in
     let olds = plain_bundles whole c.loop-k.bundles.items in
     let e = edge c.index-edges-extent.result in
-    let at_e = placed_in_mapped edge c.args.edges.now s.first c.index-edges-extent.result bound c.index-edges-extent.is in
+    let at_e = placed_in_mapped edge c.args.edges.now s.first c.index-edges-extent.result bound
+    c.index-edges-extent.is in
     let inside = last_bundle c.args.size c.requires.some es ss olds k c.loop-k.invariant.0 s e at_s at_e
     c.if-k-size-eq0.false in
     All-mapped_at (IsHeldBundle g.I.IntNumber.limit) (plain_bundle whole) c.loop-k.bundles.items (k / c.args.size)
@@ -132,7 +134,8 @@ index_mut-requires g c =
     (λ x place. refl) at_s in let l = length-map c.args.edges.now edge in omega (arith, inside, l)) in
     let olds = plain_bundles whole c.loop-k.bundles.items in
     let e = edge c.index-edges-extent.result in
-    let at_e = placed_in_mapped edge c.args.edges.now s.first c.index-edges-extent.result bound c.index-edges-extent.is in
+    let at_e = placed_in_mapped edge c.args.edges.now s.first c.index-edges-extent.result bound
+    c.index-edges-extent.is in
     let inside = last_bundle c.args.size c.requires.some es ss olds k c.loop-k.invariant.0 s e at_s at_e
     c.if-k-size-eq0.false in
     let l = length-map c.loop-k.bundles.items (plain_bundle whole) in
@@ -152,7 +155,8 @@ loop-k-preserved g c =
     (λ x place. refl) at_s in let l = length-map c.args.edges.now edge in omega (arith, inside, l)) in
     let olds = plain_bundles whole c.loop-k.bundles.items in
     let e = edge c.index-edges-extent.result in
-    let at_e = placed_in_mapped edge c.args.edges.now s.first c.index-edges-extent.result bound c.index-edges-extent.is in
+    let at_e = placed_in_mapped edge c.args.edges.now s.first c.index-edges-extent.result bound
+    c.index-edges-extent.is in
     let bundle = plain_bundle whole in
     let held = IsHeldBundle g.I.IntNumber.limit in
     elim c.if-k-size-eq0.branch [

@@ -32,7 +32,8 @@ find_near_behind-requires-else-index-i-clause-held g c =
     let counts = g.C.EdgeCount.counts in
     let es = plain_edges whole counts c.args.edges.now in
     let changed = c.in-Some.changed in
-    let known = subst (λ o. IfSome o (AreHeldChangesOf whole counts g.I.IntNumber.limit es)) c.in-Some.is c.requires.changed in
+    let known = subst (λ o. IfSome o (AreHeldChangesOf whole counts g.I.IntNumber.limit es)) c.in-Some.is
+    c.requires.changed in
     subst (λ fs. All (IsHeld g.I.IntNumber.limit) (plain_edges whole counts fs))
     (sym c.deref-else-index-i.ensures.value)
     (changes_held es changed.places.items (plain_edges whole counts changed.edges.items) known.changes
@@ -45,7 +46,8 @@ find_near_behind-requires-else-index-i-clause-ascending g c =
     let counts = g.C.EdgeCount.counts in
     let es = plain_edges whole counts c.args.edges.now in
     let changed = c.in-Some.changed in
-    let known = subst (λ o. IfSome o (AreHeldChangesOf whole counts g.I.IntNumber.limit es)) c.in-Some.is c.requires.changed in
+    let known = subst (λ o. IfSome o (AreHeldChangesOf whole counts g.I.IntNumber.limit es)) c.in-Some.is
+    c.requires.changed in
     subst (λ fs. IsAscending (plain_edges whole counts fs)) (sym c.deref-else-index-i.ensures.value)
     (changes_ascend es changed.places.items (plain_edges whole counts changed.edges.items) known.changes
     c.requires.ascending)
@@ -57,7 +59,8 @@ put_places-requires g c =
     let es = plain_edges whole counts c.args.edges.now in
     let changed = c.in-Some.changed in
     let cs = plain_edges whole counts changed.edges.items in
-    let known = subst (λ o. IfSome o (AreHeldChangesOf whole counts g.I.IntNumber.limit es)) c.in-Some.is c.requires.changed in
+    let known = subst (λ o. IfSome o (AreHeldChangesOf whole counts g.I.IntNumber.limit es)) c.in-Some.is
+    c.requires.changed in
     let near = subst (λ fs. AreNearBehind (plain_edges whole counts fs) (plain_edge whole counts c.index-edges-i.result)
     c.first_from-k.result c.find_near_behind-else-index-i.new.near.items) c.deref-else-index-i.ensures.value
     c.in_ok-find_near_behind.ensures.ok in
@@ -73,7 +76,8 @@ returns-then-k-len g c = record {
       let es = plain_edges whole counts c.args.edges.now in
       let changed = c.in-Some.changed in
       let cs = plain_edges whole counts changed.edges.items in
-      let known = subst (λ o. IfSome o (AreHeldChangesOf whole counts g.I.IntNumber.limit es)) c.in-Some.is c.requires.changed in
+      let known = subst (λ o. IfSome o (AreHeldChangesOf whole counts g.I.IntNumber.limit es)) c.in-Some.is
+      c.requires.changed in
       let e = c.index-edges-i.result in
       let at_e = placed_in_mapped (plain_edge whole counts) c.args.edges.now c.args.i e c.requires.within
       c.index-edges-i.is in
@@ -105,7 +109,8 @@ returns-in_ok-find_near_behind g c = record {
       let es = plain_edges whole counts c.args.edges.now in
       let changed = c.in-Some.changed in
       let cs = plain_edges whole counts changed.edges.items in
-      let known = subst (λ o. IfSome o (AreHeldChangesOf whole counts g.I.IntNumber.limit es)) c.in-Some.is c.requires.changed in
+      let known = subst (λ o. IfSome o (AreHeldChangesOf whole counts g.I.IntNumber.limit es)) c.in-Some.is
+      c.requires.changed in
       let e = c.index-edges-i.result in
       let at_e = placed_in_mapped (plain_edge whole counts) c.args.edges.now c.args.i e c.requires.within
       c.index-edges-i.is in
