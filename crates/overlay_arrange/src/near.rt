@@ -14,14 +14,17 @@ use crate::edge::CountedEdge;
 use crate::extents::{Extent, extent_of, is_apart, is_under};
 use crate::settle::meet_in_ends;
 use crate::spans::run_end;
-use crate::strips::{SAMPLES, Strips};
+use crate::strips::Strips;
 use overlay_geom::number::IntNumber;
 use std::alloc::{AllocError, Allocator};
 
 // Length of a run from which on it is searched by blocks; a shorter run is taken whole.
 const FEW: usize = 8;
-// Number of edges from which on bundles may be made, and of edges that an edge of a sample then finds on average.
+// Number of edges from which on bundles may be made, of edges in a sample, and of edges that such an edge then finds on
+// average.
 const MANY: usize = 4096;
+
+const SAMPLE: usize = 16;
 
 const FOUND: usize = 64;
 // Number of boxes that are tested one by one at a time.
@@ -70,11 +73,11 @@ pub(crate) fn misses_many<I: IntNumber, C: EdgeCount, A: Allocator>(
     if edges.len() < MANY {
         return Ok(false);
     }
-    let distance = edges.len() / SAMPLES;
+    let distance = edges.len() / SAMPLE;
     let mut near = Vec::new(alloc);
     let mut found: usize = 0;
     let mut met: usize = 0;
-    for k in 0..SAMPLES {
+    for k in 0..SAMPLE {
         let i = k.saturating_mul(distance);
         if i < edges.len() {
             let e = &edges[i];
@@ -83,7 +86,7 @@ pub(crate) fn misses_many<I: IntNumber, C: EdgeCount, A: Allocator>(
             met = met.saturating_add(count_met(edges, e, &near));
         }
     }
-    Ok(found / SAMPLES >= FOUND && found / 4 > met)
+    Ok(found / SAMPLE >= FOUND && found / 4 > met)
 }
 
 /// Returns how many of the edges at the places e meets elsewhere than in ends.
@@ -239,6 +242,7 @@ fn begins_apart<I: IntNumber>(blocks: &[Extent<I>], size: usize, of: Extent<I>, 
 }
 
 /// Adds the places of the boxes from `from` up to `to` that do not lie apart from `of`.
+#[inline(always)]
 pub(crate) fn push_near<I: IntNumber, A: Allocator>(
     near: &mut Vec<usize, A>,
     of: Extent<I>,
