@@ -58,8 +58,8 @@ module _ (limit : ℕ) (es : List CountedEdge) (behind : CountedEdge) (held : Al
       (by_start-from_sorted ends_or forward_or places up i j d less m)))
 
 -- places of all edges are places of edges
-pub numbered_within : (es : List CountedEdge) (places : List ℕ) → IsPermutation (numbered 0 es) (numbered_at es places) →
-    All (λ k. k < length es) places
+pub numbered_within : (es : List CountedEdge) (places : List ℕ) →
+    IsPermutation (numbered 0 es) (numbered_at es places) → All (λ k. k < length es) places
 numbered_within es places moved i d lt =
     let n : Numbered CountedEdge = record { item = edge_at es (get_or places i d); place = get_or places i d } in
     (All-contains (λ (m : Numbered CountedEdge). (m.place < length es) × (get_or es m.place m.item ≡ m.item))

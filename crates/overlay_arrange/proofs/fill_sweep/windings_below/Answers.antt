@@ -35,8 +35,8 @@ returns-then-is_same-clause-below g c = λ e is.
     c.index-edges-starting-then-i-gt0.result (omega arith) c.requires.places c.index-edges-starting-then-i-gt0.is in
     let on : i - 1 + 1 ≡ i = omega arith in
     let same : n ≡ e = sym at_n ∙ get_or_default fs i n e lt ∙ is in
-    let met : point_eq p.a n.a ≡ true = rw c.index-edges-starting-then-i-gt0.is (sym c.is_same.ensures ∙ c.if-is_same.true)
-    in
+    let met : point_eq p.a n.a ≡ true =
+    rw c.index-edges-starting-then-i-gt0.is (sym c.is_same.ensures ∙ c.if-is_same.true) in
     let together : p.a ≡ e.a = point_eq-same p.a n.a met ∙ ap (λ (k : CountedEdge). k.a) same in
     let next : get_or fs (i - 1 + 1) e ≡ e = subst (λ m. get_or fs m e ≡ e) (sym on) is in
     let within : i - 1 + 1 < length fs = omega arith in
