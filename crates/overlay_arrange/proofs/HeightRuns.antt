@@ -1,7 +1,7 @@
 -- Boxes of points sorted by height. If an edge passes above a box, it passes above those before it; if below, below
 -- those behind it. The places of a run of them are added.
 use Rattle.std.proofs.Common.{◌≡◌, ⊎_elim, inl, inr, ℕ, ◌+◌, ◌<◌, ◌≤◌, ℤ, pos, ◌*ℤ◌, ◌-ℤ◌, ◌≤ℤ◌}
-use Rattle.std.proofs.Common.{List, ◌++◌, ◌∷◌, [], Contains, subst, arith}
+use Rattle.std.proofs.Common.{List, ◌++◌, ◌∷◌, [], Contains, sym, subst, arith}
 use Rattle.std.proofs.lemmas.Bool.{cases_lt}
 use Rattle.std.proofs.lemmas.List.Elements.{Contains-append_left, Contains-push, Contains-push_cases}
 use Rattle.std.proofs.Math.Nat.{eq-or-lt_of_le}
@@ -71,6 +71,37 @@ one_place ss from at s at_s past old js adds = record {
       (one_entry ss at s t at_s (subst (λ n. IsAt ss n t) same at_t)) (Contains-push js s.first))
       (λ (before : k < at). Contains-append_left js (s.first ∷ []) t.first (adds.all k t behind before at_t))
       (eq-or-lt_of_le (let le : k ≤ at = omega (arith, less) in le));
+}
+
+-- that of one box more before the others
+pub one_place_before : (ss : List Extent) (at to : ℕ) (s : Extent) → IsAt ss at s → at < to → (old js : List ℕ) →
+    AddsPlaces ss (at + 1) to old js → AddsPlaces ss at to old (js ++ s.first ∷ [])
+one_place_before ss at to s at_s less old js adds = record {
+  kept = λ j has. Contains-append_left js (s.first ∷ []) j (adds.kept j has);
+  given = λ j has. ⊎_elim
+      (λ before. ⊎_elim (λ one. inl one) (λ (p : IsPlaceOf ss (at + 1) to j). inr (record {
+        place = p.place;
+        extent = p.extent;
+        past = (let past = p.past in omega (arith, past));
+        less = p.less;
+        at = p.at;
+        is = p.is;
+      })) (adds.given j before))
+      (λ (is : s.first ≡ j). inr (record {
+        place = at;
+        extent = s;
+        past = omega arith;
+        less = less;
+        at = at_s;
+        is = is;
+      }))
+      (Contains-push_cases js s.first j has);
+  all = λ k t past under at_t. ⊎_elim
+      (λ (same : at ≡ k). subst (λ (u : Extent). Contains (js ++ s.first ∷ []) u.first)
+      (one_entry ss at s t at_s (subst (λ n. IsAt ss n t) (sym same) at_t)) (Contains-push js s.first))
+      (λ (behind : at < k). Contains-append_left js (s.first ∷ []) t.first
+      (adds.all k t (omega (arith, behind)) under at_t))
+      (eq-or-lt_of_le past);
 }
 
 -- ---- the run

@@ -45,6 +45,7 @@ pub mod PairMeetings
 pub mod PassedCorners
 pub mod Pieces
 pub mod PixelBounds
+pub mod PlacedEdges
 pub mod PlacedExtents
 pub mod PushedReversed
 pub mod PutPlaces

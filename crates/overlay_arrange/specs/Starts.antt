@@ -1,40 +1,40 @@
 -- The edges of a list in the order of a sweep, and the entries that the sweep holds.
-use Rattle.std.specs.Prelude.{◌≡◌, ℕ, ◌+◌, false, ℤ, List, map, AllPairs, slice_index_or}
+use Rattle.std.specs.Prelude.{◌≡◌, ℕ, ◌+◌, false, ℤ, pos, List, map, AllPairs, slice_index_or}
 use Rattle.std.specs.List.Sorted.{IsPermutation}
 use Rattle.overlay_geom.specs.Counts.{Counts}
 use Rattle.overlay_geom.specs.Edges.{CountedEdge, ends_of, subj_of, clip_of, winding_below, winding_above}
 use Rattle.overlay_geom.specs.Numbered.{Numbered, numbered}
-use Rattle.overlay_geom.specs.Plane.{Edge}
-use Rattle.overlay_geom.specs.Points.{plain_point}
 use Rattle.overlay_plane.specs.Anchors.{is_anchored_before}
 use Rattle.overlay_plane.specs.Nodes.{IsBalancedArrangement}
 use Rattle.overlay_scan.specs.Scan.{Entry}
 use Rattle.overlay_scan.specs.Sweeps.{entry_of}
-use Rattle.overlay_arrange.specs.Content.{plain_edge, IsContent}
-use Rattle.overlay_arrange.specs.declared.starting_edge.StartingEdge.{StartingEdge}
+use Rattle.overlay_arrange.specs.Content.{plain_edges, IsContent}
+use Rattle.overlay_arrange.specs.declared.edge.CountedEdge.{CountedEdge as HeldEdge}
 use Rattle.overlay_arrange.specs.declared.windings.Windings.{Windings}
 
--- the ends of an edge of the sweep
-abbrev pub starting_ends : {I C W U : Type 0} {i w u : _} → (I → ℤ) → StartingEdge I C W U i w u → Edge
-starting_ends whole s = record { a = plain_point whole s.edge.a; b = plain_point whole s.edge.b }
+-- an edge that stands where a list has none
+abbrev pub no_edge : CountedEdge
+no_edge = record {
+  a = record { x = pos 0; y = pos 0 };
+  b = record { x = pos 0; y = pos 0 };
+  counts = record { subj = pos 0; clip = pos 0; along = false; against = false };
+}
 
--- the counted edge of a starting edge, and those of a list
-abbrev pub plain_start : {I C W U : Type 0} {i w u : _} → (I → ℤ) → (C → Counts) → StartingEdge I C W U i w u →
-    CountedEdge
-plain_start whole counts s = plain_edge whole counts s.edge
+-- the edge at a place, and those at a list of places
+abbrev pub edge_at : List CountedEdge → ℕ → CountedEdge
+edge_at es k = slice_index_or es k no_edge
 
-abbrev pub plain_starts : {I C W U : Type 0} {i w u : _} → (I → ℤ) → (C → Counts) → List (StartingEdge I C W U i w u) →
+abbrev pub edges_at : List CountedEdge → List ℕ → List CountedEdge
+edges_at es places = map (edge_at es) places
+
+-- those of a list of edges, as counted edges
+abbrev pub plain_starts : {I C : Type 0} → (I → ℤ) → (C → Counts) → List (HeldEdge I C) → List ℕ →
     List CountedEdge
-plain_starts whole counts ss = map (plain_start whole counts) ss
+plain_starts whole counts edges places = edges_at (plain_edges whole counts edges) places
 
--- that edge with its place in the list, and those of a list
-abbrev pub numbered_start : {I C W U : Type 0} {i w u : _} → (I → ℤ) → (C → Counts) → StartingEdge I C W U i w u →
-    Numbered CountedEdge
-numbered_start whole counts s = record { item = plain_start whole counts s; place = s.place }
-
-abbrev pub numbered_starts : {I C W U : Type 0} {i w u : _} → (I → ℤ) →
-    (C → Counts) → List (StartingEdge I C W U i w u) → List (Numbered CountedEdge)
-numbered_starts whole counts ss = map (numbered_start whole counts) ss
+-- those edges with their places
+abbrev pub numbered_at : List CountedEdge → List ℕ → List (Numbered CountedEdge)
+numbered_at es places = map (λ k. record { item = edge_at es k; place = k }) places
 
 -- they are the edges of the list with their places, ordered by start
 pub record AreByStart (es : List CountedEdge) (ns : List (Numbered CountedEdge)) : Type 0 where

@@ -25,7 +25,8 @@ pub(crate) fn hot_points<I: IntNumber, C: EdgeCount, A: Allocator + Clone>(
     ensures ok { IfOk result (λ points. AreHotPoints
         (plain_edges I.whole C.counts edges.now) (plain_points I.whole points.items)) }
 {
-    let mut points = Vec::new(alloc);
+    let most = edges.len().saturating_mul(2).saturating_add(meetings.len());
+    let mut points = Vec::with_capacity(alloc, most)?;
     push_starts(&mut points, edges)?;
     push_ends(&mut points, edges)?;
     push_points(&mut points, meetings)?;

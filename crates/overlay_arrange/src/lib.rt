@@ -39,7 +39,6 @@ pub mod sort_numbers;
 pub mod sort_points;
 pub mod sort_runs;
 mod spans;
-mod starting_edge;
 mod starts;
 pub mod string_count;
 mod strips;

@@ -46,11 +46,51 @@ pub(crate) fn push_run<I: IntNumber, C: EdgeCount, A: Allocator>(
     let (first, last) = x_along(e, left, right);
     let low = place_not_below(strips, e, first, from, to);
     let high = place_above(strips, e, last, low, to);
-    push_places(near, strips, low, high)
+    push_places(near, strips, low, high, is_less(e.b.y, e.a.y))
 }
 
-/// Adds the places of the boxes from `from` up to `to`.
+/// Adds the places of the boxes from `from` up to `to`, last first where an edge falls: in the order along the edge.
 fn push_places<I: IntNumber, A: Allocator>(
+    near: &mut Vec<usize, A>,
+    strips: &[Extent<I>],
+    from: usize,
+    to: usize,
+    falls: bool,
+) -> Result<(), AllocError>
+    requires ordered { from ≤ to }
+    requires within { to ≤ length strips.now }
+    ensures ok { OnOk result
+        (AddsPlaces (plain_extents I.whole strips.now) from to near.old.items near.new.items) }
+{
+    if falls {
+        push_downwards(near, strips, from, to)
+    } else {
+        push_upwards(near, strips, from, to)
+    }
+}
+
+/// Adds the places of the boxes from `from` up to `to`, last first.
+fn push_downwards<I: IntNumber, A: Allocator>(
+    near: &mut Vec<usize, A>,
+    strips: &[Extent<I>],
+    from: usize,
+    to: usize,
+) -> Result<(), AllocError>
+    requires ordered { from ≤ to }
+    requires within { to ≤ length strips.now }
+    ensures ok { OnOk result
+        (AddsPlaces (plain_extents I.whole strips.now) from to near.old.items near.new.items) }
+{
+    let mut k = to;
+    while k > from {
+        k -= 1;
+        near.push(strips[k].first)?;
+    }
+    Ok(())
+}
+
+/// Adds the places of the boxes from `from` up to `to`, in their order.
+fn push_upwards<I: IntNumber, A: Allocator>(
     near: &mut Vec<usize, A>,
     strips: &[Extent<I>],
     from: usize,

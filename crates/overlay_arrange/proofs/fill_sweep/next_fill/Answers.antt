@@ -4,13 +4,14 @@ use Rattle.std.proofs.lemmas.List.{length-map, get_or_default}
 use Rattle.overlay_geom.specs.Edges.{CountedEdge, ends_of, subj_of, clip_of}
 use Rattle.overlay_geom.specs.Plane.{midpoint}
 use Rattle.overlay_geom.proofs.Comparisons.{is_lt-int_cmp}
-use Rattle.overlay_geom.proofs.Mapped.{read_mapped}
 use Rattle.overlay_geom.proofs.WindingSums.{subj_weighed, clip_weighed, winding_by-light}
 use Rattle.overlay_scan.specs.Sweeps.{IsSwept}
 use Rattle.overlay_scan.proofs.LinesFit.{line_fits}
+use Rattle.overlay_arrange.specs.Content.{plain_edge}
 use Rattle.overlay_arrange.specs.Rules.{fill_bits}
-use Rattle.overlay_arrange.specs.Starts.{plain_start, plain_starts, windings_above, wound_entries}
+use Rattle.overlay_arrange.specs.Starts.{plain_starts, windings_above, wound_entries}
 use Rattle.overlay_arrange.specs.declared.windings.Windings.{Windings}
+use Rattle.overlay_arrange.proofs.PlacedEdges.{placed_read}
 use Rattle.overlay_arrange.proofs.SideBits.{bits_between_windings}
 use Rattle.overlay_arrange.proofs.SweptFills.{is_over, meets, fresh, swept_with, swept_past}
 use Rattle.overlay_arrange.proofs.fill_sweep.next_fill.Goals as goal
@@ -21,34 +22,34 @@ wind v w = record { subj = v; clip = w }
 
 pub beyond-requires-clause-subj : goal.beyond-requires-clause-subj
 beyond-requires-clause-subj g c =
-    let start = plain_start g.I.IntNumber.whole g.C.EdgeCount.counts in
-    let fs = plain_starts g.I.IntNumber.whole g.C.EdgeCount.counts c.args.starting.now in
-    let e = start c.index-starting-i.result in
-    let is : get_or fs c.args.i e ≡ e = read_mapped start c.args.starting.now c.args.i c.index-starting-i.result e
-    c.requires.within c.index-starting-i.is in
+    let start = plain_edge g.I.IntNumber.whole g.C.EdgeCount.counts in
+    let fs = plain_starts g.I.IntNumber.whole g.C.EdgeCount.counts c.args.edges.now c.args.starting.now in
+    let e = start c.index-edges-starting.result in
+    let is : get_or fs c.args.i e ≡ e = placed_read start c.args.edges.now c.args.starting.now c.args.i
+    c.index-edges-starting.result c.requires.within c.requires.places c.index-edges-starting.is in
     winding_by-light subj_of subj_weighed fs (midpoint (ends_of e)) 2147483648 c.windings_below-below.result.subj
     c.requires.edges.content.light (ap (λ (v : Windings). v.subj) (c.windings_below-below.ensures.below e is))
 
 pub beyond-requires-clause-clip : goal.beyond-requires-clause-clip
 beyond-requires-clause-clip g c =
-    let start = plain_start g.I.IntNumber.whole g.C.EdgeCount.counts in
-    let fs = plain_starts g.I.IntNumber.whole g.C.EdgeCount.counts c.args.starting.now in
-    let e = start c.index-starting-i.result in
-    let is : get_or fs c.args.i e ≡ e = read_mapped start c.args.starting.now c.args.i c.index-starting-i.result e
-    c.requires.within c.index-starting-i.is in
+    let start = plain_edge g.I.IntNumber.whole g.C.EdgeCount.counts in
+    let fs = plain_starts g.I.IntNumber.whole g.C.EdgeCount.counts c.args.edges.now c.args.starting.now in
+    let e = start c.index-edges-starting.result in
+    let is : get_or fs c.args.i e ≡ e = placed_read start c.args.edges.now c.args.starting.now c.args.i
+    c.index-edges-starting.result c.requires.within c.requires.places c.index-edges-starting.is in
     winding_by-light clip_of clip_weighed fs (midpoint (ends_of e)) 2147483648 c.windings_below-below.result.clip
     c.requires.edges.content.light (ap (λ (v : Windings). v.clip) (c.windings_below-below.ensures.below e is))
 
 pub insert-requires : goal.insert-requires
 insert-requires g c =
-    let start = plain_start g.I.IntNumber.whole g.C.EdgeCount.counts in
+    let start = plain_edge g.I.IntNumber.whole g.C.EdgeCount.counts in
     let limit = g.I.IntNumber.limit in
-    let fs = plain_starts g.I.IntNumber.whole g.C.EdgeCount.counts c.args.starting.now in
+    let fs = plain_starts g.I.IntNumber.whole g.C.EdgeCount.counts c.args.edges.now c.args.starting.now in
     let i = c.args.i in
-    let e = start c.index-starting-i.result in
+    let e = start c.index-edges-starting.result in
     let lt : i < length fs = rw length-map c.requires.within in
-    let is : get_or fs i e ≡ e = read_mapped start c.args.starting.now i c.index-starting-i.result e
-    c.requires.within c.index-starting-i.is in
+    let is : get_or fs i e ≡ e = placed_read start c.args.edges.now c.args.starting.now i
+    c.index-edges-starting.result c.requires.within c.requires.places c.index-edges-starting.is in
     let t = g.S.Scan.content c.windings_below-below.new.scan in
     let swept = c.windings_below-below.ensures.swept e is in
     let test : c.is_lt.result ≡ int_lt e.a.x e.b.x = rw (c.is_lt.ensures, c.compare.ensures)
@@ -68,14 +69,14 @@ insert-requires g c =
 
 pub returns-clause-swept : goal.returns-clause-swept
 returns-clause-swept g c = λ f here.
-    let start = plain_start g.I.IntNumber.whole g.C.EdgeCount.counts in
+    let start = plain_edge g.I.IntNumber.whole g.C.EdgeCount.counts in
     let limit = g.I.IntNumber.limit in
-    let fs = plain_starts g.I.IntNumber.whole g.C.EdgeCount.counts c.args.starting.now in
+    let fs = plain_starts g.I.IntNumber.whole g.C.EdgeCount.counts c.args.edges.now c.args.starting.now in
     let i = c.args.i in
-    let e = start c.index-starting-i.result in
+    let e = start c.index-edges-starting.result in
     let lt : i < length fs = rw length-map c.requires.within in
-    let is : get_or fs i e ≡ e = read_mapped start c.args.starting.now i c.index-starting-i.result e
-    c.requires.within c.index-starting-i.is in
+    let is : get_or fs i e ≡ e = placed_read start c.args.edges.now c.args.starting.now i
+    c.index-edges-starting.result c.requires.within c.requires.places c.index-edges-starting.is in
     let t = g.S.Scan.content c.windings_below-below.new.scan in
     let swept = c.windings_below-below.ensures.swept e is in
     let below = c.windings_below-below.ensures.below e is in
@@ -99,14 +100,14 @@ returns-clause-swept g c = λ f here.
 
 pub returns-clause-above : goal.returns-clause-above
 returns-clause-above g c = λ k f on here.
-    let start = plain_start g.I.IntNumber.whole g.C.EdgeCount.counts in
+    let start = plain_edge g.I.IntNumber.whole g.C.EdgeCount.counts in
     let limit = g.I.IntNumber.limit in
-    let fs = plain_starts g.I.IntNumber.whole g.C.EdgeCount.counts c.args.starting.now in
+    let fs = plain_starts g.I.IntNumber.whole g.C.EdgeCount.counts c.args.edges.now c.args.starting.now in
     let i = c.args.i in
-    let e = start c.index-starting-i.result in
+    let e = start c.index-edges-starting.result in
     let lt : i < length fs = rw length-map c.requires.within in
-    let is : get_or fs i e ≡ e = read_mapped start c.args.starting.now i c.index-starting-i.result e
-    c.requires.within c.index-starting-i.is in
+    let is : get_or fs i e ≡ e = placed_read start c.args.edges.now c.args.starting.now i
+    c.index-edges-starting.result c.requires.within c.requires.places c.index-edges-starting.is in
     let below = c.windings_below-below.ensures.below e is in
     let same : k ≡ i = omega (arith, on) in
     let subj = c.beyond.ensures.subj ∙ ap (λ (v : Windings). v.subj +ℤ e.counts.subj) below in
@@ -116,14 +117,14 @@ returns-clause-above g c = λ k f on here.
 
 pub returns-clause-fill : goal.returns-clause-fill
 returns-clause-fill g c = λ f here.
-    let start = plain_start g.I.IntNumber.whole g.C.EdgeCount.counts in
+    let start = plain_edge g.I.IntNumber.whole g.C.EdgeCount.counts in
     let limit = g.I.IntNumber.limit in
-    let fs = plain_starts g.I.IntNumber.whole g.C.EdgeCount.counts c.args.starting.now in
+    let fs = plain_starts g.I.IntNumber.whole g.C.EdgeCount.counts c.args.edges.now c.args.starting.now in
     let i = c.args.i in
-    let e = start c.index-starting-i.result in
+    let e = start c.index-edges-starting.result in
     let lt : i < length fs = rw length-map c.requires.within in
-    let is : get_or fs i e ≡ e = read_mapped start c.args.starting.now i c.index-starting-i.result e
-    c.requires.within c.index-starting-i.is in
+    let is : get_or fs i e ≡ e = placed_read start c.args.edges.now c.args.starting.now i
+    c.index-edges-starting.result c.requires.within c.requires.places c.index-edges-starting.is in
     let below = c.windings_below-below.ensures.below e is in
     subst (λ (h : CountedEdge). c.bits_between.result ≡ fill_bits c.args.rule fs h)
     (sym is ∙ get_or_default fs i e f lt ∙ here)

@@ -21,7 +21,7 @@ returns g c = record {
       (c.in_ok-push_ends.ensures.ok
       ∙ ap (λ (vs : List Point). vs ++ map (λ (e : CountedEdge). e.b) es)
       (c.in_ok-push_starts.ensures.ok
-      ∙ ap (λ vs. plain_points whole vs ++ map (λ (e : CountedEdge). e.a) es) c.new-points.ensures.items)) in
+      ∙ ap (λ vs. plain_points whole vs ++ map (λ (e : CountedEdge). e.a) es) c.in_ok-points.ensures.items)) in
       are_hot_points es ms c.requires sorted
       (subst (λ (us : List Point). HaveSameMembers us sorted) listed c.in_ok-sort_points.ensures.members)
       c.in_ok-sort_points.ensures.ascending;

@@ -2,7 +2,7 @@
 use Rattle.std.proofs.Common.{◌≤◌}
 use Rattle.overlay_arrange.specs.Extents.{plain_extents}
 use Rattle.overlay_arrange.specs.PixelRuns.{AddsPlaces}
-use Rattle.overlay_arrange.proofs.pixel_runs.push_places.Given as goal
+use Rattle.overlay_arrange.proofs.pixel_runs.push_upwards.Given as goal
 
 abbrev pub invariant-loop-k : goal.invariant-loop-k
 invariant-loop-k g l =

@@ -3,16 +3,18 @@
 use Rattle.std.proofs.Common.{◌≡◌, false, length, take, drop, get_or}
 use Rattle.std.specs.List.{All}
 use Rattle.overlay_scan.specs.Sweeps.{IsSwept}
+use Rattle.overlay_arrange.specs.Content.{plain_edges}
 use Rattle.overlay_arrange.specs.Rules.{fill_bits}
-use Rattle.overlay_arrange.specs.Starts.{plain_starts, numbered_starts, wound_entries, AreAboveTheOneBefore}
-use Rattle.overlay_arrange.proofs.fill_sweep.fill_unless.Given as goal
+use Rattle.overlay_arrange.specs.Starts.{edges_at, numbered_at, wound_entries, AreAboveTheOneBefore}
+use Rattle.overlay_arrange.proofs.fill_sweep.fill_in_turn.Given as goal
 
 abbrev pub invariant-loop-i : goal.invariant-loop-i
 invariant-loop-i g l =
     let whole = g.I.IntNumber.whole in
     let counts = g.C.EdgeCount.counts in
-    let fs = plain_starts whole counts l.starting.items in
-    let ns = numbered_starts whole counts l.starting.items in
+    let es = plain_edges whole counts l.edges in
+    let fs = edges_at es l.starting in
+    let ns = numbered_at es l.starting in
     (length l.fills ≡ length l.edges)
     × All (λ f. IsSwept g.I.IntNumber.limit f.edge.a.x (take l.i (wound_entries fs)) (g.S.Scan.content l.scan))
     (drop l.i (wound_entries fs))

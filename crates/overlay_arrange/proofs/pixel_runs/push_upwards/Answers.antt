@@ -5,7 +5,7 @@ use Rattle.overlay_arrange.specs.PixelRuns.{AddsPlaces}
 use Rattle.overlay_arrange.specs.declared.extents.Extent.{Extent}
 use Rattle.overlay_arrange.proofs.GatheredMeetings.{placed_in_mapped}
 use Rattle.overlay_arrange.proofs.HeightRuns.{no_places, one_place}
-use Rattle.overlay_arrange.proofs.pixel_runs.push_places.Goals as goal
+use Rattle.overlay_arrange.proofs.pixel_runs.push_upwards.Goals as goal
 
 pub loop-k-init : goal.loop-k-init
 loop-k-init g c = (
