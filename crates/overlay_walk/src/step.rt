@@ -28,7 +28,7 @@ pub fn is_forward<I: IntNumber>(step: &Step<I>) -> bool
 }
 
 /// Returns the edge along which the step leads.
-pub(crate) fn edge_along<I: IntNumber>(step: Step<I>) -> IntEdge<I>
+pub(crate) fn stepped_edge<I: IntNumber>(step: Step<I>) -> IntEdge<I>
     requires { IsLong I.limit (plain_step I.whole step) }
     ensures edge { plain_edge I.whole result ≡ edge_of (plain_step I.whole step) }
     ensures long { IsLongEdge I.limit (plain_edge I.whole result) }

@@ -8,7 +8,7 @@ ghost use Rattle.overlay_geom.specs.Resolved.{plain_edge, IsLongEdge};
 ghost use Rattle.overlay_walk.specs.Places.{comes_top_first, is_place_top_first};
 ghost use Rattle.overlay_walk.specs.Steps.{plain_step, plain_steps, IsLong};
 
-use crate::step::{Step, edge_along};
+use crate::step::{Step, stepped_edge};
 use overlay_arrange::edge::compare_points;
 use overlay_arrange::sort_runs::sort_neighbours;
 use overlay_geom::edge::IntEdge;
@@ -76,9 +76,9 @@ impl<'a, I: IntNumber> Starts<'a, I> {
         if places.is_empty() {
             return true;
         }
-        let mut last = edge_along(self.step_at(places[0]));
+        let mut last = stepped_edge(self.step_at(places[0]));
         for i in 1..places.len() {
-            let edge = edge_along(self.step_at(places[i]));
+            let edge = stepped_edge(self.step_at(places[i]));
             if compare_edges(edge, last).is_lt() {
                 return false;
             }
@@ -108,7 +108,7 @@ pub fn compare_top_first<I: IntNumber>(s: Step<I>, t: Step<I>) -> Ordering
     requires t { IsLong I.limit (plain_step I.whole t) }
     ensures { is_lt result ≡ comes_top_first (edge_of (plain_step I.whole s)) (edge_of (plain_step I.whole t)) }
 {
-    compare_edges(edge_along(s), edge_along(t))
+    compare_edges(stepped_edge(s), stepped_edge(t))
 }
 
 // Compares the starts of two edges as [`compare_top_first`] does.

@@ -1,11 +1,10 @@
 -- One place of the run after the other is looked at.
-use Rattle.std.proofs.Common.{◌≡◌, ◌<◌, ◌≤◌, true, false, length, get_or, sym, ap, ◌∙◌, subst, arith}
+use Rattle.std.proofs.Common.{◌≤◌, true, false, sym, ap, ◌∙◌, arith}
 use Rattle.std.proofs.lemmas.List.{length-map}
 use Rattle.overlay_geom.specs.Plane.{Step, point_eq}
 use Rattle.overlay_geom.specs.Points.{plain_point}
 use Rattle.overlay_geom.proofs.Mapped.{All-mapped_at, read_mapped}
 use Rattle.overlay_plane.specs.Turn.{no_step}
-use Rattle.overlay_walk.specs.Places.{is_open, step_at}
 use Rattle.overlay_walk.specs.Steps.{plain_hand, plain_step, plain_steps, IsLong}
 use Rattle.overlay_walk.proofs.NextPlaces.{next_place, place_added, place_passed}
 use Rattle.overlay_walk.proofs.Runs.{run_until, leave_on}

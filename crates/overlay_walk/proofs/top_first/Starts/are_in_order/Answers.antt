@@ -15,14 +15,14 @@ loop-i-preserved g c =
     let behind = plain_step whole c.args.self.now.behind in
     let places = c.args.places.now in
     let i = c.loop-i.i in
-    let edge = plain_edge whole c.edge_along-edge.result in
+    let edge = plain_edge whole c.stepped_edge-edge.result in
     let last = plain_edge whole c.loop-i.last in
     let edge_at = λ (k : ℕ). edge_of (slice_index_or ss k behind) in
     let within : i < length places = omega (arith, c.loop-i-test.true) in
     let here = λ (d : ℕ).
-    c.edge_along-edge.ensures.edge ∙ ap edge_of c.step_at-in-loop-i.ensures.is
+    c.stepped_edge-edge.ensures.edge ∙ ap edge_of c.step_at-in-loop-i.ensures.is
     ∙ ap edge_at (get_or_default places i 0 d within) in (
-      c.edge_along-edge.ensures.long,
+      c.stepped_edge-edge.ensures.long,
       λ k d at. here d ∙ ap (λ n. edge_at (slice_index_or places n d)) (let same : i ≡ k = omega (arith, at) in same),
       λ k d from below. ⊎_elim
           (λ earlier. c.loop-i.invariant.2 k d from earlier)
