@@ -14,9 +14,23 @@ use Rattle.overlay_geom.proofs.Orders.{point_eq-same, point_lt-back, point_lt-it
 pub use Rattle.overlay_geom.proofs.PointComparisons.{point_cmp-is_less, point_cmp-is_tie}
 use Rattle.overlay_geom.proofs.PointOrder.{point_lt-after_up_to}
 use Rattle.overlay_plane.specs.Turn.{no_step}
-use Rattle.overlay_walk.specs.Places.{step_at, IsRun, LeaveAlike}
+use Rattle.overlay_walk.specs.Places.{step_at}
 use Rattle.overlay_walk.specs.Steps.{plain_step, plain_steps, IsByFrom}
 use Rattle.overlay_walk.specs.declared.step.Step.{Step as StepTaken}
+
+-- the steps that leave the point have the places from low up to high
+pub record IsRun (ss : List Step) (p : Point) (low high : ℕ) : Type 0 where
+  pub ordered : low ≤ high
+  pub within : high ≤ length ss
+  pub leave : (k : ℕ) → low ≤ k → k < high → (step_at ss k).from ≡ p
+  pub all : (k : ℕ) → k < length ss → (step_at ss k).from ≡ p → (low ≤ k) × (k < high)
+
+-- the steps from low up to high leave p; if there is a step at high, it does not
+pub record LeaveAlike (ss : List Step) (p : Point) (low high : ℕ) : Type 0 where
+  pub ordered : low ≤ high
+  pub within : high ≤ length ss
+  pub leave : (k : ℕ) → low ≤ k → k < high → (step_at ss k).from ≡ p
+  pub ends : high < length ss → point_eq (step_at ss high).from p ≡ false
 
 module _ {I : Type 0} (whole : I → ℤ) where
   -- steps by the points that they leave
