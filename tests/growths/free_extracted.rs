@@ -286,7 +286,7 @@ fn check_binding<I: Width>(trial: &Trial<'_, impl Abort>) -> Result<(), Fail> {
         let places = trial.refuse_call("overlay_extract::shape_places", || {
             shape_places(memory, &contours, &found)
         })?;
-        assert!(trial.rt; places.len() == 3 && places[0].len() == 2);
+        assert!(trial.rt; places.len() == 3 && places[0].count() == 2);
     }
     Ok(())
 }

@@ -4,7 +4,7 @@ use Rattle.std.proofs.Common.{◌++◌}
 use Rattle.std.proofs.Common.{map, take, length, set, get_or, All, Option, Some, None, refl, sym, ap, ap₂, ◌∙◌, subst}
 use Rattle.std.proofs.Common.{arith, append_assoc}
 use Rattle.std.specs.List.{filter}
-use Rattle.std.specs.Prelude.{IfSome, Vec}
+use Rattle.std.specs.Prelude.{IfSome}
 use Rattle.std.proofs.lemmas.Bool.{eqb-true, eq-eqb, false≢true}
 use Rattle.std.proofs.lemmas.List.{append-nil, get_or-map, get_or-set_same, get_or-set_other, length-map, length-set}
 use Rattle.std.proofs.lemmas.List.{map-append, take_all, take_more}
@@ -14,8 +14,10 @@ use Rattle.overlay_plane.specs.Binding.{is_number}
 use Rattle.overlay_plane.specs.BoundContours.{BoundContour, contours_bound}
 use Rattle.overlay_plane.specs.RoledContours.{Role, outline, own_hole, free_hole, Contour, is_own_hole_of, is_free_hole}
 use Rattle.overlay_plane.specs.PlacedContours.{walk_at}
-use Rattle.overlay_extract.specs.Places.{place_lists, number_as, holes_as, with_place, AreInside, HasHolesAdded}
+use Rattle.overlay_extract.specs.Places.{place_list, place_lists, number_as, holes_as, with_place, AreInside}
+use Rattle.overlay_extract.specs.Places.{HasHolesAdded}
 use Rattle.overlay_extract.specs.declared.binding.places.Holes.{Holes}
+use Rattle.overlay_extract.specs.declared.binding.places.ShapePlaces.{ShapePlaces}
 use Rattle.overlay_extract.specs.declared.binding.places.Holes.TheVariants.{OfGroups, Found}
 
 -- ---- the contours bound so far
@@ -152,6 +154,16 @@ pub walk_there : (contours : List Contour) (k : ℕ) (c : Contour) → k < lengt
 walk_there contours k c inside is = get_or-map (λ (d : Contour). d.steps) contours k c [] inside
     ∙ ap (λ (d : Contour). d.steps) is
 
+-- a place of a shape, as it is read
+module _ (places : List ℕ) (i place : ℕ) (is : place ≡ get_or places i 0) (within : i < length places) where
+  -- it is that of a contour
+  pub place_inside : (count : ℕ) → All (λ k. k < count) places → place < count
+  place_inside count inside = subst (λ k. k < count) (sym is) (inside i 0 within)
+
+  -- it stands behind those before it
+  pub place_behind : take (i + 1) places ≡ take i places ++ place ∷ []
+  place_behind = take_more places i 0 within ∙ ap (λ k. take i places ++ k ∷ []) (sym is)
+
 -- at first nothing is added
 pub added_none : (holes : Holes) (contours : List Contour) (lists : List (List ℕ)) →
     AreInside (length contours) lists → HasHolesAdded holes contours [] lists lists
@@ -180,13 +192,13 @@ added_all holes contours found old new i past so_far =
     bound_few (c ∷ cs) (s ∷ ss) = let rest = bound_few cs ss in omega (arith, rest)
 
 -- the number of a contour is below the count of the shapes
-pub number_counted : {A : Type 0} (holes : Holes) (old lists : List (Vec ℕ A)) (bs : List BoundContour) (i : ℕ)
+pub number_counted : {A : Type 0} (holes : Holes) (old lists : List (ShapePlaces A)) (bs : List BoundContour) (i : ℕ)
     (c : Contour) (s : Option ℕ) → with_shape c s ≡ get_or bs i (with_shape c s) → i < length bs →
     length (place_lists lists) ≡ length (place_lists old) →
     All (λ (b : BoundContour). IfSome (number_as holes b.contour.role b.shape) (λ n. n < length old)) bs →
     IfSome (number_as holes c.role s) (λ n. n < length (place_lists lists))
 number_counted holes old lists bs i c s is inside counted all =
-    let long = length-map old (λ (v : _). v.items) in
+    let long = length-map old place_list in
     subst (λ k. IfSome (number_as holes c.role s) (λ n. n < k)) (sym (counted ∙ long))
     (subst (λ (b : BoundContour). IfSome (number_as holes b.contour.role b.shape) (λ n. n < length old)) (sym is)
     (all i (with_shape c s) inside))

@@ -1,16 +1,21 @@
 -- Contours placed in shapes in two passes: first the holes of outlines' groups, then the holes whose shape is found.
 use Rattle.std.specs.Prelude.{◌≡◌, ◌<◌, ℕ, List, [], ◌∷◌, ◌++◌, map, length, set, get_or, All, Option, Some}
-use Rattle.std.specs.Prelude.{None, Vec}
+use Rattle.std.specs.Prelude.{None}
 use Rattle.overlay_geom.specs.Plane.{Step}
 use Rattle.overlay_plane.specs.RoledContours.{Role, outline, own_hole, free_hole, Contour}
 use Rattle.overlay_plane.specs.BoundContours.{BoundContour, own_holes, found_holes}
 use Rattle.overlay_plane.specs.PlacedContours.{walk_at}
+use Rattle.overlay_extract.specs.declared.binding.places.ShapePlaces.{ShapePlaces}
 use Rattle.overlay_extract.specs.declared.binding.places.Holes.{Holes}
 use Rattle.overlay_extract.specs.declared.binding.places.Holes.TheVariants.{OfGroups, Found}
 
+-- the places of a shape's contours: that of its outline, then those of its holes
+abbrev pub place_list : {A : Type 0} → ShapePlaces A → List ℕ
+place_list shape = shape.outline ∷ shape.holes.items
+
 -- the lists of places, shape by shape
-abbrev pub place_lists : {A : Type 0} → List (Vec ℕ A) → List (List ℕ)
-place_lists places = map (λ ps. ps.items) places
+abbrev pub place_lists : {A : Type 0} → List (ShapePlaces A) → List (List ℕ)
+place_lists places = map place_list places
 
 -- the places are those of contours
 abbrev pub AreInside : ℕ → List (List ℕ) → Type 0

@@ -11,8 +11,9 @@ ghost use Rattle.overlay_plane.specs.PlacedContours.{walk_at, walks_at};
 ghost use Rattle.overlay_plane.specs.ShapeWindings.{points_of_shapes, AreKeptOrThinned};
 ghost use Rattle.overlay_walk.specs.GroupedContours.{plain_contours};
 ghost use Rattle.overlay_walk.specs.Steps.{plain_steps, IsLong};
-ghost use Rattle.overlay_extract.specs.Places.{place_lists, AreInside};
+ghost use Rattle.overlay_extract.specs.Places.{place_list, place_lists, AreInside};
 
+use crate::binding::places::ShapePlaces;
 use overlay_geom::number::IntNumber;
 use overlay_geom::path::{IntContour, IntShape, IntShapes};
 use overlay_geom::thin::thinned;
@@ -25,7 +26,7 @@ use std::alloc::{AllocError, Allocator};
 pub fn assembled<I: IntNumber, A: Allocator + Clone>(
     alloc: A,
     contours: &[Contour<I, A>],
-    places: &[Vec<usize, A>],
+    places: &[ShapePlaces<A>],
     keeps_points: bool,
 ) -> Result<IntShapes<I, A>, AllocError>
     requires long { All (All (IsLong I.limit)) (walks_in (plain_contours I.whole contours.now)) }
@@ -47,18 +48,19 @@ fn shape_at<I: IntNumber, A: Allocator + Clone>(
     alloc: A,
     room: &mut IntContour<I, A>,
     contours: &[Contour<I, A>],
-    places: &[usize],
+    places: &ShapePlaces<A>,
     keeps_points: bool,
 ) -> Result<IntShape<I, A>, AllocError>
     requires long { All (All (IsLong I.limit)) (walks_in (plain_contours I.whole contours.now)) }
-    requires inside { All (λ k. k < length (plain_contours I.whole contours.now)) places.now }
+    requires inside { All (λ k. k < length (plain_contours I.whole contours.now)) (place_list places.now) }
     ensures shape { IfOk result (λ v. AllZip (IsKeptOrThinned keeps_points)
-        (map points_of (map (walk_at (plain_contours I.whole contours.now)) places.now))
+        (map points_of (map (walk_at (plain_contours I.whole contours.now)) (place_list places.now)))
         (paths_of_shape I.whole v.items)) }
 {
-    let mut shape = Vec::with_capacity(alloc.clone()?, places.len())?;
-    for i in 0..places.len() {
-        let place = places[i];
+    let count = places.count();
+    let mut shape = Vec::with_capacity(alloc.clone()?, count)?;
+    for i in 0..count {
+        let place = places.place(i);
         shape.push(contour_in(alloc.clone()?, room, &contours[place].steps, keeps_points)?)?;
     }
     Ok(shape)

@@ -9,10 +9,11 @@ ghost use Rattle.overlay_plane.specs.PlacedContours.{walk_at, walks_at};
 ghost use Rattle.overlay_plane.specs.ShapeWindings.{points_of_shapes, AreKeptOrThinned};
 ghost use Rattle.overlay_walk.specs.GroupedContours.{plain_contours};
 ghost use Rattle.overlay_walk.specs.Steps.{plain_steps, IsLong};
-ghost use Rattle.overlay_extract.specs.Places.{place_lists, AreInside};
+ghost use Rattle.overlay_extract.specs.Places.{place_list, place_lists, AreInside};
 ghost use Rattle.overlay_extract.specs.TakenBehind.{IsTakenBehind, AreTakenBehind};
 
 use crate::assemble::write_points;
+use crate::binding::places::ShapePlaces;
 use overlay_geom::flat::shapes::FlatShapesBuffer;
 use overlay_geom::number::IntNumber;
 use overlay_geom::point::IntPoint;
@@ -36,7 +37,7 @@ struct ContourRoom<I, A: Allocator> {
 pub fn flat_assembled<I: IntNumber, A: Allocator + Clone>(
     alloc: A,
     contours: &[Contour<I, A>],
-    places: &[Vec<usize, A>],
+    places: &[ShapePlaces<A>],
     keeps_points: bool,
 ) -> Result<FlatShapesBuffer<I, A>, AllocError>
     requires long { All (All (IsLong I.limit)) (walks_in (plain_contours I.whole contours.now)) }
@@ -88,13 +89,13 @@ fn push_shape<I: IntNumber, A: Allocator>(
     flat: &mut FlatShapesBuffer<I, A>,
     room: &mut ContourRoom<I, A>,
     contours: &[Contour<I, A>],
-    places: &[usize],
+    places: &ShapePlaces<A>,
     keeps_points: bool,
 ) -> Result<(), AllocError>
     requires long { All (All (IsLong I.limit)) (walks_in (plain_contours I.whole contours.now)) }
-    requires inside { All (λ k. k < length (plain_contours I.whole contours.now)) places.now }
+    requires inside { All (λ k. k < length (plain_contours I.whole contours.now)) (place_list places.now) }
     ensures contours { OnOk result (AreTakenBehind I.whole keeps_points
-        (map points_of (map (walk_at (plain_contours I.whole contours.now)) places.now))
+        (map points_of (map (walk_at (plain_contours I.whole contours.now)) (place_list places.now)))
         flat.old.points.items flat.old.contour_ranges.items flat.new.points.items flat.new.contour_ranges.items) }
     ensures shape { OnOk result (flat.new.shape_ranges.items ≡ flat.old.shape_ranges.items ++ record
         { start = length flat.old.contour_ranges.items; end = length flat.new.contour_ranges.items } ∷ []) }
@@ -118,17 +119,17 @@ fn push_contours<I: IntNumber, A: Allocator>(
     ranges: &mut Vec<Range<usize>, A>,
     room: &mut ContourRoom<I, A>,
     contours: &[Contour<I, A>],
-    places: &[usize],
+    places: &ShapePlaces<A>,
     keeps_points: bool,
 ) -> Result<(), AllocError>
     requires long { All (All (IsLong I.limit)) (walks_in (plain_contours I.whole contours.now)) }
-    requires inside { All (λ k. k < length (plain_contours I.whole contours.now)) places.now }
+    requires inside { All (λ k. k < length (plain_contours I.whole contours.now)) (place_list places.now) }
     ensures taken { OnOk result (AreTakenBehind I.whole keeps_points
-        (map points_of (map (walk_at (plain_contours I.whole contours.now)) places.now))
+        (map points_of (map (walk_at (plain_contours I.whole contours.now)) (place_list places.now)))
         points.old.items ranges.old.items points.new.items ranges.new.items) }
 {
-    for i in 0..places.len() {
-        let place = places[i];
+    for i in 0..places.count() {
+        let place = places.place(i);
         let start = points.len();
         push_points(points, room, &contours[place].steps, keeps_points)?;
         ranges.push(start..points.len())?;

@@ -5,8 +5,9 @@ ghost use Rattle.overlay_plane.specs.PlacedContours.{walk_at, walks_at};
 ghost use Rattle.overlay_plane.specs.RoledContours.{group_contours_from};
 ghost use Rattle.overlay_walk.specs.GroupedContours.{plain_contours, plain_role, contours_of_group};
 ghost use Rattle.overlay_extract.specs.InShapes.{role_at, AreBegun};
-ghost use Rattle.overlay_extract.specs.Places.{place_lists, AreInside};
+ghost use Rattle.overlay_extract.specs.Places.{place_list, place_lists, AreInside};
 
+use crate::binding::places::ShapePlaces;
 use overlay_geom::number::IntNumber;
 use overlay_walk::contour::{Contour, Role};
 use std::alloc::{AllocError, Allocator};
@@ -16,7 +17,7 @@ use std::alloc::{AllocError, Allocator};
 pub(crate) fn in_shapes<I: IntNumber, A: Allocator + Clone>(
     alloc: A,
     contours: &[Contour<I, A>],
-    places: &[Vec<usize, A>],
+    places: &[ShapePlaces<A>],
 ) -> Result<Vec<Contour<I, A>, A>, AllocError>
     requires inside { AreInside (length (plain_contours I.whole contours.now)) (place_lists places.now) }
     requires begun { AreBegun (place_lists places.now) }
@@ -35,15 +36,15 @@ fn push_shape<I: IntNumber, A: Allocator + Clone>(
     alloc: &A,
     ordered: &mut Vec<Contour<I, A>, A>,
     contours: &[Contour<I, A>],
-    places: &[usize],
+    places: &ShapePlaces<A>,
     number: usize,
 ) -> Result<(), AllocError>
-    requires inside { All (λ k. k < length (plain_contours I.whole contours.now)) places.now }
+    requires inside { All (λ k. k < length (plain_contours I.whole contours.now)) (place_list places.now) }
     ensures pushed { OnOk result (plain_contours I.whole ordered.new.items ≡ plain_contours I.whole ordered.old.items
-        ++ contours_of_group number (map (walk_at (plain_contours I.whole contours.now)) places.now)) }
+        ++ contours_of_group number (map (walk_at (plain_contours I.whole contours.now)) (place_list places.now))) }
 {
-    for i in 0..places.len() {
-        let place = places[i];
+    for i in 0..places.count() {
+        let place = places.place(i);
         let mut steps = Vec::new(alloc.clone()?);
         steps.extend_from_slice(&contours[place].steps)?;
         let role = role_at(number, i);

@@ -7,7 +7,7 @@ ghost use Rattle.overlay_geom.specs.Plane.{is_forward};
 ghost use Rattle.overlay_plane.specs.PlacedContours.{walk_at, walks_at};
 ghost use Rattle.overlay_arrange.specs.Graphs.{graph_edges};
 ghost use Rattle.overlay_arrange.specs.Stores.{IsStoreReached};
-ghost use Rattle.overlay_extract.specs.Places.{place_lists, AreInside};
+ghost use Rattle.overlay_extract.specs.Places.{place_list, place_lists, AreInside};
 ghost use Rattle.overlay_walk.specs.GroupedContours.{plain_contours};
 ghost use Rattle.overlay_walk.specs.Steps.{plain_step, plain_steps, RunsAlong};
 ghost use Rattle.overlay_vector.specs.DataVectors.{plain_data_vector, plain_data_vectors};
@@ -22,6 +22,7 @@ use crate::side_fill::Reverse;
 use overlay_arrange::data::{CountWithData, OverlayEdgeData};
 use overlay_arrange::graph::Graph;
 use overlay_arrange::vector::DataVectorEdge;
+use overlay_extract::binding::places::ShapePlaces;
 use overlay_geom::number::IntNumber;
 use overlay_walk::contour::Contour;
 use overlay_walk::step::{Step, is_forward};
@@ -34,7 +35,7 @@ use std::alloc::{AllocError, Allocator};
 pub(crate) fn assembled<I: IntNumber, D: OverlayEdgeData, A: Allocator + Clone>(
     graph: &Graph<I, CountWithData<D>, A>,
     contours: &[Contour<I, A>],
-    places: &[Vec<usize, A>],
+    places: &[ShapePlaces<A>],
     keeps_edges: bool,
     store: &mut D::Store,
 ) -> Result<Vec<DataVectorShape<I, D, A>, A>, AllocError>
@@ -58,20 +59,21 @@ pub(crate) fn assembled<I: IntNumber, D: OverlayEdgeData, A: Allocator + Clone>(
 fn shape_at<I: IntNumber, D: OverlayEdgeData, A: Allocator + Clone>(
     graph: &Graph<I, CountWithData<D>, A>,
     contours: &[Contour<I, A>],
-    places: &[usize],
+    places: &ShapePlaces<A>,
     keeps_edges: bool,
     store: &mut D::Store,
 ) -> Result<DataVectorShape<I, D, A>, AllocError>
     requires along { All (λ c. All (RunsAlong I.whole (all_ends (graph_edges graph.now))) c.steps.items) contours.now }
-    requires inside { All (λ k. k < length (plain_contours I.whole contours.now)) places.now }
+    requires inside { All (λ k. k < length (plain_contours I.whole contours.now)) (place_list places.now) }
     ensures shape { IfOk result (λ v.
         AllZip (IsVectorContour D.reverses D.eq graph.now.fill_rule keeps_edges graph.now.edges)
-        (map (walk_at (plain_contours I.whole contours.now)) places.now) (plain_vector_shape I.whole v.items)) }
+        (map (walk_at (plain_contours I.whole contours.now)) (place_list places.now))
+        (plain_vector_shape I.whole v.items)) }
     ensures store { IsStoreReached D.writes store.old store.new }
 {
     let mut shape = Vec::new(graph.allocator().clone()?);
-    for i in 0..places.len() {
-        let place = places[i];
+    for i in 0..places.count() {
+        let place = places.place(i);
         shape.push(contour(graph, &contours[place].steps, keeps_edges, store)?)?;
     }
     Ok(shape)

@@ -10,10 +10,11 @@ use Rattle.overlay_plane.proofs.Entries.{all_of_entries, Contains-from_any}
 use Rattle.overlay_plane.proofs.Tests.{same_tests}
 use Rattle.overlay_plane.proofs.TurnOrder.{met_irreflexive, met_transitive}
 use Rattle.overlay_walk.specs.Nearest.{Nearest, HasSeen, IsMetFirst, IsNearer}
-use Rattle.overlay_walk.specs.Places.{is_open, step_at, IsRun, IsNextAt, IsNextPlace}
+use Rattle.overlay_walk.specs.Places.{is_open, step_at, IsNextAt, IsNextPlace}
 use Rattle.overlay_walk.specs.Steps.{unmarked}
 use Rattle.overlay_walk.proofs.FirstPlaces.{comes_first, IsFirstOf, looked_at}
 use Rattle.overlay_walk.proofs.OpenPlaces.{unmarked_at, place_of_unmarked}
+use Rattle.overlay_walk.proofs.Runs.{IsRun}
 
 -- a ray that turns by the hand at v from u meets the step at place j before that at k
 abbrev pub is_place_met_before : List Step → Hand → Point → Point → ℕ → ℕ → Bool

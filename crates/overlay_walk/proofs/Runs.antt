@@ -9,14 +9,28 @@ use Rattle.std.proofs.lemmas.List.{length-map, get_or-map}
 use Rattle.std.proofs.lemmas.List.Sorted.{sorted_far}
 use Rattle.overlay_geom.specs.Plane.{Point, Step, point_lt, point_eq}
 use Rattle.overlay_geom.proofs.Entries.{some_entry}
-use Rattle.overlay_geom.proofs.Mapped.{AllPairs-map}
-use Rattle.overlay_geom.proofs.Orders.{point_lt-back, point_lt-itself, point_lt-order}
+use Rattle.overlay_geom.proofs.Mapped.{AllPairs-map, read_mapped}
+use Rattle.overlay_geom.proofs.Orders.{point_eq-same, point_lt-back, point_lt-itself, point_lt-order}
 pub use Rattle.overlay_geom.proofs.PointComparisons.{point_cmp-is_less, point_cmp-is_tie}
 use Rattle.overlay_geom.proofs.PointOrder.{point_lt-after_up_to}
 use Rattle.overlay_plane.specs.Turn.{no_step}
-use Rattle.overlay_walk.specs.Places.{step_at, IsRun, LeaveAlike}
+use Rattle.overlay_walk.specs.Places.{step_at}
 use Rattle.overlay_walk.specs.Steps.{plain_step, plain_steps, IsByFrom}
 use Rattle.overlay_walk.specs.declared.step.Step.{Step as StepTaken}
+
+-- the steps that leave the point have the places from low up to high
+pub record IsRun (ss : List Step) (p : Point) (low high : ℕ) : Type 0 where
+  pub ordered : low ≤ high
+  pub within : high ≤ length ss
+  pub leave : (k : ℕ) → low ≤ k → k < high → (step_at ss k).from ≡ p
+  pub all : (k : ℕ) → k < length ss → (step_at ss k).from ≡ p → (low ≤ k) × (k < high)
+
+-- the steps from low up to high leave p; if there is a step at high, it does not
+pub record LeaveAlike (ss : List Step) (p : Point) (low high : ℕ) : Type 0 where
+  pub ordered : low ≤ high
+  pub within : high ≤ length ss
+  pub leave : (k : ℕ) → low ≤ k → k < high → (step_at ss k).from ≡ p
+  pub ends : high < length ss → point_eq (step_at ss high).from p ≡ false
 
 module _ {I : Type 0} (whole : I → ℤ) where
   -- steps by the points that they leave
@@ -129,3 +143,13 @@ module _ {I : Type 0} (whole : I → ℤ) where
             (later_leaves high k d up h)
             (subst (λ q. point_lt q (plain_step whole (get_or ss high d)).from ≡ true) (sym (left_at k d h at))
             (behind d (omega (arith, up, h)))))) (cases_lt k high)
+
+    -- one step more leaves p
+    pub leave_on : (low i : ℕ) → i < length ss →
+        ((k : ℕ) → low ≤ k → k < i → (step_at (plain_steps whole ss) k).from ≡ p) → (s : StepTaken I) →
+        s ≡ get_or ss i s → point_eq (plain_step whole s).from p ≡ true →
+        (k : ℕ) → low ≤ k → k < i + 1 → (step_at (plain_steps whole ss) k).from ≡ p
+    leave_on low i within before s read at k from below = ⊎_elim (before k from)
+        (λ late. subst (λ n. (step_at (plain_steps whole ss) n).from ≡ p) (let same : i ≡ k = omega arith in same)
+        (ap (λ (t : Step). t.from) (read_mapped (plain_step whole) ss i s no_step within read)
+        ∙ point_eq-same (plain_step whole s).from p at)) (cases_lt k i)

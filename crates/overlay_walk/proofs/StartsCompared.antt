@@ -11,6 +11,7 @@ use Rattle.std.proofs.lemmas.List.Elements.{All-get_or}
 use Rattle.std.proofs.lemmas.List.Sorted.{sorted_far}
 use Rattle.overlay_geom.specs.Plane.{Step, Edge, edge_of, point_lt, point_eq}
 use Rattle.overlay_geom.specs.Points.{InRange}
+use Rattle.overlay_geom.specs.Resolved.{IsLongEdge}
 use Rattle.overlay_geom.proofs.Orders.{point_eq-same, point_lt-back}
 use Rattle.overlay_plane.specs.Turn.{no_step}
 use Rattle.overlay_plane.proofs.EdgeTurns.{IsForward}
@@ -38,6 +39,14 @@ ends_by limit s long false = (long.to_in_range, long.from_in_range)
 pub ends_in_range : (limit : ℕ) (s : Step) → IsLong limit s →
     InRange limit (edge_of s).a × InRange limit (edge_of s).b
 ends_in_range limit s long = ends_by limit s long (point_lt s.from s.to)
+
+-- it is long
+pub long_edge : (limit : ℕ) (s : Step) → IsLong limit s → IsLongEdge limit (edge_of s)
+long_edge limit s long = record {
+  forward = long_is_forward limit s long;
+  a_in_range = (ends_in_range limit s long).0;
+  b_in_range = (ends_in_range limit s long).1;
+}
 
 module _ (limit : ℕ) (ss : List Step) (behind : Step) (long : All (IsLong limit) ss) (last : IsLong limit behind) where
   -- the step at a place, or one step behind all

@@ -1,7 +1,7 @@
 -- Places of a list of steps: open places, the steps at places, and the order of places by the starts of edges.
 use Rattle.std.specs.Prelude.{◌≡◌, ℕ, ◌<◌, ◌≤◌, Bool, true, false, not, ◌&&◌, ◌||◌, List, length, slice_index_or}
 use Rattle.std.specs.Prelude.{Option, Some, None, All, AllPairs, Contains}
-use Rattle.overlay_geom.specs.Plane.{Point, Step, Edge, point_lt, point_eq, edge_of}
+use Rattle.overlay_geom.specs.Plane.{Step, Edge, point_lt, point_eq, edge_of}
 use Rattle.overlay_plane.specs.Nodes.{turns_left}
 use Rattle.overlay_plane.specs.Turn.{Hand, is_met_before, no_step}
 
@@ -40,20 +40,6 @@ pub record ArePlacesTopFirst (ss : List Step) (places : List ℕ) : Type 0 where
 pub record ArePassed (marks : List Bool) (places : List ℕ) (n : ℕ) : Type 0 where
   pub within : n ≤ length places
   pub shut : (i : ℕ) → i < n → is_open marks (slice_index_or places i 0) ≡ false
-
--- the steps that leave the point have the places from low up to high
-pub record IsRun (ss : List Step) (p : Point) (low high : ℕ) : Type 0 where
-  pub ordered : low ≤ high
-  pub within : high ≤ length ss
-  pub leave : (k : ℕ) → low ≤ k → k < high → (step_at ss k).from ≡ p
-  pub all : (k : ℕ) → k < length ss → (step_at ss k).from ≡ p → (low ≤ k) × (k < high)
-
--- the steps from low up to high leave p; if there is a step at high, it does not
-pub record LeaveAlike (ss : List Step) (p : Point) (low high : ℕ) : Type 0 where
-  pub ordered : low ≤ high
-  pub within : high ≤ length ss
-  pub leave : (k : ℕ) → low ≤ k → k < high → (step_at ss k).from ≡ p
-  pub ends : high < length ss → point_eq (step_at ss high).from p ≡ false
 
 -- the place of the open step that leaves the end of s and is met first, by a ray that turns there by the hand
 pub record IsNextAt (ss : List Step) (marks : List Bool) (hand : Hand) (s : Step) (m : ℕ) : Type 0 where

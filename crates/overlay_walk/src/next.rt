@@ -4,7 +4,7 @@ ghost use Rattle.std.specs.Prelude.{◌≡◌, ◌<◌, ◌≤◌, true, false, 
 ghost use Rattle.std.specs.List.Sorted.{IsPartitionPoint};
 ghost use Rattle.overlay_geom.specs.Plane.{point_lt};
 ghost use Rattle.overlay_geom.specs.Points.{plain_point};
-ghost use Rattle.overlay_walk.specs.Places.{step_at, IsRun, LeaveAlike, IsNextPlace};
+ghost use Rattle.overlay_walk.specs.Places.{step_at, IsNextPlace};
 ghost use Rattle.overlay_walk.specs.Steps.{plain_hand, plain_step, plain_steps};
 ghost use Rattle.overlay_walk.specs.Steps.{IsByFrom, IsLong};
 
@@ -34,29 +34,23 @@ pub fn place_of_next<I: IntNumber>(
     requires step { IsLong I.limit (plain_step I.whole step) }
     ensures { IsNextPlace (plain_steps I.whole steps.now) taken.now (plain_hand hand) (plain_step I.whole step) result }
 {
-    let (low, high) = run_from(steps, near, step.to);
+    let low = run_start(steps, near, step.to);
     let mut nearest = NearestVector::new(Ray {
         node: step.to,
         start: step.from,
         hand,
     });
     let mut found = None;
-    for i in low..high {
-        if is_open(taken, i) && nearest.add(steps[i].to) {
+    for i in low..steps.len() {
+        let next = steps[i];
+        if !is_same(next.from, step.to) {
+            return found;
+        }
+        if is_open(taken, i) && nearest.add(next.to) {
             found = Some(i);
         }
     }
     found
-}
-
-/// Returns the places of the steps that leave a point: the first, and the place behind the last. It tries the place
-/// `near` for the first, and looks for the last step by step.
-fn run_from<I: IntNumber>(steps: &[Step<I>], near: usize, p: IntPoint<I>) -> (usize, usize)
-    requires { IsByFrom (plain_steps I.whole steps.now) }
-    ensures { IsRun (plain_steps I.whole steps.now) (plain_point I.whole p) result.0 result.1 }
-{
-    let low = run_start(steps, near, p);
-    (low, run_end(steps, low, p))
 }
 
 /// Returns the number of steps that leave a point below p, which come first. It tries the place `near`.
@@ -85,18 +79,6 @@ fn is_parted_at<I: IntNumber>(steps: &[Step<I>], place: usize, p: IntPoint<I>) -
         return false;
     }
     place == 0 || leaves_below(steps, place - 1, p)
-}
-
-/// Returns the first place from `low` on whose step does not leave p, or the number of steps.
-fn run_end<I: IntNumber>(steps: &[Step<I>], low: usize, p: IntPoint<I>) -> usize
-    requires { low ≤ length steps.now }
-    ensures { LeaveAlike (plain_steps I.whole steps.now) (plain_point I.whole p) low result }
-{
-    let mut high = low;
-    while high < steps.len() && is_same(steps[high].from, p) {
-        high += 1;
-    }
-    high
 }
 
 /// Returns whether the step at a place leaves a point below p.

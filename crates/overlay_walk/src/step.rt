@@ -2,10 +2,10 @@
 
 ghost use Rattle.std.specs.Prelude.{◌≡◌};
 ghost use Rattle.overlay_geom.specs.Plane.{edge_of, is_forward};
-ghost use Rattle.overlay_geom.specs.Points.{plain_point};
-ghost use Rattle.overlay_walk.specs.Steps.{plain_step};
+ghost use Rattle.overlay_geom.specs.Resolved.{plain_edge, IsLongEdge};
+ghost use Rattle.overlay_walk.specs.Steps.{plain_step, IsLong};
 
-use overlay_geom::edge::is_before;
+use overlay_geom::edge::{IntEdge, is_before};
 use overlay_geom::number::IntNumber;
 use overlay_geom::point::IntPoint;
 
@@ -27,14 +27,21 @@ pub fn is_forward<I: IntNumber>(step: &Step<I>) -> bool
     is_before(step.from, step.to)
 }
 
-/// Returns the ends of the edge along which the step leads, the smaller end first.
-pub(crate) fn ends_of<I: IntNumber>(step: Step<I>) -> (IntPoint<I>, IntPoint<I>)
-    ensures start { plain_point I.whole result.0 ≡ (edge_of (plain_step I.whole step)).a }
-    ensures end { plain_point I.whole result.1 ≡ (edge_of (plain_step I.whole step)).b }
+/// Returns the edge along which the step leads.
+pub(crate) fn stepped_edge<I: IntNumber>(step: Step<I>) -> IntEdge<I>
+    requires { IsLong I.limit (plain_step I.whole step) }
+    ensures edge { plain_edge I.whole result ≡ edge_of (plain_step I.whole step) }
+    ensures long { IsLongEdge I.limit (plain_edge I.whole result) }
 {
     if is_forward(&step) {
-        (step.from, step.to)
+        IntEdge {
+            a: step.from,
+            b: step.to,
+        }
     } else {
-        (step.to, step.from)
+        IntEdge {
+            a: step.to,
+            b: step.from,
+        }
     }
 }

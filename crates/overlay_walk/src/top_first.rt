@@ -1,15 +1,17 @@
 //! The order of steps by the starts of their edges, top first.
 
-ghost use Rattle.std.specs.Prelude.{◌≡◌, ◌<◌, false, length, slice_index_or, All, AllPairs, OnOk};
-ghost use Rattle.std.specs.List.Sorted.{IsPermutation};
+ghost use Rattle.std.specs.Prelude.{◌≡◌, ◌<◌, false, length, slice_index_or, All, AllPairs, IsTrue, OnOk};
+ghost use Rattle.std.specs.List.Sorted.{IsPermutation, IsSortedBy};
 ghost use Rattle.std.specs.Ordering.{is_lt};
 ghost use Rattle.overlay_geom.specs.Plane.{edge_of};
+ghost use Rattle.overlay_geom.specs.Resolved.{plain_edge, IsLongEdge};
 ghost use Rattle.overlay_walk.specs.Places.{comes_top_first, is_place_top_first};
 ghost use Rattle.overlay_walk.specs.Steps.{plain_step, plain_steps, IsLong};
 
-use crate::step::{Step, ends_of};
+use crate::step::{Step, stepped_edge};
 use overlay_arrange::edge::compare_points;
 use overlay_arrange::sort_runs::sort_neighbours;
+use overlay_geom::edge::IntEdge;
 use overlay_geom::number::{IntNumber, WideIntNumber};
 use overlay_geom::vector::cross_at;
 use std::alloc::{AllocError, Allocator};
@@ -34,6 +36,9 @@ pub fn sort_top_first<I: IntNumber, A: Allocator>(
         steps,
         behind: *first,
     };
+    if starts.are_in_order(places) {
+        return Ok(());
+    }
     if sort_neighbours(places, |j, k| starts.compare(*j, *k)) {
         return Ok(());
     }
@@ -61,6 +66,27 @@ impl<'a, I: IntNumber> Starts<'a, I> {
         compare_top_first(self.step_at(j), self.step_at(k))
     }
 
+    // Returns whether places are in the order of these starts. It takes the edge of each step once.
+    fn are_in_order(&self, places: &[usize]) -> bool
+        ensures { let steps = plain_steps I.whole self.now.steps.now in
+            let behind = plain_step I.whole self.now.behind in
+            IsTrue result → IsSortedBy (λ j k. comes_top_first (edge_of (slice_index_or steps j behind))
+            (edge_of (slice_index_or steps k behind))) places.now }
+    {
+        if places.is_empty() {
+            return true;
+        }
+        let mut last = stepped_edge(self.step_at(places[0]));
+        for i in 1..places.len() {
+            let edge = stepped_edge(self.step_at(places[i]));
+            if compare_edges(edge, last).is_lt() {
+                return false;
+            }
+            last = edge;
+        }
+        true
+    }
+
     // Returns the step at a place.
     fn step_at(&self, place: usize) -> Step<I>
         ensures is { plain_step I.whole result
@@ -82,10 +108,17 @@ pub fn compare_top_first<I: IntNumber>(s: Step<I>, t: Step<I>) -> Ordering
     requires t { IsLong I.limit (plain_step I.whole t) }
     ensures { is_lt result ≡ comes_top_first (edge_of (plain_step I.whole s)) (edge_of (plain_step I.whole t)) }
 {
-    let (a, b) = ends_of(s);
-    let (c, d) = ends_of(t);
-    match compare_points(a, c) {
-        Ordering::Equal => cross_at(a, b, d).sign(),
+    compare_edges(stepped_edge(s), stepped_edge(t))
+}
+
+// Compares the starts of two edges as [`compare_top_first`] does.
+fn compare_edges<I: IntNumber>(e: IntEdge<I>, f: IntEdge<I>) -> Ordering
+    requires e { IsLongEdge I.limit (plain_edge I.whole e) }
+    requires f { IsLongEdge I.limit (plain_edge I.whole f) }
+    ensures { is_lt result ≡ comes_top_first (plain_edge I.whole e) (plain_edge I.whole f) }
+{
+    match compare_points(e.a, f.a) {
+        Ordering::Equal => cross_at(e.a, e.b, f.b).sign(),
         other => other,
     }
 }

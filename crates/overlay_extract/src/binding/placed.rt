@@ -13,7 +13,7 @@ ghost use Rattle.overlay_extract.specs.Places.{place_lists};
 ghost use Rattle.overlay_walk.specs.Asked.{asked};
 
 use crate::binding::bind::bind_contours;
-use crate::binding::places::shape_places;
+use crate::binding::places::{ShapePlaces, shape_places};
 use crate::binding::scans::scan_for_holes;
 use overlay_arrange::count::EdgeCount;
 use overlay_arrange::graph::Graph;
@@ -30,8 +30,8 @@ use std::alloc::{AllocError, Allocator};
 pub struct PlacedContours<I, A: Allocator> {
     /// The contours, in the order in which they are found.
     pub contours: Vec<Contour<I, A>, A>,
-    /// For each shape the places of its contours among all contours, its outline first.
-    pub places: Vec<Vec<usize, A>, A>,
+    /// For each shape the places of its contours among all contours.
+    pub places: Vec<ShapePlaces<A>, A>,
 }
 
 /// Returns the contours round the region where the rules hold, and their places in the shapes found for them. With
@@ -83,7 +83,7 @@ pub fn bound_places<I: IntNumber, C: EdgeCount, A: Allocator + Clone>(
     contours: &[Contour<I, A>],
     direction: ContourDirection,
     tree_from: usize,
-) -> Result<Vec<Vec<usize, A>, A>, AllocError>
+) -> Result<Vec<ShapePlaces<A>, A>, AllocError>
     requires long { All (All (IsLong I.limit)) (walks_in (plain_contours I.whole contours.now)) }
     requires bindable { CanBeBound (filled_hand direction) (walks_in (plain_contours I.whole contours.now)) }
     requires placeable { (shapes : _)
@@ -101,7 +101,7 @@ fn places_found<I: IntNumber, A: Allocator + Clone>(
     contours: &[Contour<I, A>],
     direction: ContourDirection,
     tree_from: usize,
-) -> Result<Vec<Vec<usize, A>, A>, AllocError>
+) -> Result<Vec<ShapePlaces<A>, A>, AllocError>
     requires long { All (All (IsLong I.limit)) (walks_in (plain_contours I.whole contours.now)) }
     requires bindable { CanBeBound (filled_hand direction) (walks_in (plain_contours I.whole contours.now)) }
     requires placeable { (shapes : _)

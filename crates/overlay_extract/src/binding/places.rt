@@ -1,17 +1,48 @@
 //! The places of contours in the shapes to which they are bound.
 
-ghost use Rattle.std.specs.Prelude.{◌≡◌, ◌∷◌, [], ◌++◌, ◌<◌, length, map, filter, All};
+ghost use Rattle.std.specs.Prelude.{◌≡◌, ◌∷◌, [], ◌++◌, ◌<◌, length, slice_index_or, map, filter, All};
 ghost use Rattle.std.specs.Prelude.{IfOk, IfSome, OnOk};
 ghost use Rattle.overlay_plane.specs.BoundContours.{contours_bound};
 ghost use Rattle.overlay_plane.specs.PlacedContours.{walks_at, CanBePlaced, ArePlaced};
 ghost use Rattle.overlay_plane.specs.RoledContours.{is_outline};
 ghost use Rattle.overlay_walk.specs.GroupedContours.{plain_contours, plain_role};
-ghost use Rattle.overlay_extract.specs.Places.{place_lists, number_as, with_place, AreInside, HasHolesAdded};
+ghost use Rattle.overlay_extract.specs.Places.{place_list, place_lists, number_as, with_place};
+ghost use Rattle.overlay_extract.specs.Places.{AreInside, HasHolesAdded};
 
 use crate::binding::known_shapes::shape_count;
 use overlay_geom::number::IntNumber;
 use overlay_walk::contour::{Contour, Role};
 use std::alloc::{AllocError, Allocator};
+
+/// The places of a shape's contours among all contours.
+#[derive(Drop)]
+pub struct ShapePlaces<A: Allocator> {
+    /// The place of its outline.
+    pub outline: usize,
+    /// The places of its holes.
+    pub holes: Vec<usize, A>,
+}
+
+impl<A: Allocator> ShapePlaces<A> {
+    /// Returns the number of the shape's contours.
+    pub fn count(&self) -> usize
+        ensures { result ≡ length (place_list self.now) }
+    {
+        self.holes.len() + 1
+    }
+
+    /// Returns the place of the contour with a number, the outline's for 0.
+    pub fn place(&self, number: usize) -> usize
+        requires { number < length (place_list self.now) }
+        ensures { result ≡ slice_index_or (place_list self.now) number 0 }
+    {
+        if number == 0 {
+            self.outline
+        } else {
+            self.holes[number - 1]
+        }
+    }
+}
 
 /// A kind of holes of a shape.
 #[derive(Clone, Copy)]
@@ -29,7 +60,7 @@ pub fn shape_places<I: IntNumber, A: Allocator + Clone>(
     alloc: A,
     contours: &[Contour<I, A>],
     found: &[Option<usize>],
-) -> Result<Vec<Vec<usize, A>, A>, AllocError>
+) -> Result<Vec<ShapePlaces<A>, A>, AllocError>
     requires { CanBePlaced (plain_contours I.whole contours.now) found.now }
     ensures placed { IfOk result
         (λ v. ArePlaced (plain_contours I.whole contours.now) found.now (place_lists v.items)) }
@@ -40,11 +71,11 @@ pub fn shape_places<I: IntNumber, A: Allocator + Clone>(
     Ok(places)
 }
 
-// Returns for each outline a list that holds only its place.
+// Returns for each outline its place, without holes.
 fn outline_places<I: IntNumber, A: Allocator + Clone>(
     alloc: A,
     contours: &[Contour<I, A>],
-) -> Result<Vec<Vec<usize, A>, A>, AllocError>
+) -> Result<Vec<ShapePlaces<A>, A>, AllocError>
     ensures inside { IfOk result
         (λ v. AreInside (length (plain_contours I.whole contours.now)) (place_lists v.items)) }
     ensures begun { IfOk result (λ v. walks_at (plain_contours I.whole contours.now) (place_lists v.items) ≡
@@ -59,24 +90,26 @@ fn outline_places<I: IntNumber, A: Allocator + Clone>(
     Ok(places)
 }
 
-// Adds a list that holds only this place.
+// Adds a shape whose outline has this place, without holes.
 fn push_alone<A: Allocator>(
     alloc: A,
-    places: &mut Vec<Vec<usize, A>, A>,
+    places: &mut Vec<ShapePlaces<A>, A>,
     place: usize,
 ) -> Result<(), AllocError>
     ensures ok { OnOk result
         (place_lists places.new.items ≡ place_lists places.old.items ++ (place ∷ []) ∷ []) }
 {
-    let mut alone = Vec::with_capacity(alloc, 1)?;
-    alone.push(place)?;
-    places.push(alone)?;
+    let holes = Vec::new(alloc);
+    places.push(ShapePlaces {
+        outline: place,
+        holes,
+    })?;
     Ok(())
 }
 
-// Adds the places of these holes to the lists of their shapes.
+// Adds the places of these holes to those of their shapes.
 fn add_holes<I: IntNumber, A: Allocator>(
-    places: &mut Vec<Vec<usize, A>, A>,
+    places: &mut Vec<ShapePlaces<A>, A>,
     contours: &[Contour<I, A>],
     found: &[Option<usize>],
     holes: Holes,
@@ -107,9 +140,9 @@ fn number_as(role: Role, found: Option<usize>, holes: Holes) -> Option<usize>
     }
 }
 
-// Adds the place to the list of the shape with this number, if there is a number.
+// Adds the place of a hole to the shape with this number, if there is a number.
 fn push_place<A: Allocator>(
-    places: &mut Vec<Vec<usize, A>, A>,
+    places: &mut Vec<ShapePlaces<A>, A>,
     number: Option<usize>,
     place: usize,
 ) -> Result<(), AllocError>
@@ -119,7 +152,7 @@ fn push_place<A: Allocator>(
 {
     match number {
         Some(number) => {
-            places[number].push(place)?;
+            places[number].holes.push(place)?;
             Ok(())
         }
         None => Ok(()),

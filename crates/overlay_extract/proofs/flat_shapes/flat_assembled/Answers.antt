@@ -1,5 +1,5 @@
 -- A further shape for a further list of places.
-use Rattle.std.proofs.Common.{◌≡◌, ◌∷◌, ◌++◌, [], ◌+◌, ◌<◌, map, take, length, All, refl, sym, ap, ◌∙◌, subst}
+use Rattle.std.proofs.Common.{◌≡◌, ◌∷◌, ◌++◌, [], ◌+◌, ◌<◌, map, take, length, All, sym, ap, ◌∙◌, subst}
 use Rattle.std.specs.List.{AllZip}
 use Rattle.std.proofs.lemmas.List.{map-append}
 use Rattle.std.proofs.lemmas.List.Elements.{AllZip-push}
@@ -12,8 +12,7 @@ use Rattle.overlay_geom.specs.Thinned.{IsKeptOrThinned}
 use Rattle.overlay_plane.specs.PlacedContours.{walk_at, walks_at}
 use Rattle.overlay_plane.specs.ShapeWindings.{points_of_shapes, AreKeptOrThinned}
 use Rattle.overlay_walk.specs.GroupedContours.{plain_contours}
-use Rattle.overlay_extract.specs.Places.{place_lists}
-use Rattle.overlay_extract.specs.TakenBehind.{AreTakenBehind}
+use Rattle.overlay_extract.specs.Places.{place_list, place_lists}
 use Rattle.overlay_extract.proofs.flat_shapes.flat_assembled.Goals as goal
 
 pub loop-shape-init : goal.loop-shape-init
@@ -32,9 +31,8 @@ loop-shape-init g c =
 pub push_shape-requires-clause-inside : goal.push_shape-requires-clause-inside
 push_shape-requires-clause-inside g c =
     let cs = plain_contours g.I.IntNumber.whole c.args.contours.now in
-    subst (All (λ k. k < length cs)) (sym c.deref.ensures.value)
-    (All-mapped_at (All (λ k. k < length cs)) (λ (ps : _). ps.items) c.args.places.now c.loop-shape.shape-index
-    c.shape-item.result c.loop-shape-test.true c.shape-item.is c.requires.inside)
+    All-mapped_at (All (λ k. k < length cs)) place_list c.args.places.now c.loop-shape.shape-index
+    c.shape-item.result c.loop-shape-test.true c.shape-item.is c.requires.inside
 
 pub loop-shape-preserved : goal.loop-shape-preserved
 loop-shape-preserved g c =
@@ -48,17 +46,15 @@ loop-shape-preserved g c =
     let new = c.push_shape.new.flat in
     let is = c.in_ok-push_shape.ensures in
     let packed = c.loop-shape.invariant.packed in
-    let shape = map points_of (map (walk_at cs) ps.items) in
-    let taken : AreTakenBehind whole keep shape old.points.items old.contour_ranges.items new.points.items
-    new.contour_ranges.items =
-    subst (λ is. AreTakenBehind whole keep (map points_of (map (walk_at cs) is)) old.points.items
-    old.contour_ranges.items new.points.items new.contour_ranges.items) c.deref.ensures.value is.contours in
+    let list = place_list ps in
+    let shape = map points_of (map (walk_at cs) list) in
+    let taken = is.contours in
     let given : points_of_shapes (walks_at cs before) ++ shape ∷ []
     ≡ points_of_shapes (walks_at cs (place_lists (take (k + 1) c.args.places.now)))
-    = sym (ap (λ ls. points_of_shapes (walks_at cs ls)) (mapped_more (λ (is : _). is.items) c.args.places.now k ps
+    = sym (ap (λ ls. points_of_shapes (walks_at cs ls)) (mapped_more place_list c.args.places.now k ps
     c.loop-shape-test.true c.shape-item.is)
-    ∙ ap points_of_shapes (map-append (map (walk_at cs)) before (ps.items ∷ []))
-    ∙ map-append (map points_of) (walks_at cs before) (map (walk_at cs) ps.items ∷ [])) in
+    ∙ ap points_of_shapes (map-append (map (walk_at cs)) before (list ∷ []))
+    ∙ map-append (map points_of) (walks_at cs before) (map (walk_at cs) list ∷ [])) in
     let shown : shapes_in whole old.points.items old.contour_ranges.items old.shape_ranges.items ++ taken.paths ∷ []
     ≡ shapes_in whole new.points.items new.contour_ranges.items new.shape_ranges.items
     = sym (ap (shapes_in whole new.points.items new.contour_ranges.items) is.shape

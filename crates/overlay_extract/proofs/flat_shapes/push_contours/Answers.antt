@@ -1,14 +1,15 @@
 -- A further contour for a further place.
-use Rattle.std.proofs.Common.{◌≡◌, ◌∷◌, ◌++◌, [], ◌+◌, ◌<◌, map, take, length, get_or, All, sym, ap, ap₂, ◌∙◌, subst}
+use Rattle.std.proofs.Common.{◌∷◌, ◌++◌, [], ◌+◌, ◌<◌, map, take, length, All, sym, ap, ap₂, ◌∙◌, subst}
 use Rattle.std.proofs.Common.{arith}
-use Rattle.std.proofs.lemmas.List.{length-map, map-append, take_more}
+use Rattle.std.proofs.lemmas.List.{length-map, map-append}
 use Rattle.overlay_geom.proofs.Mapped.{read_mapped}
 use Rattle.overlay_geom.specs.Plane.{points_of}
 use Rattle.overlay_plane.specs.PlacedContours.{walk_at}
 use Rattle.overlay_walk.specs.GroupedContours.{plain_contour, plain_contours}
 use Rattle.overlay_walk.specs.Steps.{plain_steps, IsLong}
 use Rattle.overlay_extract.specs.TakenBehind.{IsTakenBehind, AreTakenBehind}
-use Rattle.overlay_extract.proofs.HolesPlaced.{walk_there}
+use Rattle.overlay_extract.specs.Places.{place_list}
+use Rattle.overlay_extract.proofs.HolesPlaced.{walk_there, place_inside, place_behind}
 use Rattle.overlay_extract.proofs.PlacedShapes.{walk_has}
 use Rattle.overlay_extract.proofs.TakenBehind.{none_taken, one_taken}
 use Rattle.overlay_extract.proofs.flat_shapes.push_contours.Goals as goal
@@ -22,10 +23,13 @@ push_points-requires g c =
     let whole = g.I.IntNumber.whole in
     let plain = plain_contour whole in
     let cs = plain_contours whole c.args.contours.now in
-    let place = get_or c.args.places.now c.loop-i.i 0 in
+    let places = place_list c.args.places.now in
+    let place = c.place-place.result in
+    let here : c.loop-i.i < length places = omega (arith, c.loop-i-test.true, c.count-i-end.ensures) in
     let x = c.index-contours-place.result in
     let long = length-map c.args.contours.now plain in
-    let inside : place < length cs = c.requires.inside c.loop-i.i 0 c.loop-i-test.true in
+    let inside : place < length cs =
+    place_inside places c.loop-i.i place c.place-place.ensures here (length cs) c.requires.inside in
     let walk = walk_there cs place (plain x) inside
     (read_mapped plain c.args.contours.now place x (plain x) (omega (arith, inside, long)) c.index-contours-place.is) in
     subst (λ ss. All (IsLong g.I.IntNumber.limit) (plain_steps whole ss))
@@ -40,13 +44,16 @@ loop-i-preserved g c =
     let keep = c.args.keeps_points in
     let cs = plain_contours whole c.args.contours.now in
     let i = c.loop-i.i in
-    let place = get_or c.args.places.now i 0 in
+    let places = place_list c.args.places.now in
+    let place = c.place-place.result in
+    let here : c.loop-i.i < length places = omega (arith, c.loop-i-test.true, c.count-i-end.ensures) in
     let x = c.index-contours-place.result in
     let long = length-map c.args.contours.now plain in
-    let inside : place < length cs = c.requires.inside i 0 c.loop-i-test.true in
+    let inside : place < length cs =
+    place_inside places c.loop-i.i place c.place-place.ensures here (length cs) c.requires.inside in
     let walk = walk_there cs place (plain x) inside
     (read_mapped plain c.args.contours.now place x (plain x) (omega (arith, inside, long)) c.index-contours-place.is) in
-    let before = take i c.args.places.now in
+    let before = take i places in
     let points = c.loop-i.points.items in
     let new = c.push_points.new.points.items in
     let taken : IsTakenBehind whole keep (points_of (walk_at cs place)) points new =
@@ -58,7 +65,7 @@ loop-i-preserved g c =
     (c.len-start.ensures ∙ c.loop-i.points.ok.0) (c.len.ensures ∙ c.push_points.new.points.ok.0) in
     subst (λ given. AreTakenBehind whole keep given c.args.points.now.items c.args.ranges.now.items new
     c.push.new.self.items)
-    (sym (ap (λ ps. map points_of (map (walk_at cs) ps)) (take_more c.args.places.now i 0 c.loop-i-test.true)
+    (sym (ap (λ ps. map points_of (map (walk_at cs) ps)) (place_behind places i place c.place-place.ensures here)
     ∙ ap (map points_of) (map-append (walk_at cs) before (place ∷ []))
     ∙ map-append points_of (map (walk_at cs) before) (walk_at cs place ∷ [])))
     (one_taken whole keep c.args.points.now.items c.args.ranges.now.items (map points_of (map (walk_at cs) before))

@@ -1,5 +1,6 @@
 -- The comparison is an order, so the sort puts the places into it.
 use Rattle.std.proofs.Common.{◌<◌, length, All, subst, sym, rules, of_calls}
+use Rattle.std.specs.List.Sorted.{IsSortedBy}
 use Rattle.std.proofs.lemmas.Fn.{always_returns_same}
 use Rattle.std.proofs.lemmas.List.{length-map}
 use Rattle.std.proofs.lemmas.List.Sorted.{IsPermutation-trans, All-permutation}
@@ -14,6 +15,19 @@ invariant_of-starts g c = record {
   behind_is_long = All-mapped_at (IsLong g.I.IntNumber.limit) (plain_step g.I.IntNumber.whole) c.args.steps.now 0
       c.first-item.result c.in-len1-up.len_at_least c.first-item.is c.requires.long;
 }
+
+pub returns-then-are_in_order-clause-order : goal.returns-then-are_in_order-clause-order
+returns-then-are_in_order-clause-order g c =
+    let whole = g.I.IntNumber.whole in
+    let limit = g.I.IntNumber.limit in
+    let ss = plain_steps whole c.args.steps.now in
+    let last = All-mapped_at (IsLong limit) (plain_step whole) c.args.steps.now 0 c.first-item.result
+    c.in-len1-up.len_at_least c.first-item.is c.requires.long in
+    let places = c.args.places.now.items in
+    top_first_from_sorted limit ss (plain_step whole c.first-item.result) c.requires.long last places
+    (subst (λ n. All (λ k. k < n) places) (sym (length-map c.args.steps.now (plain_step whole))) c.requires.within)
+    (subst (IsSortedBy (place_before limit ss (plain_step whole c.first-item.result) c.requires.long last))
+    c.deref.ensures.value (c.are_in_order.ensures c.if-are_in_order.true))
 
 pub returns-then-sort_neighbours-clause-order : goal.returns-then-sort_neighbours-clause-order
 returns-then-sort_neighbours-clause-order g c =

@@ -5,7 +5,7 @@ use Rattle.std.proofs.lemmas.List.{get_or_default, length-map}
 use Rattle.overlay_geom.proofs.Mapped.{read_mapped}
 use Rattle.overlay_plane.specs.BoundContours.{contours_bound}
 use Rattle.overlay_walk.specs.GroupedContours.{plain_contour, plain_contours, plain_role}
-use Rattle.overlay_extract.specs.Places.{place_lists, number_as, with_place, HasHolesAdded}
+use Rattle.overlay_extract.specs.Places.{place_list, place_lists, number_as, with_place, HasHolesAdded}
 use Rattle.overlay_extract.proofs.HolesPlaced.{bound_more, added_more, walk_there, with_shape, added_none, added_all}
 use Rattle.overlay_extract.proofs.HolesPlaced.{number_counted}
 use Rattle.overlay_extract.proofs.binding.places.add_holes.Goals as goal
@@ -33,7 +33,7 @@ push_place-requires g c =
     subst (λ number. IfSome number (λ n. n < length c.loop-i.places.items)) (sym (c.number_as-number.ensures
     ∙ ap (λ (y : _). number_as c.args.holes (plain_role y.role) s) (sym c.index-contours-i.is)))
     (subst (λ k. IfSome (number_as c.args.holes (plain x).role s) (λ n. n < k))
-    (length-map c.loop-i.places.items (λ (v : _). v.items)) counted)
+    (length-map c.loop-i.places.items place_list) counted)
 
 pub loop-i-preserved : goal.loop-i-preserved
 loop-i-preserved g c =

@@ -4,7 +4,7 @@ use Rattle.std.specs.Prelude.{IfSome}
 use Rattle.std.proofs.lemmas.List.{length-map}
 use Rattle.overlay_plane.specs.BoundContours.{BoundContour, contours_bound}
 use Rattle.overlay_walk.specs.GroupedContours.{plain_contour, plain_contours}
-use Rattle.overlay_extract.specs.Places.{place_lists, number_as}
+use Rattle.overlay_extract.specs.Places.{place_list, place_lists, number_as}
 use Rattle.overlay_extract.specs.declared.binding.places.Holes.TheVariants.{OfGroups, Found}
 use Rattle.overlay_extract.proofs.PlacedShapes.{are_placed, numbers_below, outlines_counted}
 use Rattle.overlay_extract.proofs.binding.places.shape_places.Goals as goal
@@ -19,7 +19,7 @@ add_holes-requires-clause-numbered g c =
     let places = c.in_ok-places.places.items in
     subst (λ k. All (λ (b : BoundContour). IfSome (number_as OfGroups b.contour.role b.shape) (λ n. n < k))
     (contours_bound cs c.args.found.now))
-    (sym (sym (length-map places (λ (v : _). v.items))
+    (sym (sym (length-map places place_list)
     ∙ outlines_counted cs (place_lists places) c.in_ok-places.ensures.begun))
     (numbers_below OfGroups cs c.args.found.now c.requires)
 
@@ -29,7 +29,7 @@ add_holes-requires-2-clause-numbered g c =
     let places = c.add_holes.new.places.items in
     subst (λ k. All (λ (b : BoundContour). IfSome (number_as Found b.contour.role b.shape) (λ n. n < k))
     (contours_bound cs c.args.found.now))
-    (sym (sym (length-map places (λ (v : _). v.items)) ∙ c.in_ok-add_holes.ensures.added.counted
+    (sym (sym (length-map places place_list) ∙ c.in_ok-add_holes.ensures.added.counted
     ∙ outlines_counted cs (place_lists c.in_ok-places.places.items) c.in_ok-places.ensures.begun))
     (numbers_below Found cs c.args.found.now c.requires)
 
