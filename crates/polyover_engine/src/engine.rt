@@ -41,5 +41,6 @@ fn answer<A: Allocator + Copy, Rd: ReadTurns>(alloc: A, reader: &mut Rd) -> Resu
 {
     let bytes = read_all(alloc, reader)?;
     let input = parse_input(alloc, &bytes)?;
-    answer_text(alloc, &input)
+    drop(bytes);
+    answer_text(alloc, input)
 }
