@@ -29,10 +29,10 @@ pub fn answer_text<A: Allocator + Copy>(alloc: A, input: Input<A>) -> Result<Str
         (λ exit. EndsUnanswered (figures_at input.figures) input.line input.query exit) }
 {
     match input.query {
-        Query::Edges(fill_rule) => edges_text(alloc, &input, fill_rule),
+        Query::Edges(fill_rule) => edges_text(alloc, input, fill_rule),
         Query::Overlay(query) => overlay_text(alloc, input, query),
-        Query::Hierarchy(query) => hierarchy_text(alloc, &input, query),
-        Query::Relate(fill_rule) => relate_text(alloc, &input, fill_rule),
+        Query::Hierarchy(query) => hierarchy_text(alloc, input, query),
+        Query::Relate(fill_rule) => relate_text(alloc, input, fill_rule),
         Query::ClipLines(query) => clip_text(alloc, &input, query),
         Query::Slice(fill_rule) => slice_text(alloc, &input, fill_rule),
         Query::Tiles(query) => tiles_text(alloc, &input, query),
