@@ -33,7 +33,7 @@ pub fn answer_text<A: Allocator + Copy>(alloc: A, input: Input<A>) -> Result<Str
         Query::Overlay(query) => overlay_text(alloc, input, query),
         Query::Hierarchy(query) => hierarchy_text(alloc, input, query),
         Query::Relate(fill_rule) => relate_text(alloc, input, fill_rule),
-        Query::ClipLines(query) => clip_text(alloc, &input, query),
+        Query::ClipLines(query) => clip_text(alloc, input, query),
         Query::Slice(fill_rule) => slice_text(alloc, &input, fill_rule),
         Query::Tiles(query) => tiles_text(alloc, &input, query),
         Query::Contains => contains_text(alloc, &input),
