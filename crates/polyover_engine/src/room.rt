@@ -7,7 +7,7 @@ use std::alloc::{AllocError, Allocator};
 // Number of bytes from which an input is large.
 const LARGE: usize = 1048576;
 
-// Bytes of a block. The GNU C library takes no more than 32 MiB from its heap, and its notes on a block fit beside this.
+// Bytes of a block. The GNU C library takes up to 32 MiB from its heap; its notes on a block fit beside this.
 const BLOCK: usize = 33546240;
 
 // Number of blocks that are given back: 2 GiB.
