@@ -22,11 +22,11 @@ use std::alloc::Allocator;
 /// which the contours (and the open paths that are clipped, or slice) are added, and of the query on it; where points
 /// are asked about, `Memory`, and `BadInput` at the line of the first contour of the subject that is not resolved; and
 /// where tiles are, of a grid that does not fit the subject, `BadInput` at the line of the command.
-pub fn answer_text<A: Allocator + Copy>(alloc: A, input: &Input<A>) -> Result<String<A>, Exit>
-    requires { FiguresInRange (figures_at input.now.figures) }
+pub fn answer_text<A: Allocator + Copy>(alloc: A, input: Input<A>) -> Result<String<A>, Exit>
+    requires { FiguresInRange (figures_at input.figures) }
     ensures { MatchResult result
-        (λ text. Answers (figures_at input.now.figures) input.now.query (string_bytes text))
-        (λ exit. EndsUnanswered (figures_at input.now.figures) input.now.line input.now.query exit) }
+        (λ text. Answers (figures_at input.figures) input.query (string_bytes text))
+        (λ exit. EndsUnanswered (figures_at input.figures) input.line input.query exit) }
 {
     match input.query {
         Query::Edges(fill_rule) => edges_text(alloc, input, fill_rule),
@@ -34,9 +34,9 @@ pub fn answer_text<A: Allocator + Copy>(alloc: A, input: &Input<A>) -> Result<St
         Query::Hierarchy(query) => hierarchy_text(alloc, input, query),
         Query::Relate(fill_rule) => relate_text(alloc, input, fill_rule),
         Query::ClipLines(query) => clip_text(alloc, input, query),
-        Query::Slice(fill_rule) => slice_text(alloc, input, fill_rule),
-        Query::Tiles(query) => tiles_text(alloc, input, query),
-        Query::Contains => contains_text(alloc, input),
-        Query::Locate => locate_text(alloc, input),
+        Query::Slice(fill_rule) => slice_text(alloc, &input, fill_rule),
+        Query::Tiles(query) => tiles_text(alloc, &input, query),
+        Query::Contains => contains_text(alloc, &input),
+        Query::Locate => locate_text(alloc, &input),
     }
 }

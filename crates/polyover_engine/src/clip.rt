@@ -21,36 +21,38 @@ use polyover_text::path_text::paths_text;
 use polyover_text::query::{ClipQuery, Query};
 use std::alloc::Allocator;
 
-/// The answer to a query for a clip: the text of the paths that it leaves.
+/// The answer to a query for a clip: the text of the paths that it leaves. The input is dropped on the way.
 pub(crate) fn clip_text<A: Allocator + Copy>(
     alloc: A,
-    input: &Input<A>,
+    input: Input<A>,
     query: ClipQuery,
 ) -> Result<String<A>, Exit>
-    requires { FiguresInRange (figures_at input.now.figures) }
+    requires { FiguresInRange (figures_at input.figures) }
     ensures { MatchResult result
-        (λ text. Answers (figures_at input.now.figures) (Query.ClipLines query) (string_bytes text))
-        (λ exit. EndsUnanswered (figures_at input.now.figures) input.now.line (Query.ClipLines query) exit) }
+        (λ text. Answers (figures_at input.figures) (Query.ClipLines query) (string_bytes text))
+        (λ exit. EndsUnanswered (figures_at input.figures) input.line (Query.ClipLines query) exit) }
 {
-    let paths = clipped_lines(alloc, &input.figures, query)?;
+    let Input { figures, .. } = input;
+    let paths = clipped_lines(alloc, figures, query)?;
     Ok(paths_text(alloc, &paths)?)
 }
 
-// The parts of the open paths that a clip by the subject keeps, as paths.
+// The parts of the open paths that a clip by the subject keeps, as paths. The figures are dropped once they are added.
 fn clipped_lines<A: Allocator + Clone>(
     alloc: A,
-    figures: &Figures<A>,
+    figures: Figures<A>,
     query: ClipQuery,
 ) -> Result<Vec<IntPath<i64, A>, A>, OverlayError>
-    requires { FiguresInRange (figures_at figures.now) }
+    requires { FiguresInRange (figures_at figures) }
     ensures { MatchResult result
         (λ v. AreClippedOfPaths Rounds query.fill_rule (clip_rule_of query.options)
-        (shape_and_lines (figures_at figures.now))
+        (shape_and_lines (figures_at figures))
         (paths_of_shape (λ z. z) v.items))
-        (λ e. MayRefusePaths Rounds (shape_and_lines (figures_at figures.now)) e) }
+        (λ e. MayRefusePaths Rounds (shape_and_lines (figures_at figures)) e) }
 {
     let mut overlay = with_subject_shape(alloc, &figures.contours)?;
     overlay.add_string_paths(&figures.lines)?;
+    drop(figures);
     overlay.clip_string_lines(query.fill_rule, clip_rule(query.options))
 }
 

@@ -7,6 +7,7 @@ use crate::answer::answer_text;
 use crate::exit::Exit;
 use crate::read::read_all;
 use crate::read_turns::ReadTurns;
+use crate::room::room_for;
 use crate::write::write_all;
 use crate::write_turns::WriteTurns;
 use polyover_text::input::parse_input;
@@ -40,6 +41,8 @@ fn answer<A: Allocator + Copy, Rd: ReadTurns>(alloc: A, reader: &mut Rd) -> Resu
         (λ exit. Endings Rd.remaining Rd.reads reader.old reader.new ⊤ (λ _. ⊥) (λ _. ⊥) exit) }
 {
     let bytes = read_all(alloc, reader)?;
+    let _room = room_for(alloc, bytes.len());
     let input = parse_input(alloc, &bytes)?;
-    answer_text(alloc, &input)
+    drop(bytes);
+    answer_text(alloc, input)
 }

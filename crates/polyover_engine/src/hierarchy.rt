@@ -1,59 +1,60 @@
 //! The shapes of an overlay, and links from holes to the shapes in them.
 
-ghost use Rattle.std.specs.Prelude.{◌≡◌, ◌++◌, MatchResult, All, map, IfOk, OnOk, string_bytes};
+ghost use Rattle.std.specs.Prelude.{◌≡◌, ◌++◌, MatchResult, map, IfOk, OnOk, string_bytes};
 ghost use Rattle.overlay_geom.specs.Flat.{shapes_in};
-ghost use Rattle.overlay_geom.specs.Points.{AllInRange};
-ghost use Rattle.overlay_geom.specs.Numbers.{greatest_of_64_bits};
 ghost use Rattle.overlay_geom.specs.declared.solver.Solver.TheVariants.{Rounds};
 ghost use Rattle.overlay_extract.specs.ChildLinks.{plain_link};
 ghost use Rattle.i_overlay.specs.OneShot.{IsHierarchyOfPaths, MayRefusePaths};
 ghost use Rattle.polyover_engine.specs.Answers.{Answers, EndsUnanswered, link_lines};
 ghost use Rattle.polyover_engine.specs.Builders.{asked_by};
-ghost use Rattle.polyover_text.specs.Grammar.{contour_paths};
+ghost use Rattle.polyover_text.specs.Grammar.{paths_of};
 ghost use Rattle.polyover_text.specs.Points.{FiguresInRange};
 ghost use Rattle.polyover_text.specs.Printed.{lines_of_shapes};
-ghost use Rattle.polyover_text.specs.Statements.{contours_at, figures_at};
+ghost use Rattle.polyover_text.specs.Statements.{figures_at};
 
 use crate::builder::asked_builder;
 use crate::exit::Exit;
 use i_overlay::hierarchy::{ChildLink, FlatShapeHierarchy};
 use overlay_geom::error::OverlayError;
-use polyover_text::figures::NumberedContour;
+use polyover_text::figures::Figures;
 use polyover_text::flat_shape_text::flat_shapes_text;
 use polyover_text::input::Input;
 use polyover_text::link_text::push_link;
 use polyover_text::query::{OverlayQuery, Query};
 use std::alloc::{AllocError, Allocator};
 
-/// The answer to a query for a hierarchy: the text of its shapes and links.
+/// The answer to a query for a hierarchy: the text of its shapes and links. The input is dropped on the way.
 pub(crate) fn hierarchy_text<A: Allocator + Copy>(
     alloc: A,
-    input: &Input<A>,
+    input: Input<A>,
     query: OverlayQuery,
 ) -> Result<String<A>, Exit>
-    requires { FiguresInRange (figures_at input.now.figures) }
+    requires { FiguresInRange (figures_at input.figures) }
     ensures { MatchResult result
-        (λ text. Answers (figures_at input.now.figures) (Query.Hierarchy query) (string_bytes text))
-        (λ exit. EndsUnanswered (figures_at input.now.figures) input.now.line (Query.Hierarchy query) exit) }
+        (λ text. Answers (figures_at input.figures) (Query.Hierarchy query) (string_bytes text))
+        (λ exit. EndsUnanswered (figures_at input.figures) input.line (Query.Hierarchy query) exit) }
 {
-    let hierarchy = overlay_hierarchy(alloc, &input.figures.contours, query)?;
+    let Input { figures, .. } = input;
+    let hierarchy = overlay_hierarchy(alloc, figures, query)?;
     Ok(shapes_and_links_text(alloc, &hierarchy)?)
 }
 
-// The shapes of an overlay over the contours' arrangement, and their links.
+// The shapes of an overlay over the contours' arrangement, and their links. The figures are dropped once they are
+// added.
 fn overlay_hierarchy<A: Allocator + Clone>(
     alloc: A,
-    contours: &[NumberedContour<A>],
+    figures: Figures<A>,
     query: OverlayQuery,
 ) -> Result<FlatShapeHierarchy<i64, A>, OverlayError>
-    requires { All (λ c. AllInRange greatest_of_64_bits c.points) (contour_paths (contours_at contours.now)) }
+    requires { FiguresInRange (figures_at figures) }
     ensures { MatchResult result
-        (λ h. IsHierarchyOfPaths Rounds (asked_by query) (contour_paths (contours_at contours.now))
+        (λ h. IsHierarchyOfPaths Rounds (asked_by query) (paths_of (figures_at figures))
         (shapes_in (λ z. z) h.shapes.points.items h.shapes.contour_ranges.items h.shapes.shape_ranges.items)
         (map plain_link h.links.items))
-        (λ e. MayRefusePaths Rounds (contour_paths (contours_at contours.now)) e) }
+        (λ e. MayRefusePaths Rounds (paths_of (figures_at figures)) e) }
 {
-    let mut builder = asked_builder(alloc, contours, query)?;
+    let mut builder = asked_builder(alloc, &figures.contours, query)?;
+    drop(figures);
     builder.overlay_hierarchy(query.overlay_rule, query.fill_rule)
 }
 

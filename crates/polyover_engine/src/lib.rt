@@ -17,6 +17,7 @@ mod predicate_builder;
 mod read;
 pub mod read_turns;
 mod relations;
+mod room;
 mod slice;
 mod string_builder;
 mod subject;

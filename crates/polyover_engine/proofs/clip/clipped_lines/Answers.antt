@@ -24,7 +24,7 @@ add_string_paths-requires g c =
 
 pub returns-in_err-overlay : goal.returns-in_err-overlay
 returns-in_err-overlay g c =
-    let fs = figures_at c.args.figures.now in
+    let fs = figures_at c.args.figures in
     let p = err_from_is_err_and c.from_residual.result c.from_residual.ensures.1 in
     rw (p.1, p.2)
     (builder_refused Rounds (shape_and_lines fs) _
@@ -34,7 +34,7 @@ returns-in_err-overlay g c =
 
 pub returns-in_err-add_string_paths : goal.returns-in_err-add_string_paths
 returns-in_err-add_string_paths g c =
-    let fs = figures_at c.args.figures.now in
+    let fs = figures_at c.args.figures in
     let old = c.in_ok-overlay.overlay in
     let held = subst (λ l. HoldsJust (shape_contours (subject_of (contours_at l))) old) c.deref.ensures.value
     c.in_ok-overlay.ensures in
@@ -50,7 +50,7 @@ returns-in_err-add_string_paths g c =
 
 pub returns : goal.returns
 returns g c =
-    let fs = figures_at c.args.figures.now in
+    let fs = figures_at c.args.figures in
     let shape = shape_contours (subject_of fs.contours) in
     let strings = open_strings fs.lines in
     let old = c.in_ok-overlay.overlay in
