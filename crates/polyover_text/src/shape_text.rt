@@ -5,7 +5,6 @@ ghost use Rattle.overlay_geom.specs.Points.{plain_points, plain_point};
 ghost use Rattle.overlay_geom.specs.Paths.{plain_shapes, paths_of_shape};
 ghost use Rattle.polyover_text.specs.Printed.{lines_of_shapes, shape_lines, contour_line, point_text};
 
-use itoa::Buffer;
 use overlay_geom::path::{IntContour, IntShape};
 use overlay_geom::point::IntPoint;
 use std::alloc::{AllocError, Allocator};
@@ -62,8 +61,5 @@ fn push_point<A: Allocator>(text: &mut String<A>, point: &IntPoint<i64>) -> Resu
     ensures { OnOk result
         (string_bytes text.new ≡ string_bytes text.old ++ point_text (plain_point (λ z. z) point.now)) }
 {
-    let mut digits = Buffer::new();
-    text.push_str(digits.format(point.x))?;
-    text.push(' ')?;
-    text.push_str(digits.format(point.y))
+    write!(text, "{} {}", point.x, point.y)
 }
