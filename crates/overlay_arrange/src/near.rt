@@ -20,8 +20,7 @@ use std::alloc::{AllocError, Allocator};
 
 // Length of a run from which on it is searched by blocks; a shorter run is taken whole.
 const FEW: usize = 8;
-// Number of edges from which on bundles may be made, of edges in a sample, and of edges that such an edge then finds on
-// average.
+// Number of edges from which on bundles may be made, of edges in a sample, and of those that are many for such an edge.
 const MANY: usize = 4096;
 
 const SAMPLE: usize = 16;
@@ -59,8 +58,8 @@ pub(crate) fn find_near_behind<I: IntNumber, C: EdgeCount, A: Allocator>(
     }
 }
 
-/// Returns whether the edges of a sample find many edges by their boxes, and meet few of them elsewhere than in ends.
-/// It only serves as an estimate. Short lists are not tried.
+/// Returns whether a quarter of the edges of a sample, or more, find many edges by their boxes and meet few of them
+/// elsewhere than in ends. It only serves as an estimate. Short lists are not tried.
 pub(crate) fn misses_many<I: IntNumber, C: EdgeCount, A: Allocator>(
     alloc: A,
     edges: &[CountedEdge<I, C>],
@@ -75,18 +74,18 @@ pub(crate) fn misses_many<I: IntNumber, C: EdgeCount, A: Allocator>(
     }
     let distance = edges.len() / SAMPLE;
     let mut near = Vec::new(alloc);
-    let mut found: usize = 0;
-    let mut met: usize = 0;
+    let mut count: usize = 0;
     for k in 0..SAMPLE {
         let i = k.saturating_mul(distance);
         if i < edges.len() {
             let e = &edges[i];
             find_near_behind(&mut near, edges, strips, e, i + 1)?;
-            found = found.saturating_add(near.len());
-            met = met.saturating_add(count_met(edges, e, &near));
+            if near.len() >= FOUND && count_met(edges, e, &near) < near.len() / 4 {
+                count = count.saturating_add(1);
+            }
         }
     }
-    Ok(found / SAMPLE >= FOUND && found / 4 > met)
+    Ok(count >= SAMPLE / 4)
 }
 
 /// Returns how many of the edges at the places e meets elsewhere than in ends.
