@@ -13,8 +13,8 @@ const BLOCK: usize = 33546240;
 // Number of blocks that are given back: 2 GiB.
 const BLOCKS: usize = 64;
 
-/// Room for the answer to an input of so many bytes, if it is large: to be kept until it is answered. Room changes no
-/// answer, and where it is refused there is none.
+/// Returns room for the answer to an input, by the size of the input in bytes, if that is large. It is to be kept until
+/// the input is answered. Room changes no answer, and where it is refused there is none.
 pub(crate) fn room_for<A: Allocator + Copy>(alloc: A, size: usize) -> Option<Vec<u8, A>>
     ensures { IfSome result (λ block. block.items ≡ []) }
 {
@@ -24,7 +24,7 @@ pub(crate) fn room_for<A: Allocator + Copy>(alloc: A, size: usize) -> Option<Vec
     heap_room(alloc).ok()
 }
 
-// Makes the heap grow by blocks, and gives back all but the last, which is the answer. As long as it lives, the GNU C
+// Makes the heap grow by blocks, gives back all but the last, and returns the last. As long as it lives, the GNU C
 // library keeps the others as room, and takes large blocks from there. Else each large block would be new pages, which
 // the system clears one by one, and gets back as soon as the block is dropped. No page of the room is touched here.
 fn heap_room<A: Allocator + Copy>(alloc: A) -> Result<Vec<u8, A>, AllocError>
@@ -39,7 +39,7 @@ fn heap_room<A: Allocator + Copy>(alloc: A) -> Result<Vec<u8, A>, AllocError>
     block(alloc)
 }
 
-// A block that holds nothing.
+// Returns a block that holds nothing.
 fn block<A: Allocator>(alloc: A) -> Result<Vec<u8, A>, AllocError>
     ensures { IfOk result (λ block. block.items ≡ []) }
 {
