@@ -124,7 +124,7 @@ pub(crate) fn write_points<I: IntNumber, A: Allocator>(
     points.clear();
     points.reserve(walk.len())?;
     for step in walk {
-        points.push(step.from)?;
+        points.push_reserved(step.from);
     }
     Ok(())
 }

@@ -13,6 +13,7 @@ use overlay_arrange::sort_points::order_by_points;
 use overlay_geom::number::IntNumber;
 use overlay_geom::point::IntPoint;
 use overlay_walk::next::run_start;
+use overlay_walk::onward::{first_near, note_of};
 use overlay_walk::step::Step;
 use std::alloc::{AllocError, Allocator};
 
@@ -42,7 +43,7 @@ fn numbered_steps<I: IntNumber, A: Allocator>(
 {
     let mut steps = Vec::with_capacity(alloc, pieces.len())?;
     for place in 0..pieces.len() {
-        steps.push(numbered_step(pieces[place], way, place))?;
+        steps.push_reserved(numbered_step(pieces[place], way, place));
     }
     Ok(steps)
 }
@@ -59,17 +60,36 @@ fn numbered_step<I: IntNumber>(piece: Piece<I>, way: Way, number: usize) -> Step
     }
 }
 
-/// The smallest number of those of the steps from a point that are not taken.
+/// Returns for each piece, seen on the way, a note of the first place of the steps that leave its end. The steps are in
+/// the order of the points that they leave, the pieces in that of their edges' starts. A note promises nothing.
+pub(crate) fn places_onward<I: IntNumber, A: Allocator>(
+    alloc: A,
+    steps: &[Step<I>],
+    pieces: &[Piece<I>],
+    way: Way,
+) -> Result<Vec<u32, A>, AllocError> {
+    let mut onward = Vec::with_capacity(alloc, pieces.len())?;
+    let mut near = 0;
+    for piece in pieces {
+        near = first_near(steps, near, piece.end(way));
+        onward.push(note_of(near))?;
+    }
+    Ok(onward)
+}
+
+/// The smallest number of those of the steps from a point that are not taken. They are looked for at the place `near`
+/// first.
 pub(crate) fn first_open_from<I: IntNumber>(
     steps: &[Step<I>],
     taken: &[bool],
+    near: usize,
     point: IntPoint<I>,
 ) -> Option<usize>
     requires order { AreInOrder I.whole steps.now }
     requires within { All (λ s. s.edge < length taken.now) steps.now }
     ensures { IsFirstFrom I.whole steps.now taken.now (plain_point I.whole point) result }
 {
-    let low = run_start(steps, steps.len(), point);
+    let low = run_start(steps, near, point);
     for i in low..steps.len() {
         let step = steps[i];
         if !compare_points(step.from, point).is_eq() {

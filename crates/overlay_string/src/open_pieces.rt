@@ -7,11 +7,12 @@ ghost use Rattle.overlay_string.specs.PieceOrder.{AreByStart, AreByStartIfAny};
 ghost use Rattle.overlay_string.specs.Pieces.{plain_piece, plain_pieces, IsTakenAt, IsTakenFirst};
 ghost use Rattle.overlay_string.specs.declared.piece.Way.TheVariants.{Onward, Back};
 
-use crate::by_start::{first_open_from, steps_by_start};
+use crate::by_start::{first_open_from, places_onward, steps_by_start};
 use crate::piece::{Piece, Way};
 use crate::taken_pieces::is_taken;
 use overlay_geom::number::IntNumber;
 use overlay_geom::point::IntPoint;
+use overlay_walk::onward::noted;
 use overlay_walk::step::Step;
 use std::alloc::{AllocError, Allocator};
 use std::marker::Model;
@@ -24,10 +25,20 @@ pub(crate) struct OpenPieces<I: IntNumber, A: Allocator> {
     taken: Vec<bool, A>,
     // a place before which none is open
     passed: usize,
+    // the piece that was taken last
+    last: usize,
     // the pieces by the points that they leave, once one is looked for there
-    onward: Vec<Step<I>, A>,
+    onward: Sorted<I, A>,
     // the pieces turned back, by the points at which they arrive, once one is looked for there
-    back: Vec<Step<I>, A>,
+    back: Sorted<I, A>,
+}
+
+// Pieces, seen on a way, by the points where they begin.
+#[derive(Drop)]
+struct Sorted<I, A: Allocator> {
+    steps: Vec<Step<I>, A>,
+    // for each piece a note of the place where the steps that go on from it are looked for first
+    notes: Vec<u32, A>,
 }
 
 impl<I: IntNumber, A: Allocator> Model for OpenPieces<I, A> {
@@ -42,7 +53,7 @@ impl<I: IntNumber, A: Allocator> Model for OpenPieces<I, A> {
     ghost view = { λ o. unmarked (plain_pieces I.whole o.pieces.items) o.taken.items };
 
     ghost invariant = { λ o. AreOpenPieces I.whole (plain_pieces I.whole o.pieces.items) o.taken.items o.passed
-        o.onward.items o.back.items };
+        o.onward.steps.items o.back.steps.items };
 }
 
 impl<I: IntNumber, A: Allocator> OpenPieces<I, A> {
@@ -53,6 +64,7 @@ impl<I: IntNumber, A: Allocator> OpenPieces<I, A> {
         let place = first_open(&self.pieces, &self.taken, self.passed)?;
         self.taken[place] = true;
         self.passed = place;
+        self.last = place;
         Some(self.pieces[place])
     }
 }
@@ -62,14 +74,15 @@ impl<I: IntNumber, A: Allocator + Clone> OpenPieces<I, A> {
     pub(crate) fn new(pieces: Vec<Piece<I>, A>) -> Result<Self, AllocError>
         ensures ok { IfOk result (λ o. o ≡ plain_pieces I.whole pieces.items) }
     {
-        let onward = Vec::new(pieces.allocator().clone()?);
-        let back = Vec::new(pieces.allocator().clone()?);
+        let onward = none_sorted(pieces.allocator())?;
+        let back = none_sorted(pieces.allocator())?;
         let mut taken = Vec::new(pieces.allocator().clone()?);
         taken.resize(pieces.len(), false)?;
         Ok(OpenPieces {
             pieces,
             taken,
             passed: 0,
+            last: 0,
             onward,
             back,
         })
@@ -90,16 +103,27 @@ impl<I: IntNumber, A: Allocator + Clone> OpenPieces<I, A> {
             &self.pieces,
             &self.taken,
             way,
+            self.last,
             point,
         )?;
         match found {
             Some(place) => {
                 self.taken[place] = true;
+                self.last = place;
                 Ok(Some(self.pieces[place]))
             }
             None => Ok(None),
         }
     }
+}
+
+// Nothing sorted yet.
+fn none_sorted<I: IntNumber, A: Allocator + Clone>(alloc: &A) -> Result<Sorted<I, A>, AllocError>
+    ensures { IfOk result (λ s. s.steps.items ≡ []) }
+{
+    let steps = Vec::new(alloc.clone()?);
+    let notes = Vec::new(alloc.clone()?);
+    Ok(Sorted { steps, notes })
 }
 
 // The place of the first open piece, where none before a place is open.
@@ -116,59 +140,64 @@ fn first_open<I: IntNumber>(pieces: &[Piece<I>], taken: &[bool], passed: usize) 
     None
 }
 
-// The place of the first open piece that begins at a point, seen on the way.
+// The place of the first open piece that begins at a point, seen on the way. The point is the end of a piece.
 fn first_open_on<I: IntNumber, A: Allocator + Clone>(
-    onward: &mut Vec<Step<I>, A>,
-    back: &mut Vec<Step<I>, A>,
+    onward: &mut Sorted<I, A>,
+    back: &mut Sorted<I, A>,
     pieces: &[Piece<I>],
     taken: &[bool],
     way: Way,
+    last: usize,
     point: IntPoint<I>,
 ) -> Result<Option<usize>, AllocError>
     requires marks { length taken.now ≡ length pieces.now }
-    requires onward { AreByStartIfAny I.whole Onward (plain_pieces I.whole pieces.now) onward.old.items }
-    requires back { AreByStartIfAny I.whole Back (plain_pieces I.whole pieces.now) back.old.items }
+    requires onward { AreByStartIfAny I.whole Onward (plain_pieces I.whole pieces.now) onward.old.steps.items }
+    requires back { AreByStartIfAny I.whole Back (plain_pieces I.whole pieces.now) back.old.steps.items }
     ensures ok { IfOk result
         (IsFirstPlaceAt way (plain_point I.whole point) (plain_pieces I.whole pieces.now) taken.now) }
-    ensures onward { AreByStartIfAny I.whole Onward (plain_pieces I.whole pieces.now) onward.new.items }
-    ensures back { AreByStartIfAny I.whole Back (plain_pieces I.whole pieces.now) back.new.items }
+    ensures onward { AreByStartIfAny I.whole Onward (plain_pieces I.whole pieces.now) onward.new.steps.items }
+    ensures back { AreByStartIfAny I.whole Back (plain_pieces I.whole pieces.now) back.new.steps.items }
 {
     match way {
-        Way::Onward => first_open_at(onward, pieces, taken, Way::Onward, point),
-        Way::Back => first_open_at(back, pieces, taken, Way::Back, point),
+        Way::Onward => first_open_at(onward, pieces, taken, Way::Onward, last, point),
+        Way::Back => first_open_at(back, pieces, taken, Way::Back, last, point),
     }
 }
 
 // That place, found among the pieces by where they begin, seen on the way.
 fn first_open_at<I: IntNumber, A: Allocator + Clone>(
-    steps: &mut Vec<Step<I>, A>,
+    sorted: &mut Sorted<I, A>,
     pieces: &[Piece<I>],
     taken: &[bool],
     way: Way,
+    last: usize,
     point: IntPoint<I>,
 ) -> Result<Option<usize>, AllocError>
     requires marks { length taken.now ≡ length pieces.now }
-    requires steps { AreByStartIfAny I.whole way (plain_pieces I.whole pieces.now) steps.old.items }
+    requires steps { AreByStartIfAny I.whole way (plain_pieces I.whole pieces.now) sorted.old.steps.items }
     ensures ok { IfOk result
         (IsFirstPlaceAt way (plain_point I.whole point) (plain_pieces I.whole pieces.now) taken.now) }
-    ensures steps { AreByStartIfAny I.whole way (plain_pieces I.whole pieces.now) steps.new.items }
+    ensures steps { AreByStartIfAny I.whole way (plain_pieces I.whole pieces.now) sorted.new.steps.items }
 {
-    make_by_start(steps, pieces, way)?;
-    Ok(first_open_from(steps, taken, point))
+    make_by_start(sorted, pieces, way)?;
+    let near = noted(&sorted.notes, last);
+    Ok(first_open_from(&sorted.steps, taken, near, point))
 }
 
 // Makes the steps that are the pieces by where they begin, seen on the way, unless they are made already.
 fn make_by_start<I: IntNumber, A: Allocator + Clone>(
-    steps: &mut Vec<Step<I>, A>,
+    sorted: &mut Sorted<I, A>,
     pieces: &[Piece<I>],
     way: Way,
 ) -> Result<(), AllocError>
-    requires { AreByStartIfAny I.whole way (plain_pieces I.whole pieces.now) steps.old.items }
-    ensures ok { OnOk result (AreByStart I.whole way (plain_pieces I.whole pieces.now) steps.new.items) }
-    ensures steps { AreByStartIfAny I.whole way (plain_pieces I.whole pieces.now) steps.new.items }
+    requires { AreByStartIfAny I.whole way (plain_pieces I.whole pieces.now) sorted.old.steps.items }
+    ensures ok { OnOk result (AreByStart I.whole way (plain_pieces I.whole pieces.now) sorted.new.steps.items) }
+    ensures steps { AreByStartIfAny I.whole way (plain_pieces I.whole pieces.now) sorted.new.steps.items }
 {
-    if steps.is_empty() {
-        *steps = steps_by_start(steps.allocator().clone()?, pieces, way)?;
+    if sorted.steps.is_empty() {
+        let alloc = sorted.steps.allocator().clone()?;
+        sorted.steps = steps_by_start(alloc.clone()?, pieces, way)?;
+        sorted.notes = places_onward(alloc, &sorted.steps, pieces, way)?;
     }
     Ok(())
 }

@@ -2,7 +2,8 @@
 use Rattle.std.proofs.Common.{◌≡◌, ◌⊎◌, ⊎_elim, Bool, true, false, ◌&&◌, ◌||◌, ℤ, pos, int_lt, sym, ap, ◌∙◌, subst}
 use Rattle.std.proofs.Common.{refl}
 use Rattle.std.specs.Ordering.{is_lt, is_eq, int_cmp}
-use Rattle.std.specs.declared.cmp.Ordering.TheVariants.{Equal}
+use Rattle.std.specs.declared.cmp.Ordering.{Ordering}
+use Rattle.std.specs.declared.cmp.Ordering.TheVariants.{Less, Equal, Greater}
 use Rattle.std.proofs.lemmas.Bool.{both_ways, false_from_ne_true, or_cases, or_left, or_right, and_parts, and_from}
 use Rattle.overlay_geom.specs.Plane.{Point, Edge, point_lt, point_eq, cross_at}
 use Rattle.overlay_geom.proofs.Orders.{point_eq-same, point_eq-of_same, point_lt-itself, point_lt-back}
@@ -108,3 +109,24 @@ tied_start e f z tied crossed =
   where
     same : e.a ≡ f.a
     same = point_eq-same e.a f.a (sym (point_cmp-is_tie e.a f.a) ∙ ap is_eq tied)
+
+-- and an order of equal points is a tie
+tie_of : (o : Ordering) → is_eq o ≡ true → o ≡ Equal
+tie_of Less is = absurd (both_ways false refl is)
+tie_of Equal is = refl
+tie_of Greater is = absurd (both_ways false refl is)
+
+-- the same, where the starts are told to be equal
+pub one_start : (e f : Edge) (z : ℤ) → point_eq e.a f.a ≡ true → z ≡ cross_at e.a e.b f.b →
+    is_lt (int_cmp z (pos 0)) ≡ comes_top_first e f
+one_start e f z same crossed =
+    tied_start e f z (tie_of (point_cmp e.a f.a) (point_cmp-is_tie e.a f.a ∙ same)) crossed
+
+or_no : (b : Bool) → b ≡ (b || false)
+or_no true = refl
+or_no false = refl
+
+-- from different points the points tell it
+pub other_start : (e f : Edge) → point_eq e.a f.a ≡ false → point_lt e.a f.a ≡ comes_top_first e f
+other_start e f apart = or_no (point_lt e.a f.a)
+    ∙ ap (λ b. point_lt e.a f.a || (b && turns_left f e)) (sym apart)

@@ -52,11 +52,11 @@ fn all_places<I: IntNumber, A: Allocator>(
 
 // Returns a lower bound on the number of edges in the arrangement: one more than the greatest number of a step's edge.
 fn edge_count<I: IntNumber>(steps: &[Step<I>]) -> usize {
-    let mut count: usize = 0;
+    let mut greatest = 0;
     for step in steps {
-        count = count.max(step.edge.saturating_add(1));
+        greatest = step.edge.max(greatest);
     }
-    count
+    greatest.saturating_add(1)
 }
 
 // Puts the place of each step at the number of its edge, where no place of a step stands yet, and returns whether all

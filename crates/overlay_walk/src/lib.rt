@@ -14,7 +14,7 @@ mod leftmost;
 pub mod nearest;
 pub mod next;
 pub mod numbered_edge;
-mod onward;
+pub mod onward;
 mod open_places;
 pub mod open_steps;
 pub mod points_once;

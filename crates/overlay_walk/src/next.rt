@@ -12,7 +12,6 @@ use crate::hand::Hand;
 use crate::nearest::{NearestVector, Ray};
 use crate::open_places::is_open;
 use crate::step::Step;
-use overlay_arrange::edge::compare_points;
 use overlay_geom::edge::is_before;
 use overlay_geom::edge_pair::is_same;
 use overlay_geom::number::IntNumber;
@@ -63,7 +62,7 @@ pub fn run_start<I: IntNumber>(steps: &[Step<I>], near: usize, p: IntPoint<I>) -
     if is_parted_at(steps, near, p) {
         near
     } else {
-        steps.partition_point(|s| compare_points(s.from, p).is_lt())
+        steps.partition_point(|s| is_before(s.from, p))
     }
 }
 

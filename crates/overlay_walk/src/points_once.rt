@@ -82,7 +82,7 @@ fn points_left<I: IntNumber, A: Allocator>(
 {
     let mut points = Vec::with_capacity(alloc, steps.len())?;
     for step in steps {
-        points.push(step.from)?;
+        points.push_reserved(step.from);
     }
     Ok(points)
 }

@@ -11,7 +11,8 @@ ghost use Rattle.overlay_walk.specs.Steps.{plain_step, plain_steps, IsLong};
 use crate::step::{Step, stepped_edge};
 use overlay_arrange::edge::compare_points;
 use overlay_arrange::sort_runs::sort_neighbours;
-use overlay_geom::edge::IntEdge;
+use overlay_geom::edge::{IntEdge, is_before};
+use overlay_geom::edge_pair::is_same;
 use overlay_geom::number::{IntNumber, WideIntNumber};
 use overlay_geom::vector::cross_at;
 use std::alloc::{AllocError, Allocator};
@@ -79,7 +80,7 @@ impl<'a, I: IntNumber> Starts<'a, I> {
         let mut last = stepped_edge(self.step_at(places[0]));
         for i in 1..places.len() {
             let edge = stepped_edge(self.step_at(places[i]));
-            if compare_edges(edge, last).is_lt() {
+            if comes_before(edge, last) {
                 return false;
             }
             last = edge;
@@ -120,5 +121,18 @@ fn compare_edges<I: IntNumber>(e: IntEdge<I>, f: IntEdge<I>) -> Ordering
     match compare_points(e.a, f.a) {
         Ordering::Equal => cross_at(e.a, e.b, f.b).sign(),
         other => other,
+    }
+}
+
+// Returns whether the start of edge e comes before that of f, as [`compare_top_first`] tells.
+fn comes_before<I: IntNumber>(e: IntEdge<I>, f: IntEdge<I>) -> bool
+    requires e { IsLongEdge I.limit (plain_edge I.whole e) }
+    requires f { IsLongEdge I.limit (plain_edge I.whole f) }
+    ensures { result ≡ comes_top_first (plain_edge I.whole e) (plain_edge I.whole f) }
+{
+    if is_same(e.a, f.a) {
+        cross_at(e.a, e.b, f.b).sign().is_lt()
+    } else {
+        is_before(e.a, f.a)
     }
 }

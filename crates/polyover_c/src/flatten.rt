@@ -15,10 +15,13 @@ pub fn coordinates_of<I: IntNumber, A: Allocator>(
 ) -> Result<Vec<I, A>, AllocError>
     ensures coordinates { IfOk result (λ v. v.items ≡ coordinates_of points.now) }
 {
-    let mut coordinates = Vec::with_capacity(alloc, points.len().saturating_mul(2))?;
+    if points.len() > usize::MAX / 2 {
+        return Err(AllocError);
+    }
+    let mut coordinates = Vec::with_capacity(alloc, 2 * points.len())?;
     for point in points {
-        coordinates.push(point.x)?;
-        coordinates.push(point.y)?;
+        coordinates.push_reserved(point.x);
+        coordinates.push_reserved(point.y);
     }
     Ok(coordinates)
 }
@@ -29,7 +32,7 @@ pub fn ends_of<A: Allocator>(alloc: A, ranges: &[Range<usize>]) -> Result<Vec<us
 {
     let mut ends = Vec::with_capacity(alloc, ranges.len())?;
     for range in ranges {
-        ends.push(range.end)?;
+        ends.push_reserved(range.end);
     }
     Ok(ends)
 }

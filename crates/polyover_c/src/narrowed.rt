@@ -63,7 +63,7 @@ fn at_32_bits(alloc: Global, coordinates: &[i64]) -> Result<Option<Vec<i32, Glob
         if *coordinate < -GREATEST_OF_32_BITS || *coordinate > GREATEST_OF_32_BITS {
             return Ok(None);
         }
-        narrowed.push(*coordinate as i32)?;
+        narrowed.push_reserved(*coordinate as i32);
     }
     Ok(Some(narrowed))
 }
@@ -74,7 +74,7 @@ fn at_64_bits(alloc: Global, coordinates: &[i32]) -> Result<Vec<i64, Global>, Al
 {
     let mut widened = Vec::with_capacity(alloc, coordinates.len())?;
     for coordinate in coordinates {
-        widened.push(i64::from(*coordinate))?;
+        widened.push_reserved(i64::from(*coordinate));
     }
     Ok(widened)
 }

@@ -11,6 +11,6 @@ returns-clause-ok g c =
     let whole = g.I.IntNumber.whole in
     let pieces = c.args.pieces.now in
     first_place_from whole c.args.way (plain_point whole c.args.point) (plain_pieces whole pieces) c.args.taken.now
-    (c.requires.marks ∙ sym (length-map pieces (plain_piece whole))) c.make_by_start.new.steps.items
+    (c.requires.marks ∙ sym (length-map pieces (plain_piece whole))) c.make_by_start.new.sorted.steps.items
     c.in_ok-make_by_start.ensures.ok c.first_open_from.result
-    (rw (c.deref.ensures.value) at c.first_open_from.ensures)
+    (rw (c.deref-2.ensures.value) at c.first_open_from.ensures)

@@ -1,11 +1,8 @@
 -- The place that is tried parts the sorted steps, or the search finds the one that does.
-use Rattle.std.proofs.Common.{◌≡◌, ◌∙◌, arith, rules}
-use Rattle.std.specs.Ordering.{is_lt}
+use Rattle.std.proofs.Common.{arith, rules}
 use Rattle.std.proofs.lemmas.List.Sorted.{IsPartitionPoint-from_clause}
 use Rattle.overlay_geom.specs.Points.{plain_point}
-use Rattle.overlay_arrange.specs.Content.{point_cmp}
-use Rattle.overlay_walk.specs.Steps.{plain_step}
-use Rattle.overlay_walk.proofs.Runs.{point_cmp-is_less, leaves_below, below-parted}
+use Rattle.overlay_walk.proofs.Runs.{leaves_below, below-parted}
 use Rattle.overlay_walk.proofs.next.run_start.Goals as goal
 
 pub returns-then-is_parted_at-clause-within : goal.returns-then-is_parted_at-clause-within
@@ -22,5 +19,4 @@ returns-else-is_parted_at-clause-parted g c =
     let p = plain_point whole c.args.p in
     IsPartitionPoint-from_clause (leaves_below whole p) _ _ c.partition_point.ensures.partitioned
     (below-parted whole ss c.requires p) (λ a r q k.
-    let answer : r ≡ is_lt (point_cmp (plain_step whole a.0.now).from p) = search rules in
-    (answer ∙ point_cmp-is_less (plain_step whole a.0.now).from p, search rules))
+    (search rules, search rules))

@@ -24,11 +24,13 @@ loop-coordinate-preserved c =
     let narrow : to_z w32 (of_z w32 (to_z w64 (of_z w64 item))) ≡ item =
     ap (λ x. to_z w32 (of_z w32 x)) same
     ∙ to_z-of_z w32 item (Within-fits w32 greatest_of_32_bits item (lit< tt) within) in
-    let items = c.in_ok-push.ensures.items ∙ ap (λ x. ys ++ x ∷ []) narrow in (
+    let items = c.push_reserved.ensures.items ∙ ap (λ x. ys ++ x ∷ []) narrow in (
       ap (λ xs. xs ++ drop (i + 1) cs) items
           ∙ append_assoc ys (item ∷ []) (drop (i + 1) cs)
           ∙ ap (λ zs. ys ++ zs) (sym (drop_more cs i (pos 0) c.loop-coordinate-test.true))
           ∙ c.loop-coordinate.invariant.0,
       subst (All (Within greatest_of_32_bits)) (sym items)
           (All-push (Within greatest_of_32_bits) ys item c.loop-coordinate.invariant.1 within),
+      search rules,
+      search rules,
     )

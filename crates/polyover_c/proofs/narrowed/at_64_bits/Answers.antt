@@ -10,8 +10,11 @@ loop-coordinate-preserved c =
     let i = c.loop-coordinate.coordinate-index in
     let item : ℤ = get_or cs i (pos 0) in
     let ys = c.loop-coordinate.widened.items in
-    let same : to_z w64 (of_z w64 c.from.result) ≡ item = search (rules, to_z-of_z, c.from.ensures) in
-    ap (λ xs. xs ++ drop (i + 1) cs) (c.in_ok-push.ensures.items ∙ ap (λ x. ys ++ x ∷ []) same)
-    ∙ append_assoc ys (item ∷ []) (drop (i + 1) cs)
-    ∙ ap (λ zs. ys ++ zs) (sym (drop_more cs i (pos 0) c.loop-coordinate-test.true))
-    ∙ c.loop-coordinate.invariant
+    let same : to_z w64 (of_z w64 c.from.result) ≡ item = search (rules, to_z-of_z, c.from.ensures) in (
+      ap (λ xs. xs ++ drop (i + 1) cs) (c.push_reserved.ensures.items ∙ ap (λ x. ys ++ x ∷ []) same)
+          ∙ append_assoc ys (item ∷ []) (drop (i + 1) cs)
+          ∙ ap (λ zs. ys ++ zs) (sym (drop_more cs i (pos 0) c.loop-coordinate-test.true))
+          ∙ c.loop-coordinate.invariant.0,
+      search rules,
+      search rules,
+    )

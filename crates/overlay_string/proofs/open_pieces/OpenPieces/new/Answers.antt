@@ -12,8 +12,8 @@ invariant_of-result g c =
     record {
       marked = all ∙ sym (length-map c.args.pieces.items (plain_piece whole));
       passing = refl;
-      leaving = inl c.new-onward.ensures.items;
-      arriving = inl c.new-back.ensures.items;
+      leaving = inl c.in_ok-onward.ensures;
+      arriving = inl c.in_ok-back.ensures;
     }
 
 pub returns : goal.returns

@@ -30,6 +30,6 @@ loop-i-preserved g c =
           subst (λ e. comes_top_first e (edge_at (slice_index_or places k d)) ≡ false)
           (here d ∙ ap (λ n. edge_at (slice_index_or places n d)) (sym at))
           (subst (λ e. comes_top_first edge e ≡ false) (c.loop-i.invariant.1 k d at)
-          (sym c.compare_edges.ensures ∙ sym c.is_lt.ensures ∙ c.if-is_lt.false)))
+          (sym c.comes_before.ensures ∙ c.if-comes_before.false)))
           (cases_lt (k + 1) i),
     )
