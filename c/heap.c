@@ -23,9 +23,9 @@ static struct answer told(void *at) {
 }
 
 #ifdef __linux__
-/* The sizes in bytes: of a list for which freed memory is kept, of the block that is freed for that, of a list for which
- * large pages are asked, and of a small page. */
-enum { LARGE = 1 << 17, KEPT = (1 << 24) - (1 << 12), HUGE = 1 << 22, PAGE = 1 << 12 };
+/* The sizes in bytes: of a list for which freed memory is kept, of the block that is freed for that, of a list for
+ * which large pages are asked, and of a small page. */
+enum { LARGE = 1 << 15, KEPT = (1 << 24) - (1 << 12), HUGE = 1 << 22, PAGE = 1 << 12 };
 
 /* Frees one block that nothing was written to, once. From then on glibc's malloc makes lists up to its size of memory
  * that it keeps, up to twice its size, where before it took each from the system and gave it back. */
