@@ -10,7 +10,8 @@ use Rattle.overlay_geom.proofs.Identities.{solve, Expr, ◌⊕◌, ◌⊗◌, �
 use Rattle.overlay_geom.proofs.MeansOfEnds.{mean_of_ends, side_of_mean}
 use Rattle.overlay_geom.proofs.PointOrder.{Decides-point_lt, IsBefore}
 use Rattle.overlay_geom.proofs.Signs.{linear, mul-pos, mul-nonneg, mul-nonpos}
-use Rattle.overlay_arrange.specs.Bundles.{Bundle, HoldsEdge, IsBetweenLines, IsLeftOf, IsReached, IsWidened, across}
+use Rattle.overlay_arrange.specs.Bundles.{Bundle, HoldsEdge, IsBetweenLines, IsBeyondLine, IsInBox, IsLeftOfParallel}
+use Rattle.overlay_arrange.specs.Bundles.{IsReached, IsWidened, across}
 use Rattle.overlay_arrange.specs.Content.{IsHeld}
 use Rattle.overlay_arrange.specs.Extents.{Extent, Encloses}
 use Rattle.overlay_arrange.specs.Settle.{AreSettled}
@@ -42,11 +43,20 @@ IsMovedTo beyond old v new = (beyond × (new ≡ v)) ⊎ ((¬ beyond) × (new �
 
 -- then the bundle reaches the point
 pub reached_by : (bundle : Bundle) (v left right : Point) →
-    IsMovedTo (IsLeftOf bundle.along bundle.left v) bundle.left v left →
-    IsMovedTo (IsLeftOf bundle.along v bundle.right) bundle.right v right →
-    IsReached bundle v (record { extent = bundle.extent; along = bundle.along; left = left; right = right })
+    IsMovedTo (IsLeftOfParallel bundle.along bundle.left v) bundle.left v left →
+    IsMovedTo (IsLeftOfParallel bundle.along v bundle.right) bundle.right v right →
+    IsReached bundle v (record {
+      extent = bundle.extent;
+      west = bundle.west;
+      east = bundle.east;
+      along = bundle.along;
+      left = left;
+      right = right;
+    })
 reached_by bundle v left right moved_left moved_right = record {
   extent = refl;
+  west = refl;
+  east = refl;
   along = refl;
   keeps = λ u between. record {
     left = keeps_left u between.left moved_left;
@@ -59,50 +69,70 @@ reached_by bundle v left right moved_left moved_right = record {
     d = bundle.along
 
     keeps_left : (u : Point) → across d bundle.left u ≤ℤ pos 0 →
-        IsMovedTo (IsLeftOf d bundle.left v) bundle.left v left → across d left u ≤ℤ pos 0
+        IsMovedTo (IsLeftOfParallel d bundle.left v) bundle.left v left → across d left u ≤ℤ pos 0
     keeps_left u below (inl (beyond, is)) = subst (λ p. across d p u ≤ℤ pos 0) (sym is)
         (let sum = across_sum d bundle.left v u in omega linear)
     keeps_left u below (inr (stays, is)) = subst (λ p. across d p u ≤ℤ pos 0) (sym is) below
 
     keeps_right : (u : Point) → across d u bundle.right ≤ℤ pos 0 →
-        IsMovedTo (IsLeftOf d v bundle.right) bundle.right v right → across d u right ≤ℤ pos 0
+        IsMovedTo (IsLeftOfParallel d v bundle.right) bundle.right v right → across d u right ≤ℤ pos 0
     keeps_right u above (inl (beyond, is)) = subst (λ p. across d u p ≤ℤ pos 0) (sym is)
         (let sum = across_sum d u v bundle.right in omega linear)
     keeps_right u above (inr (stays, is)) = subst (λ p. across d u p ≤ℤ pos 0) (sym is) above
 
-    reaches_left : IsMovedTo (IsLeftOf d bundle.left v) bundle.left v left → across d left v ≤ℤ pos 0
+    reaches_left : IsMovedTo (IsLeftOfParallel d bundle.left v) bundle.left v left → across d left v ≤ℤ pos 0
     reaches_left (inl (beyond, is)) = subst (λ p. across d p v ≤ℤ pos 0) (sym is)
         (let none = across_none d v in omega linear)
     reaches_left (inr (stays, is)) = subst (λ p. across d p v ≤ℤ pos 0) (sym is)
         (by_lt_z (pos 0) (across d bundle.left v) (λ beyond. absurd (stays beyond)) (λ not. not))
 
-    reaches_right : IsMovedTo (IsLeftOf d v bundle.right) bundle.right v right → across d v right ≤ℤ pos 0
+    reaches_right : IsMovedTo (IsLeftOfParallel d v bundle.right) bundle.right v right → across d v right ≤ℤ pos 0
     reaches_right (inl (beyond, is)) = subst (λ p. across d v p ≤ℤ pos 0) (sym is)
         (let none = across_none d v in omega linear)
     reaches_right (inr (stays, is)) = subst (λ p. across d v p ≤ℤ pos 0) (sym is)
         (by_lt_z (pos 0) (across d v bundle.right) (λ beyond. absurd (stays beyond)) (λ not. not))
 
+-- the bundle with another box
+abbrev pub boxed : Bundle → Extent → ℤ → ℤ → Bundle
+boxed bundle box west east = record {
+  extent = box;
+  west = west;
+  east = east;
+  along = bundle.along;
+  left = bundle.left;
+  right = bundle.right;
+}
+
 -- two points reached, and a larger box: the bundle is widened by an edge
-pub widened_by : (old mid new : Bundle) (box s : Extent) (e : CountedEdge) → IsReached old e.a mid →
-    IsReached mid e.b new → Encloses box old.extent → Encloses box s →
-    HoldsEdge (record { extent = box; along = new.along; left = new.left; right = new.right }) s e
-    × IsWidened old (record { extent = box; along = new.along; left = new.left; right = new.right })
-widened_by old mid new box s e to_a to_b of_old of_s = (
+pub widened_by : (old mid new : Bundle) (box s : Extent) (west east : ℤ) (e : CountedEdge) → IsReached old e.a mid →
+    IsReached mid e.b new → Encloses box old.extent → Encloses box s → west ≤ℤ old.west → old.east ≤ℤ east →
+    IsInBox (boxed new box west east) e.a × IsInBox (boxed new box west east) e.b →
+    HoldsEdge (boxed new box west east) s e × IsWidened old (boxed new box west east)
+widened_by old mid new box s west east e to_a to_b of_old of_s of_west of_east inside = (
   record {
     box = of_s;
     a = between e.a (to_b.keeps e.a to_a.reaches);
     b = between e.b to_b.reaches;
+    a_in = inside.0;
+    b_in = inside.1;
   },
   (λ t f holds. record {
     box = covers_through box old.extent t of_old holds.box;
     a = between f.a (to_b.keeps f.a (to_a.keeps f.a holds.a));
     b = between f.b (to_b.keeps f.b (to_a.keeps f.b holds.b));
+    a_in = in_wider f.a holds.a_in;
+    b_in = in_wider f.b holds.b_in;
   }),
 )
   where
-    between : (u : Point) → IsBetweenLines new u →
-        IsBetweenLines (record { extent = box; along = new.along; left = new.left; right = new.right }) u
+    between : (u : Point) → IsBetweenLines new u → IsBetweenLines (boxed new box west east) u
     between u it = record { left = it.left; right = it.right }
+
+    in_wider : (u : Point) → IsInBox old u → IsInBox (boxed new box west east) u
+    in_wider u it =
+        let w = it.west in let e = it.east in let l = it.low in let h = it.high in
+        let lower = of_old.low in let higher = of_old.high in
+        record { west = omega linear; east = omega linear; low = omega linear; high = omega linear }
 
 -- in the opposite direction left and right are exchanged
 abbrev back : Edge → Edge
@@ -162,9 +192,7 @@ module _ (g : Edge) where
 
 -- an edge with both ends beyond a line of a bundle meets the bundle's edges in ends alone
 pub settled_beyond : (limit : ℕ) (bundle : Bundle) (s : Extent) (e f : CountedEdge) → IsHeld limit e → IsHeld limit f →
-    HoldsEdge bundle s f →
-    (IsLeftOf bundle.along bundle.left e.a × IsLeftOf bundle.along bundle.left e.b)
-    ⊎ (IsLeftOf bundle.along e.a bundle.right × IsLeftOf bundle.along e.b bundle.right) → AreSettled e f
+    HoldsEdge bundle s f → IsBeyondLine bundle e → AreSettled e f
 settled_beyond limit bundle s e f e_held f_held holds = by
   where
     d : Edge
@@ -176,8 +204,7 @@ settled_beyond limit bundle s e f e_held f_held holds = by
     f_forward : IsBefore f.a f.b
     f_forward = (Decides-point_lt f.a f.b).0 f_held.forward
 
-    by : (IsLeftOf d bundle.left e.a × IsLeftOf d bundle.left e.b)
-        ⊎ (IsLeftOf d e.a bundle.right × IsLeftOf d e.b bundle.right) → AreSettled e f
+    by : IsBeyondLine bundle e → AreSettled e f
     by (inl (a, b)) = λ p common.
         let v = bundle.left in
         let ea = side_of_line d v e.a in let eb = side_of_line d v e.b in

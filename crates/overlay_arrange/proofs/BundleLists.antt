@@ -1,6 +1,7 @@
 -- The bundles of each `size` boxes, made box by box.
 use Rattle.std.proofs.Common.{◌≡◌, ◌≢◌, ◌⊎◌, ⊎_elim, inl, inr, ℕ, ◌+◌, ◌*◌, ◌/◌, ◌%◌, ◌<◌, ◌≤◌, List, [], ◌∷◌, ◌++◌}
 use Rattle.std.proofs.Common.{length, get_or, set, sym, ap, ◌∙◌, subst, arith}
+use Rattle.std.specs.List.Sorted.{IsPermutation}
 use Rattle.std.proofs.lemmas.Bool.{cases_eq}
 use Rattle.std.proofs.lemmas.List.{get_or_default, get_or_push, get_or-set_same, get_or-set_other}
 use Rattle.std.proofs.lemmas.List.{length-append, length-set}
@@ -8,9 +9,10 @@ use Rattle.std.proofs.Math.ListN.{get_or-append}
 use Rattle.std.proofs.Math.Nat.{div-add-mod, div-eq_of_lt-le, mod-lt, eq-or-lt_of_le}
 use Rattle.overlay_geom.specs.Edges.{CountedEdge}
 use Rattle.overlay_arrange.specs.Bundles.{Bundle, AreBundles, HoldsEdge, IsWidened}
-use Rattle.overlay_arrange.specs.Extents.{Extent}
+use Rattle.overlay_arrange.specs.Extents.{Extent, extent_of, extents_of}
 use Rattle.overlay_arrange.specs.Meetings.{IsAt}
 use Rattle.overlay_arrange.proofs.GatheredMeetings.{one_entry}
+use Rattle.overlay_arrange.proofs.PlacedExtents.{item_there}
 
 -- ---- multiples
 
@@ -44,6 +46,17 @@ next_place size i some = ⊎_elim last inside
         div-eq_of_lt-le {k = i / size} size {m = i + 1} (omega (arith, whole)) (omega (arith, whole, less)) in
         let same : size * ((i + 1) / size) ≡ size * (i / size) = ap (λ n. size * n) q in
         inr ((λ zero. absurd (omega (arith, whole, more, same, zero))), q)
+
+-- ---- the box of an edge
+
+-- a box that has the place of an edge is that of the edge
+pub own_box : (es : List CountedEdge) (ss : List Extent) → IsPermutation (extents_of es) ss → (k : ℕ) (s : Extent)
+    (e : CountedEdge) → IsAt ss k s → IsAt es s.first e → s ≡ extent_of e s.first
+own_box es ss moved k s e at_s at_e =
+    let there = item_there extent_of es ss moved k s at_s in
+    let place : there.0 ≡ s.first = ap (λ (t : Extent). t.first) there.3 in
+    let same : there.1 ≡ e = one_entry es s.first there.1 e (subst (λ n. IsAt es n there.1) place there.2) at_e in
+    sym there.3 ∙ ap (λ n. extent_of there.1 n) place ∙ ap (λ f. extent_of f s.first) same
 
 -- ---- making bundles
 

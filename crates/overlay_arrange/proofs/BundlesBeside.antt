@@ -5,14 +5,26 @@ use Rattle.std.specs.List.Sorted.{IsPermutation}
 use Rattle.std.proofs.lemmas.List.{get_or_default, length-map}
 use Rattle.overlay_geom.specs.Edges.{CountedEdge}
 use Rattle.overlay_geom.proofs.Entries.{some_entry}
-use Rattle.overlay_arrange.specs.Bundles.{Bundle, AreHeldBundles, ArePassed, BeginsBeside, HoldsEdge, IsLeftOf}
-use Rattle.overlay_arrange.specs.Bundles.{IsPassed}
+use Rattle.overlay_arrange.specs.Bundles.{Bundle, AreHeldBundles, ArePassed, BeginsBeside, HoldsEdge, IsBeyondLine}
+use Rattle.overlay_arrange.specs.Bundles.{IsBoxBeside, IsPassed}
 use Rattle.overlay_arrange.specs.Content.{IsHeld}
 use Rattle.overlay_arrange.specs.Extents.{Extent, extent_of, extents_of, IsApart}
 use Rattle.overlay_arrange.specs.Meetings.{IsAt}
+use Rattle.overlay_arrange.proofs.BundleBoxes.{settled_by_box}
 use Rattle.overlay_arrange.proofs.BundleLines.{settled_beyond}
 use Rattle.overlay_arrange.proofs.ExtentBlocks.{apart_under, same_block}
 use Rattle.overlay_arrange.proofs.PlacedExtents.{item_there}
+
+-- a bundle of one edge, as an entry that a list has beyond its end
+abbrev pub lone_bundle : CountedEdge → Extent → Bundle
+lone_bundle e s = record {
+  extent = s;
+  west = e.a.x;
+  east = e.b.x;
+  along = record { a = e.a; b = e.b };
+  left = e.a;
+  right = e.a;
+}
 
 module _ (limit size : ℕ) (es : List CountedEdge) (ss : List Extent) (bundles : List Bundle)
     (moved : IsPermutation (extents_of es) ss) (held : AreHeldBundles limit size es ss bundles) where
@@ -37,7 +49,7 @@ module _ (limit size : ℕ) (es : List CountedEdge) (ss : List Extent) (bundles 
   bundle_passed e s at some es_held e_held begun k t past less at_t = ⊎_elim by_box by_lines (begun.beside d)
     where
       d : Bundle
-      d = record { extent = s; along = record { a = e.a; b = e.b }; left = e.a; right = e.a }
+      d = lone_bundle e s
 
       bundle : Bundle
       bundle = get_or bundles (at / size) d
@@ -50,10 +62,14 @@ module _ (limit size : ℕ) (es : List CountedEdge) (ss : List Extent) (bundles 
       by_box apart = let edge = edge_there k t at_t in
           inl (apart_under s bundle.extent t (holds edge.0 edge.1).box apart)
 
-      by_lines : (IsLeftOf bundle.along bundle.left e.a × IsLeftOf bundle.along bundle.left e.b)
-          ⊎ (IsLeftOf bundle.along e.a bundle.right × IsLeftOf bundle.along e.b bundle.right) → IsPassed es e s t
-      by_lines beyond = inr (λ f at_f. settled_beyond limit bundle t e f e_held
-          (subst (IsHeld limit) at_f.1 (es_held t.first f at_f.0)) (holds f at_f) beyond)
+      held_at : (f : CountedEdge) → IsAt es t.first f → IsHeld limit f
+      held_at f at_f = subst (IsHeld limit) at_f.1 (es_held t.first f at_f.0)
+
+      by_lines : IsBeyondLine bundle e ⊎ IsBoxBeside bundle e → IsPassed es e s t
+      by_lines (inl beyond) = inr (λ f at_f.
+          settled_beyond limit bundle t e f e_held (held_at f at_f) (holds f at_f) beyond)
+      by_lines (inr aside) = inr (λ f at_f. let it = holds f at_f in
+          settled_by_box limit bundle e f (held_at f at_f) it.a_in it.b_in aside)
 
 -- lists of the program's bundles have one for each box too
 pub bundle_held : {X Y : Type 0} (plain : X → Extent) (plain_bundle : Y → Bundle) (limit size : ℕ)

@@ -1,10 +1,7 @@
 -- Two edges meet in ends alone if one lies wholly below the other, or starts right of the other's end.
-use Rattle.std.proofs.Common.{◌⊎◌, inl, inr, ℕ, Bool, true, false, cond, ◌<ℤ◌, ◌≤ℤ◌, int_lt, refl}
-use Rattle.std.specs.Bool.{Decides}
-use Rattle.std.proofs.lemmas.Bool.{false≢true}
-use Rattle.std.proofs.lemmas.Int.{by_lt_z}
+use Rattle.std.proofs.Common.{◌⊎◌, inl, inr, ℕ, cond, ℤ, ◌≤ℤ◌, int_lt, arith}
+use Rattle.std.proofs.lemmas.Int.{ints}
 use Rattle.overlay_geom.specs.Edges.{CountedEdge, ends_of}
-use Rattle.overlay_geom.proofs.Comparisons.{Decides-int_lt}
 use Rattle.overlay_geom.proofs.Signs.{linear}
 use Rattle.overlay_plane.proofs.MetInBox.{AreApartInY, IsBelow, apart_in_y_have_no_common}
 use Rattle.overlay_arrange.specs.Content.{IsHeld}
@@ -13,23 +10,23 @@ use Rattle.overlay_arrange.specs.Near.{IsFar, IsUnder}
 use Rattle.overlay_arrange.specs.Settle.{AreSettled}
 use Rattle.overlay_arrange.proofs.SettledLists.{starting_right}
 
--- the heights of an edge's ends are in its box
-record IsSpan (e : CountedEdge) : Type 0 where
-  a_from : (extent_of e 0).low ≤ℤ e.a.y
-  b_from : (extent_of e 0).low ≤ℤ e.b.y
-  a_to : e.a.y ≤ℤ (extent_of e 0).high
-  b_to : e.b.y ≤ℤ (extent_of e 0).high
+-- the lesser of two numbers is at most both, and the greater at least
+pub lesser_up_to : (y z : ℤ) → (cond (int_lt y z) y z ≤ℤ y) × (cond (int_lt y z) y z ≤ℤ z)
+lesser_up_to y z = (grind (arith, ints), grind (arith, ints))
 
-span : (e : CountedEdge) → IsSpan e
-span e = let found = by (int_lt e.a.y e.b.y)
-    (Decides-int_lt e.a.y e.b.y) in record { a_from = found.0; b_from = found.1; a_to = found.2; b_to = found.3 }
-  where
-    by : (t : Bool) → Decides t (e.a.y <ℤ e.b.y) →
-        (cond t e.a.y e.b.y ≤ℤ e.a.y) × (cond t e.a.y e.b.y ≤ℤ e.b.y) × (e.a.y ≤ℤ cond t e.b.y e.a.y)
-        × (e.b.y ≤ℤ cond t e.b.y e.a.y)
-    by true d = let less = d.0 refl in (omega linear, omega linear, omega linear, omega linear)
-    by false d = by_lt_z e.a.y e.b.y (λ less. absurd (false≢true (d.1 less)))
-        (λ at_least. (omega linear, omega linear, omega linear, omega linear))
+pub greater_from : (y z : ℤ) → (y ≤ℤ cond (int_lt y z) z y) × (z ≤ℤ cond (int_lt y z) z y)
+greater_from y z = (grind (arith, ints), grind (arith, ints))
+
+-- the heights of an edge's ends are in its box
+pub record IsSpan (e : CountedEdge) : Type 0 where
+  pub a_from : (extent_of e 0).low ≤ℤ e.a.y
+  pub b_from : (extent_of e 0).low ≤ℤ e.b.y
+  pub a_to : e.a.y ≤ℤ (extent_of e 0).high
+  pub b_to : e.b.y ≤ℤ (extent_of e 0).high
+
+pub span : (e : CountedEdge) → IsSpan e
+span e = let low = lesser_up_to e.a.y e.b.y in let high = greater_from e.a.y e.b.y in
+    record { a_from = low.0; b_from = low.1; a_to = high.0; b_to = high.1 }
 
 -- an edge whose heights are less than the other's is below it
 below_where_under : (e f : CountedEdge) → IsUnder e f → IsBelow (ends_of e) (ends_of f)

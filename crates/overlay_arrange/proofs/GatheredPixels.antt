@@ -18,7 +18,7 @@ use Rattle.overlay_plane.proofs.Entries.{all_of_entries, Contains-filter, Contai
 use Rattle.overlay_plane.proofs.Entries.{Contains-map}
 use Rattle.overlay_plane.proofs.InOrderLists.{Contains-in_order, Contains-put_in_order}
 use Rattle.overlay_arrange.specs.Cut.{IsEndOf}
-use Rattle.overlay_arrange.specs.HotPoints.{points_at, AddsMet, AreHotPoints, AreLeftBefore, AreRanksNear}
+use Rattle.overlay_arrange.specs.HotPoints.{AddsMet, AreHotPoints, AreLeftBefore}
 use Rattle.overlay_arrange.specs.HotPoints.{AreMetAmong, AreRightFrom, AreSnappedBefore}
 use Rattle.overlay_arrange.specs.Meetings.{AreByPlace, IsAt, IsEndOrMet, Meeting}
 use Rattle.overlay_arrange.specs.SnapMeetings.{AreSnapMeetings}
@@ -113,22 +113,7 @@ module _ (i : ℕ) (e : CountedEdge) where
 
 -- ---- the points among which those stand whose pixels an edge meets
 
--- the point that stands for none
-abbrev pub origin : Point
-origin = record { x = pos 0; y = pos 0 }
-
 module _ (vs : List Point) (e : CountedEdge) where
-  -- those at the ranks
-  pub ranked_among : (near : List ℕ) → AreRanksNear vs e near → AreMetAmong vs e (points_at vs near)
-  ranked_among near ranks = record {
-    within = λ v at.
-        let k = Contains-from_map (λ k. get_or vs k origin) near v at in
-        let inside = ranks.within k.0 k.1 in
-        (k.0, inside, get_or_default vs k.0 v origin inside ∙ k.2);
-    all = λ v at meets. subst (Contains (points_at vs near)) (get_or_default vs at.0 origin v at.1 ∙ at.2)
-        (Contains-map (λ k. get_or vs k origin) near at.0 (ranks.all at.0 v (at.1, at.2) meets));
-  }
-
   -- those from a place left of which all others lie, up to one from which on they lie right of the edge
   pub span_among : (low high : ℕ) → e.a.x ≤ℤ e.b.x → AreLeftBefore vs e.a.x low → high ≤ length vs →
       AreRightFrom vs e.b.x high → AreMetAmong vs e (slice_range vs low high)

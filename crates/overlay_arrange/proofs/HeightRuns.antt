@@ -1,132 +1,126 @@
--- Boxes of points sorted by height. If an edge passes above a box, it passes above those before it; if below, below
--- those behind it. The places of a run of them are added.
+-- Points sorted by height. If an edge passes above a point, it passes above those before it; if below, below those
+-- behind it. A run of them is added.
 use Rattle.std.proofs.Common.{◌≡◌, ⊎_elim, inl, inr, ℕ, ◌+◌, ◌<◌, ◌≤◌, ℤ, pos, ◌*ℤ◌, ◌-ℤ◌, ◌≤ℤ◌}
-use Rattle.std.proofs.Common.{List, ◌++◌, ◌∷◌, [], Contains, sym, subst, arith}
+use Rattle.std.proofs.Common.{List, ◌++◌, ◌∷◌, [], Contains, length, slice_range, sym, subst, arith}
 use Rattle.std.proofs.lemmas.Bool.{cases_lt}
-use Rattle.std.proofs.lemmas.List.Elements.{Contains-append_left, Contains-push, Contains-push_cases}
+use Rattle.std.proofs.lemmas.List.Elements.{Contains-append_cases, Contains-append_left, Contains-append_right}
+use Rattle.std.proofs.lemmas.List.Elements.{Contains-push, Contains-push_cases}
 use Rattle.std.proofs.Math.Nat.{eq-or-lt_of_le}
+use Rattle.overlay_geom.specs.Plane.{Point}
 use Rattle.overlay_geom.specs.Edges.{CountedEdge}
 use Rattle.overlay_geom.proofs.Signs.{linear}
-use Rattle.overlay_arrange.specs.Extents.{Extent}
 use Rattle.overlay_arrange.specs.Meetings.{IsAt}
-use Rattle.overlay_arrange.specs.PixelRuns.{AddsPlaces, AddsRun, ArePassedAbove, ArePassedBelow, AreUpwards, IsAmidX}
-use Rattle.overlay_arrange.specs.PixelRuns.{IsPlaceOf, PassesAbove, PassesBelow}
+use Rattle.overlay_arrange.specs.PixelRuns.{AddsPoints, AddsRun, ArePassedAbove, ArePassedBelow, AreUpwards, IsAmidX}
+use Rattle.overlay_arrange.specs.PixelRuns.{IsAmong, PassesAbove, PassesBelow}
 use Rattle.overlay_arrange.proofs.GatheredMeetings.{one_entry}
+use Rattle.overlay_arrange.proofs.LedThrough.{from_ranged, ranged}
 use Rattle.overlay_arrange.proofs.PassedCorners.{met_amid}
 
-module _ (e : CountedEdge) (x : ℤ) (ss : List Extent) (from to : ℕ) where
+module _ (e : CountedEdge) (x : ℤ) (vs : List Point) (from to : ℕ) where
   -- at first nothing is passed
-  pub none_above : ArePassedAbove e x ss from from
-  none_above k s past less = absurd (omega (arith, past, less))
+  pub none_above : ArePassedAbove e x vs from from
+  none_above k v past less = absurd (omega (arith, past, less))
 
-  pub none_below : ArePassedBelow e x ss to to
-  none_below k s past less = absurd (omega (arith, past, less))
+  pub none_below : ArePassedBelow e x vs to to
+  none_below k v past less = absurd (omega (arith, past, less))
 
-  module _ (up : AreUpwards ss from to) (at : ℕ) (s : Extent) (at_s : IsAt ss at s) where
+  module _ (up : AreUpwards vs from to) (at : ℕ) (v : Point) (at_v : IsAt vs at v) where
     -- an edge that passes above one passes above those before it
-    pub above_to : at < to → PassesAbove e x s.low → ArePassedAbove e x ss from (at + 1)
-    above_to less passes k t past lt at_t v under =
-        passes v (let le = up k at t s past (omega (arith, lt)) less at_t at_s in omega (linear, le, under))
+    pub above_to : at < to → PassesAbove e x v.y → ArePassedAbove e x vs from (at + 1)
+    above_to less passes k w past lt at_w u under =
+        passes u (let le = up k at w v past (omega (arith, lt)) less at_w at_v in omega (linear, le, under))
 
-    -- an edge that passes below a box passes below those behind it
-    pub below_from : from ≤ at → PassesBelow e x s.low → ArePassedBelow e x ss at to
-    below_from past passes k t behind less at_t v over =
-        passes v (let le = up at k s t past behind less at_s at_t in omega (linear, le, over))
+    -- an edge that passes below a point passes below those behind it
+    pub below_from : from ≤ at → PassesBelow e x v.y → ArePassedBelow e x vs at to
+    below_from past passes k w behind less at_w u over =
+        passes u (let le = up at k v w past behind less at_v at_w in omega (linear, le, over))
 
--- ---- places
+-- ---- points
 
 -- at first none is added
-pub no_places : (ss : List Extent) (from : ℕ) (js : List ℕ) → AddsPlaces ss from from js js
-no_places ss from js = record {
-  kept = λ j has. has;
-  given = λ j has. inl has;
-  all = λ k s past less. absurd (omega (arith, past, less));
+pub no_points : (vs : List Point) (from : ℕ) (us : List Point) → AddsPoints vs from from us us
+no_points vs from us = record {
+  kept = λ v has. has;
+  given = λ v has. inl has;
+  all = λ v (among : IsAmong vs from from v). absurd (let past = among.past in let less = among.less in
+      omega (arith, past, less));
 }
 
--- that of one box more
-pub one_place : (ss : List Extent) (from at : ℕ) (s : Extent) → IsAt ss at s → from ≤ at → (old js : List ℕ) →
-    AddsPlaces ss from at old js → AddsPlaces ss from (at + 1) old (js ++ s.first ∷ [])
-one_place ss from at s at_s past old js adds = record {
-  kept = λ j has. Contains-append_left js (s.first ∷ []) j (adds.kept j has);
-  given = λ j has. ⊎_elim
-      (λ before. ⊎_elim (λ one. inl one) (λ (p : IsPlaceOf ss from at j). inr (record {
+-- one point more before the others
+pub one_point_before : (vs : List Point) (at to : ℕ) (v : Point) → IsAt vs at v → at < to → (old us : List Point) →
+    AddsPoints vs (at + 1) to old us → AddsPoints vs at to old (us ++ v ∷ [])
+one_point_before vs at to v at_v less old us adds = record {
+  kept = λ w has. Contains-append_left us (v ∷ []) w (adds.kept w has);
+  given = λ w has. ⊎_elim
+      (λ before. ⊎_elim (λ one. inl one) (λ (p : IsAmong vs (at + 1) to w). inr (record {
         place = p.place;
-        extent = p.extent;
-        past = p.past;
-        less = (let less = p.less in omega (arith, less));
-        at = p.at;
-        is = p.is;
-      })) (adds.given j before))
-      (λ (is : s.first ≡ j). inr (record {
-        place = at;
-        extent = s;
-        past = past;
-        less = omega arith;
-        at = at_s;
-        is = is;
-      }))
-      (Contains-push_cases js s.first j has);
-  all = λ k t behind less at_t. ⊎_elim
-      (λ (same : k ≡ at). subst (λ (u : Extent). Contains (js ++ s.first ∷ []) u.first)
-      (one_entry ss at s t at_s (subst (λ n. IsAt ss n t) same at_t)) (Contains-push js s.first))
-      (λ (before : k < at). Contains-append_left js (s.first ∷ []) t.first (adds.all k t behind before at_t))
-      (eq-or-lt_of_le (let le : k ≤ at = omega (arith, less) in le));
-}
-
--- that of one box more before the others
-pub one_place_before : (ss : List Extent) (at to : ℕ) (s : Extent) → IsAt ss at s → at < to → (old js : List ℕ) →
-    AddsPlaces ss (at + 1) to old js → AddsPlaces ss at to old (js ++ s.first ∷ [])
-one_place_before ss at to s at_s less old js adds = record {
-  kept = λ j has. Contains-append_left js (s.first ∷ []) j (adds.kept j has);
-  given = λ j has. ⊎_elim
-      (λ before. ⊎_elim (λ one. inl one) (λ (p : IsPlaceOf ss (at + 1) to j). inr (record {
-        place = p.place;
-        extent = p.extent;
         past = (let past = p.past in omega (arith, past));
         less = p.less;
         at = p.at;
-        is = p.is;
-      })) (adds.given j before))
-      (λ (is : s.first ≡ j). inr (record {
+      })) (adds.given w before))
+      (λ (is : v ≡ w). inr (record {
         place = at;
-        extent = s;
         past = omega arith;
         less = less;
-        at = at_s;
-        is = is;
+        at = subst (IsAt vs at) is at_v;
       }))
-      (Contains-push_cases js s.first j has);
-  all = λ k t past under at_t. ⊎_elim
-      (λ (same : at ≡ k). subst (λ (u : Extent). Contains (js ++ s.first ∷ []) u.first)
-      (one_entry ss at s t at_s (subst (λ n. IsAt ss n t) (sym same) at_t)) (Contains-push js s.first))
-      (λ (behind : at < k). Contains-append_left js (s.first ∷ []) t.first
-      (adds.all k t (omega (arith, behind)) under at_t))
-      (eq-or-lt_of_le past);
+      (Contains-push_cases us v w has);
+  all = λ w (p : IsAmong vs at to w). ⊎_elim
+      (λ (same : at ≡ p.place). subst (Contains (us ++ v ∷ []))
+      (one_entry vs at v w at_v (subst (λ n. IsAt vs n w) (sym same) p.at)) (Contains-push us v))
+      (λ (behind : at < p.place). Contains-append_left us (v ∷ []) w (adds.all w (record {
+        place = p.place;
+        past = omega (arith, behind);
+        less = p.less;
+        at = p.at;
+      })))
+      (eq-or-lt_of_le p.past);
+}
+
+-- all of a range at once
+pub range_added : (vs : List Point) (from to : ℕ) (us : List Point) → to ≤ length vs →
+    AddsPoints vs from to us (us ++ slice_range vs from to)
+range_added vs from to us within = record {
+  kept = λ v has. Contains-append_left us (slice_range vs from to) v has;
+  given = λ v has. ⊎_elim (λ before. inl before)
+      (λ there. let place = from_ranged vs from to v within there in inr (record {
+        place = place.0;
+        past = place.1;
+        less = place.2;
+        at = place.3;
+      }))
+      (Contains-append_cases us (slice_range vs from to) v has);
+  all = λ v (p : IsAmong vs from to v). Contains-append_right us (slice_range vs from to) v
+      (ranged vs from to p.place v p.past p.less within p.at);
 }
 
 -- ---- the run
 
--- the places of the boxes that are passed neither above nor below
-pub run_added : (left right first last : ℤ) (e : CountedEdge) (ss : List Extent) (from low high to : ℕ)
-    (old new : List ℕ) → e.a.x ≤ℤ e.b.x → from ≤ low → high ≤ to →
+-- the points that are passed neither above nor below
+pub run_added : (left right first last : ℤ) (e : CountedEdge) (vs : List Point) (from low high to : ℕ)
+    (old new : List Point) → e.a.x ≤ℤ e.b.x → from ≤ low → high ≤ to →
     ((x : ℤ) → left ≤ℤ x → x ≤ℤ right → IsAmidX e x →
     (pos 0 ≤ℤ ((e.b.y -ℤ e.a.y) *ℤ (x -ℤ first))) × (pos 0 ≤ℤ ((e.b.y -ℤ e.a.y) *ℤ (last -ℤ x)))) →
-    ArePassedAbove e first ss from low → ArePassedBelow e last ss high to → AddsPlaces ss low high old new →
-    AddsRun left right e ss from to old new
-run_added left right first last e ss from low high to old new forward past short between above below adds = record {
+    ArePassedAbove e first vs from low → ArePassedBelow e last vs high to → AddsPoints vs low high old new →
+    AddsRun left right e vs from to old new
+run_added left right first last e vs from low high to old new forward past short between above below adds = record {
   kept = adds.kept;
-  given = λ j has. ⊎_elim (λ one. inl one) (λ (p : IsPlaceOf ss low high j). inr (record {
+  given = λ v has. ⊎_elim (λ one. inl one) (λ (p : IsAmong vs low high v). inr (record {
     place = p.place;
-    extent = p.extent;
     past = (let after = p.past in omega (arith, after, past));
     less = (let less = p.less in omega (arith, less, short));
     at = p.at;
-    is = p.is;
-  })) (adds.given j has);
-  all = λ k s v begins less at_s height l r meets.
+  })) (adds.given v has);
+  all = λ v (p : IsAmong vs from to v) l r meets.
       let sides = between v.x l r (met_amid e v forward meets) in
-      ⊎_elim (λ (before : k < low). absurd (above k s begins before at_s v (omega (linear, height)) sides.0 meets))
-      (λ (behind : low ≤ k). ⊎_elim (λ (inside : k < high). adds.all k s behind inside at_s)
-      (λ (over : high ≤ k). absurd (below k s over less at_s v (omega (linear, height)) sides.1 meets))
-      (cases_lt k high)) (cases_lt k low);
+      ⊎_elim (λ (before : p.place < low).
+      absurd (above p.place v p.past before p.at v (omega linear) sides.0 meets))
+      (λ (behind : low ≤ p.place). ⊎_elim (λ (inside : p.place < high). adds.all v (record {
+        place = p.place;
+        past = behind;
+        less = inside;
+        at = p.at;
+      }))
+      (λ (over : high ≤ p.place). absurd (below p.place v over p.less p.at v (omega linear) sides.1 meets))
+      (cases_lt p.place high)) (cases_lt p.place low);
 }

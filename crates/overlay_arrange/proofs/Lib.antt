@@ -2,6 +2,7 @@ pub mod Adding
 pub mod AlongEdges
 pub mod Appended
 pub mod ArrangedLists
+pub mod BundleBoxes
 pub mod BundleLines
 pub mod BundleLists
 pub mod BundlesBeside
@@ -49,7 +50,6 @@ pub mod PlacedEdges
 pub mod PlacedExtents
 pub mod PushedReversed
 pub mod PutPlaces
-pub mod RankSearches
 pub mod ReachedStores
 pub mod ReversedCounts
 pub mod RoundsTaken
@@ -62,6 +62,7 @@ pub mod RunsMerged
 pub mod Searches
 pub mod SettledFronts
 pub mod SettledLists
+pub mod SharedEnds
 pub mod SideBits
 pub mod SiftedRuns
 pub mod SnappedThrough
@@ -72,7 +73,10 @@ pub mod SortedPoints
 pub mod SpanWithin
 pub mod StartsTogether
 pub mod StripOrder
+pub mod StripPoints
+pub mod StripSearches
 pub mod Sweepable
 mod SweptFills
 pub mod TakenItems
+pub mod UnjoinedRuns
 pub mod WholeMeetings

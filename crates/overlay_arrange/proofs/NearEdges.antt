@@ -1,5 +1,5 @@
--- The edges from a place on that an edge may meet elsewhere than in ends: all of its run, or those whose boxes a search
--- finds.
+-- The edges from a place on that an edge may meet elsewhere than in ends: those of its run that share a height with it,
+-- or those whose boxes a search finds.
 use Rattle.std.proofs.Common.{◌≡◌, ◌⊎◌, ⊎_elim, inl, inr, ℕ, ◌<◌, ◌≤◌, ◌<ℤ◌, List, All, Contains, length}
 use Rattle.std.proofs.Common.{get_or, ap, ◌∙◌, subst, arith}
 use Rattle.std.specs.List.Sorted.{IsPermutation}
@@ -8,9 +8,9 @@ use Rattle.std.proofs.lemmas.List.{get_or_default}
 use Rattle.overlay_geom.specs.Edges.{CountedEdge}
 use Rattle.overlay_arrange.specs.Bundles.{IsPassed}
 use Rattle.overlay_arrange.specs.Content.{IsAscending, IsHeld}
-use Rattle.overlay_arrange.specs.Extents.{Extent, extent_of, extents_of, IsApart}
+use Rattle.overlay_arrange.specs.Extents.{Extent, extent_of, extents_of, IsApart, ShareNoHeight}
 use Rattle.overlay_arrange.specs.Meetings.{IsAt, IsRunEnd}
-use Rattle.overlay_arrange.specs.Near.{run_of, AreBetween, AreNearBehind, IsFar, IsSearchedBy, IsSearchedTo}
+use Rattle.overlay_arrange.specs.Near.{run_of, AreNearBehind, AreNearHeights, IsFar, IsSearchedBy, IsSearchedTo}
 use Rattle.overlay_arrange.specs.Settle.{AreSettled}
 use Rattle.overlay_arrange.proofs.FarEdges.{settled_where_far}
 use Rattle.overlay_arrange.proofs.PlacedExtents.{extent_there, item_there}
@@ -31,11 +31,15 @@ module _ (es : List CountedEdge) (first end : ℕ) (e : CountedEdge) (limit : �
   settled : (j : ℕ) (f : CountedEdge) → IsAt es j f → IsFar e f → AreSettled e f
   settled j f at_f far = settled_where_far limit e f e_held (subst (IsHeld limit) at_f.1 (held j f at_f.0)) far
 
-  -- its run has all others
-  pub run_near : (js : List ℕ) → AreBetween first end js → AreNearBehind es e first js
-  run_near js between = record {
-    within = λ j has. let within = between.within j has in (within.0, omega (arith, within.1, run.within));
-    all = λ j f past at_f. ⊎_elim (λ (inside : j < end). inl (between.all j past inside))
+  -- the edges of its run that share a height with it are all
+  pub heights_near : (s : Extent) (js : List ℕ) → s ≡ extent_of e first → AreNearHeights es s first end js →
+      AreNearBehind es e first js
+  heights_near s js is found = record {
+    within = λ j has. let within = found.within j has in (within.0, omega (arith, within.1, run.within));
+    all = λ j f past at_f. ⊎_elim
+        (λ (inside : j < end). ⊎_elim (λ has. inl has)
+        (λ apart. inr (settled j f at_f (inr (subst (λ t. ShareNoHeight t (extent_of f j)) is apart))))
+        (found.all j f past inside at_f))
         (λ (behind : end ≤ j). inr (settled j f at_f (inl (right_of_run j f behind at_f)))) (cases_lt j end);
   }
 

@@ -1,16 +1,22 @@
 -- Between which bounds twice a cross product lies where the line of an edge passes through a pixel: the bounds as sums
--- of two differences of coordinates, and the test of the line as comparisons with them.
-use Rattle.std.proofs.Common.{◌≡◌, Bool, true, false, cond, ◌&&◌, ℤ, pos, ◌+ℤ◌, ◌-ℤ◌, ◌*ℤ◌, int_lt, int_le}
-use Rattle.std.proofs.Common.{refl, ap, ap₂, ◌∙◌, arith}
+-- of two differences of coordinates, and the test of the line as comparisons with them. Pixels that are met at ends
+-- alone.
+use Rattle.std.proofs.Common.{◌≡◌, ⊎_elim, inl, inr, ◌⊎◌, Bool, true, false, cond, ◌&&◌, ◌||◌, ℤ, pos}
+use Rattle.std.proofs.Common.{◌+ℤ◌, ◌-ℤ◌, ◌*ℤ◌, int_lt, int_le}
+use Rattle.std.proofs.Common.{refl, sym, ap, ap₂, ◌∙◌, arith}
+use Rattle.std.proofs.lemmas.Bool.{false≢true, or_cases}
 use Rattle.std.proofs.lemmas.Int.{ints}
 use Rattle.std.specs.Ordering.{is_lt, is_le, is_gt, is_ge, int_cmp}
 use Rattle.std.specs.declared.cmp.Ordering.{Ordering}
-use Rattle.overlay_geom.specs.Plane.{Point, Edge, cross_at}
+use Rattle.overlay_geom.specs.Plane.{Point, Edge, cross_at, point_eq}
+use Rattle.overlay_geom.specs.Edges.{CountedEdge, ends_of}
 use Rattle.overlay_geom.proofs.Comparisons.{is_lt-int_cmp, is_gt-int_cmp, is_le-int_cmp}
+use Rattle.overlay_geom.proofs.Orders.{Decides-point_eq}
 use Rattle.overlay_geom.proofs.Signs.{linear}
-use Rattle.overlay_plane.specs.SnapPoints.{half_girth, line_meets}
+use Rattle.overlay_plane.specs.SnapPoints.{half_girth, is_in_box, line_meets, meets_pixel}
 use Rattle.overlay_plane.proofs.CrossingPoints.{abs_up, abs_down}
 use Rattle.overlay_plane.proofs.Tests.{ge_from_test, lt_from_test}
+use Rattle.overlay_arrange.specs.Cut.{IsEndOf}
 
 -- ---- the bounds
 
@@ -91,3 +97,23 @@ module _ (e : Edge) (v : Point) (cross : ℤ) (value : cross ≡ cross_at e.a e.
   bounds_tell wide rises wide_is rises_is =
       ap₂ (λ s t. cond s (is_gt low && cond t (is_lt high) (is_le high)) (is_ge low && is_lt high)) wide_is rises_is
       ∙ test
+
+-- a pixel is met at an end alone where the box does not hold its point, or the line does not meet it
+pub met_at_end : (e : CountedEdge) (v : Point) → (is_in_box (ends_of e) v && line_meets (ends_of e) v) ≡ false →
+    meets_pixel (ends_of e) v ≡ true → IsEndOf e v
+met_at_end e v neither meets =
+    let inside = is_in_box (ends_of e) v && line_meets (ends_of e) v in
+    ⊎_elim (λ end. ⊎_elim (λ is. inl ((Decides-point_eq v e.a).0 is)) (λ is. inr ((Decides-point_eq v e.b).0 is))
+    (or_cases (point_eq v e.a) (point_eq v e.b) end)) (λ both. absurd (false≢true (sym neither ∙ both)))
+    (or_cases (point_eq v e.a || point_eq v e.b) inside meets)
+
+-- a point is an end or not
+pub is_end_or_not : (e : CountedEdge) (v : Point) → IsEndOf e v ⊎ (¬ (IsEndOf e v))
+is_end_or_not e v = by (point_eq v e.a) (point_eq v e.b) refl refl
+  where
+    by : (s t : Bool) → point_eq v e.a ≡ s → point_eq v e.b ≡ t → IsEndOf e v ⊎ (¬ (IsEndOf e v))
+    by true t is other = inl (inl ((Decides-point_eq v e.a).0 is))
+    by false true is other = inl (inr ((Decides-point_eq v e.b).0 other))
+    by false false is other = inr (λ end. ⊎_elim
+        (λ a. false≢true (sym is ∙ (Decides-point_eq v e.a).1 a))
+        (λ b. false≢true (sym other ∙ (Decides-point_eq v e.b).1 b)) end)

@@ -1,13 +1,14 @@
 -- A search of boxes for those that do not lie apart from a box: its begin, some boxes passed over, and places that are
--- added; and all places between two places.
+-- added; and the places of edges that share a height with it.
 use Rattle.std.proofs.Common.{◌≡◌, ◌⊎◌, ⊎_elim, inl, inr, ℕ, ◌+◌, ◌<◌, ◌≤◌, List, [], ◌∷◌, ◌++◌, Contains}
 use Rattle.std.proofs.Common.{sym, subst, arith}
 use Rattle.std.proofs.lemmas.Bool.{cases_lt}
 use Rattle.std.proofs.lemmas.List.Elements.{Contains-append_left, Contains-push, Contains-push_cases}
 use Rattle.std.proofs.Math.Nat.{eq-or-lt_of_le}
-use Rattle.overlay_arrange.specs.Extents.{Extent, IsApart}
+use Rattle.overlay_geom.specs.Edges.{CountedEdge}
+use Rattle.overlay_arrange.specs.Extents.{Extent, extent_of, IsApart, ShareNoHeight}
 use Rattle.overlay_arrange.specs.Meetings.{IsAt}
-use Rattle.overlay_arrange.specs.Near.{AreBetween, AreNearAdded, IsSearchedBy}
+use Rattle.overlay_arrange.specs.Near.{AreNearAdded, AreNearHeights, IsSearchedBy}
 use Rattle.overlay_arrange.proofs.GatheredMeetings.{one_entry}
 
 -- a search that passes over some boxes
@@ -86,22 +87,49 @@ module _ (ss : List Extent) (s : Extent) (from : ℕ) (old : List ℕ) where
           (λ has. inr (Contains-append_left js (t.first ∷ []) u.first has)) (added.all l u past before at_u));
     }
 
--- at first there is no place
-pub between_none : (from : ℕ) → AreBetween from from []
-between_none from = record {
-  within = λ j has. absurd (omega (arith, has.1));
-  all = λ j past less. absurd (omega (arith, past, less));
-}
+-- the places of edges that share a height
+module _ (es : List CountedEdge) (s : Extent) (from : ℕ) where
+  -- at first there is none
+  pub heights_none : AreNearHeights es s from from []
+  heights_none = record {
+    within = λ j has. absurd (omega (arith, has.1));
+    near = λ j f has. absurd (omega (arith, has.1));
+    all = λ j f past less. absurd (omega (arith, past, less));
+  }
 
--- one place more
-pub between_more : (from to : ℕ) (js : List ℕ) → from ≤ to → AreBetween from to js →
-    AreBetween from (to + 1) (js ++ to ∷ [])
-between_more from to js ordered between = record {
-  within = λ j has. ⊎_elim
-      (λ before. let within = between.within j before in (within.0, omega (arith, within.1)))
-      (λ (is : to ≡ j). (omega (arith, is, ordered), omega (arith, is))) (Contains-push_cases js to j has);
-  all = λ j past less. ⊎_elim
-      (λ (same : j ≡ to). subst (Contains (js ++ to ∷ [])) (sym same) (Contains-push js to))
-      (λ (before : j < to). Contains-append_left js (to ∷ []) j (between.all j past before))
-      (eq-or-lt_of_le (let le : j ≤ to = omega (arith, less) in le));
-}
+  module _ (k : ℕ) (e : CountedEdge) (at_e : IsAt es k e) (past : from ≤ k) (js : List ℕ)
+      (so_far : AreNearHeights es s from k js) where
+    -- the edge at place k, or one before it
+    edge_here_or_before : (P : ℕ → CountedEdge → Type 0) (j : ℕ) (f : CountedEdge) → j < k + 1 → IsAt es j f → P k e →
+        (j < k → P j f) → P j f
+    edge_here_or_before P j f less at_f here before = ⊎_elim
+        (λ (same : j ≡ k). subst (λ n. P n f) (sym same)
+        (subst (P k) (one_entry es k e f at_e (subst (λ n. IsAt es n f) same at_f)) here)) before
+        (eq-or-lt_of_le (let le : j ≤ k = omega (arith, less) in le))
+
+    -- one that shares none is passed over
+    pub height_apart : ShareNoHeight s (extent_of e k) → AreNearHeights es s from (k + 1) js
+    height_apart apart = record {
+      within = λ j has. let within = so_far.within j has in (within.0, omega (arith, within.1));
+      near = so_far.near;
+      all = λ j f behind less at_f. edge_here_or_before
+          (λ n g. Contains js n ⊎ ShareNoHeight s (extent_of g n)) j f less at_f (inr apart)
+          (λ before. so_far.all j f behind before at_f);
+    }
+
+    -- the place of an edge that shares one is added
+    pub height_shared : ¬ (ShareNoHeight s (extent_of e k)) → AreNearHeights es s from (k + 1) (js ++ k ∷ [])
+    height_shared shared = record {
+      within = λ j has. ⊎_elim
+          (λ before. let within = so_far.within j before in (within.0, omega (arith, within.1)))
+          (λ (is : k ≡ j). (omega (arith, is, past), omega (arith, is))) (Contains-push_cases js k j has);
+      near = λ j f has at_f. ⊎_elim (λ before. so_far.near j f before at_f)
+          (λ (is : k ≡ j). subst (λ n. ¬ (ShareNoHeight s (extent_of f n))) is
+          (subst (λ g. ¬ (ShareNoHeight s (extent_of g k)))
+          (one_entry es k e f at_e (subst (λ n. IsAt es n f) (sym is) at_f)) shared)) (Contains-push_cases js k j has);
+      all = λ j f behind less at_f. edge_here_or_before
+          (λ n g. Contains (js ++ k ∷ []) n ⊎ ShareNoHeight s (extent_of g n)) j f less at_f
+          (inl (Contains-push js k)) (λ before. ⊎_elim
+          (λ has. inl (Contains-append_left js (k ∷ []) j has)) (λ apart. inr apart)
+          (so_far.all j f behind before at_f));
+    }

@@ -1,7 +1,6 @@
 -- Boxes of edges and points, by their range of y-coordinates and their range of places, and blocks of such boxes.
 use Rattle.std.specs.Prelude.{◌≡◌, ◌⊎◌, ℕ, ◌<◌, ◌≤◌, ◌/◌, cond, ℤ, ◌<ℤ◌, ◌≤ℤ◌, int_lt, List, map, length}
 use Rattle.std.specs.Prelude.{slice_index_or}
-use Rattle.std.specs.List.Sorted.{IsPermutation}
 use Rattle.overlay_geom.specs.Plane.{Point}
 use Rattle.overlay_geom.specs.Edges.{CountedEdge}
 use Rattle.overlay_geom.specs.Numbered.{Numbered, numbered}
@@ -49,6 +48,10 @@ plain_extent whole s = record { low = whole s.low; high = whole s.high; first = 
 abbrev pub plain_extents : {I : Type 0} → (I → ℤ) → List (HeldExtent I) → List Extent
 plain_extents whole ss = map (plain_extent whole) ss
 
+-- the boxes share no height
+abbrev pub ShareNoHeight : Extent → Extent → Type 0
+ShareNoHeight s t = (s.high <ℤ t.low) ⊎ (t.high <ℤ s.low)
+
 -- the boxes share no height, or no place
 abbrev pub IsApart : Extent → Extent → Type 0
 IsApart s t = (s.high <ℤ t.low) ⊎ ((t.high <ℤ s.low) ⊎ ((s.last < t.first) ⊎ (t.last < s.first)))
@@ -85,10 +88,3 @@ AreInStrips width ss = (k : ℕ) (s : Extent) → IsAt ss k s → (s.first / wid
 abbrev pub AreByHeights : ℕ → List Extent → Type 0
 AreByHeights width ss = (j k : ℕ) (s t : Extent) → j ≤ k → j / width ≡ k / width → IsAt ss j s → IsAt ss k t →
     s.low ≤ℤ t.low
-
--- they are the boxes of the points, in strips `width` wide
-pub record ArePointsByStrips (vs : List Point) (width : ℕ) (ss : List Extent) : Type 0 where
-  pub some : 0 < width
-  pub permutation : IsPermutation (extents_of_points vs) ss
-  pub strips : AreInStrips width ss
-  pub heights : AreByHeights width ss

@@ -1,10 +1,10 @@
 -- The hot points of a list of edges in their order, and a search for those whose pixels an edge meets.
-use Rattle.std.specs.Prelude.{◌≡◌, ◌⊎◌, ℕ, ◌<◌, ◌≤◌, true, ℤ, pos, ◌<ℤ◌, List, [], ◌++◌, map, length, slice_index_or}
-use Rattle.std.specs.Prelude.{AllPairs, Contains}
+use Rattle.std.specs.Prelude.{◌≡◌, ◌⊎◌, ℕ, ◌/◌, ◌<◌, ◌≤◌, true, ℤ, pos, ◌<ℤ◌, ◌≤ℤ◌, List, [], ◌++◌, map, length}
+use Rattle.std.specs.Prelude.{slice_index_or, AllPairs, Contains}
 use Rattle.overlay_geom.specs.Plane.{Point, point_lt}
 use Rattle.overlay_geom.specs.Edges.{CountedEdge, ends_of}
 use Rattle.overlay_plane.specs.SnapPoints.{hot_points, meets_pixel}
-use Rattle.overlay_arrange.specs.Extents.{Extent, ArePointsByStrips}
+use Rattle.overlay_arrange.specs.Extents.{Extent}
 use Rattle.overlay_arrange.specs.Meetings.{Meeting, IsAt, IsEndOrMet}
 
 -- the two lists have equal members
@@ -32,23 +32,26 @@ pub record AreLeftBefore (vs : List Point) (x : ℤ) (k : ℕ) : Type 0 where
 abbrev pub AreRightFrom : List Point → ℤ → ℕ → Type 0
 AreRightFrom vs x k = (j : ℕ) (v : Point) → k ≤ j → IsAt vs j v → x <ℤ v.x
 
--- they are the boxes of the points in strips, or there are none yet
-abbrev pub AreStripsIfAny : List Point → ℕ → List Extent → Type 0
-AreStripsIfAny vs width ss = (ss ≡ []) ⊎ ArePointsByStrips vs width ss
+-- the points in strips, `width` wide: those of each strip are sorted by their heights
+pub record AreStripsOf (vs : List Point) (width : ℕ) (ps : List Point) : Type 0 where
+  pub some : 0 < width
+  pub count : length ps ≡ length vs
+  pub given : (k : ℕ) (v : Point) → IsAt ps k v → (j : ℕ) × IsAt vs j v × (j / width ≡ k / width)
+  pub all : (k : ℕ) (v : Point) → IsAt vs k v → (j : ℕ) × IsAt ps j v × (j / width ≡ k / width)
+  pub heights : (j k : ℕ) (v w : Point) → j ≤ k → j / width ≡ k / width → IsAt ps j v → IsAt ps k w → v.y ≤ℤ w.y
 
--- ranks of points, including each point whose pixel the edge e meets
-pub record AreRanksNear (vs : List Point) (e : CountedEdge) (ranks : List ℕ) : Type 0 where
-  pub within : (k : ℕ) → Contains ranks k → k < length vs
-  pub all : (k : ℕ) (v : Point) → IsAt vs k v → meets_pixel (ends_of e) v ≡ true → Contains ranks k
+-- they are the points in strips, or there are none yet
+abbrev pub AreStripsIfAny : List Point → ℕ → List Point → Type 0
+AreStripsIfAny vs width ps = (ps ≡ []) ⊎ AreStripsOf vs width ps
+
+-- the points at the places of the boxes
+abbrev pub points_of : List Point → List Extent → List Point
+points_of vs ss = map (λ (s : Extent). slice_index_or vs s.first (record { x = pos 0; y = pos 0 })) ss
 
 -- points of vs alone, and each of them whose pixel the edge e meets
 pub record AreMetAmong (vs : List Point) (e : CountedEdge) (us : List Point) : Type 0 where
   pub within : (v : Point) → Contains us v → Contains vs v
   pub all : (v : Point) → Contains vs v → meets_pixel (ends_of e) v ≡ true → Contains us v
-
--- the points at the ranks
-abbrev pub points_at : List Point → List ℕ → List Point
-points_at vs ranks = map (λ k. slice_index_or vs k (record { x = pos 0; y = pos 0 })) ranks
 
 -- ---- gathering
 

@@ -1,7 +1,7 @@
 -- The later edges that an edge may meet, and a search for them by boxes.
 use Rattle.std.specs.Prelude.{◌≡◌, ◌⊎◌, ℕ, ◌+◌, ◌-◌, ◌/◌, ◌%◌, ◌<◌, ◌≤◌, ◌<ℤ◌, List, Contains, length, slice_index_or}
 use Rattle.overlay_geom.specs.Edges.{CountedEdge}
-use Rattle.overlay_arrange.specs.Extents.{Extent, extent_of, IsApart}
+use Rattle.overlay_arrange.specs.Extents.{Extent, extent_of, IsApart, ShareNoHeight}
 use Rattle.overlay_arrange.specs.Meetings.{IsAt}
 use Rattle.overlay_arrange.specs.Settle.{AreSettled}
 
@@ -55,10 +55,12 @@ pub record AreNearAdded (ss : List Extent) (s : Extent) (from to : ℕ) (old new
   pub near : (j : ℕ) → Contains new j → Contains old j ⊎ IsNearAt ss s j
   pub all : (k : ℕ) (t : Extent) → from ≤ k → k < to → IsAt ss k t → IsApart s t ⊎ Contains new t.first
 
--- all places from `from` up to `to`
-pub record AreBetween (from to : ℕ) (js : List ℕ) : Type 0 where
+-- the places from `from` up to `to` of the edges that share a height with s
+pub record AreNearHeights (es : List CountedEdge) (s : Extent) (from to : ℕ) (js : List ℕ) : Type 0 where
   pub within : (j : ℕ) → Contains js j → (from ≤ j) × (j < to)
-  pub all : (j : ℕ) → from ≤ j → j < to → Contains js j
+  pub near : (j : ℕ) (f : CountedEdge) → Contains js j → IsAt es j f → ¬ (ShareNoHeight s (extent_of f j))
+  pub all : (j : ℕ) (f : CountedEdge) → from ≤ j → j < to → IsAt es j f →
+      Contains js j ⊎ ShareNoHeight s (extent_of f j)
 
 -- a block of `size` boxes begins at the place, and lies apart from s
 pub record BeginsApart (blocks : List Extent) (size : ℕ) (s : Extent) (at : ℕ) : Type 0 where

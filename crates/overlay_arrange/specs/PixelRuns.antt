@@ -4,7 +4,6 @@ use Rattle.std.specs.Prelude.{List, Contains}
 use Rattle.overlay_geom.specs.Plane.{Point, Edge, cross_at}
 use Rattle.overlay_geom.specs.Edges.{CountedEdge, ends_of}
 use Rattle.overlay_plane.specs.SnapPoints.{half_girth, meets_pixel}
-use Rattle.overlay_arrange.specs.Extents.{Extent}
 use Rattle.overlay_arrange.specs.Meetings.{IsAt}
 
 -- v lies below the line of e by more than half its girth, or above it by as much
@@ -28,37 +27,36 @@ abbrev pub PassesBelow : CountedEdge → ℤ → ℤ → Type 0
 PassesBelow e x y = (v : Point) → y ≤ℤ v.y → pos 0 ≤ℤ ((e.b.y -ℤ e.a.y) *ℤ (x -ℤ v.x)) →
     ¬ (meets_pixel (ends_of e) v ≡ true)
 
--- e passes so above the heights of the boxes from `from` up to `to`
-abbrev pub ArePassedAbove : CountedEdge → ℤ → List Extent → ℕ → ℕ → Type 0
-ArePassedAbove e x ss from to = (k : ℕ) (s : Extent) → from ≤ k → k < to → IsAt ss k s → PassesAbove e x s.low
+-- e passes so above the heights of the points from `from` up to `to`
+abbrev pub ArePassedAbove : CountedEdge → ℤ → List Point → ℕ → ℕ → Type 0
+ArePassedAbove e x vs from to = (k : ℕ) (v : Point) → from ≤ k → k < to → IsAt vs k v → PassesAbove e x v.y
 
--- e passes so below the heights of these boxes
-abbrev pub ArePassedBelow : CountedEdge → ℤ → List Extent → ℕ → ℕ → Type 0
-ArePassedBelow e x ss from to = (k : ℕ) (s : Extent) → from ≤ k → k < to → IsAt ss k s → PassesBelow e x s.low
+-- e passes so below the heights of these points
+abbrev pub ArePassedBelow : CountedEdge → ℤ → List Point → ℕ → ℕ → Type 0
+ArePassedBelow e x vs from to = (k : ℕ) (v : Point) → from ≤ k → k < to → IsAt vs k v → PassesBelow e x v.y
 
--- the boxes from `from` up to `to` are sorted by their least heights
-abbrev pub AreUpwards : List Extent → ℕ → ℕ → Type 0
-AreUpwards ss from to = (j k : ℕ) (s t : Extent) → from ≤ j → j ≤ k → k < to → IsAt ss j s → IsAt ss k t →
-    s.low ≤ℤ t.low
+-- the points from `from` up to `to` are sorted by their heights
+abbrev pub AreUpwards : List Point → ℕ → ℕ → Type 0
+AreUpwards vs from to = (j k : ℕ) (v w : Point) → from ≤ j → j ≤ k → k < to → IsAt vs j v → IsAt vs k w →
+    v.y ≤ℤ w.y
 
--- j is the place of a box from `from` up to `to`
-pub record IsPlaceOf (ss : List Extent) (from to j : ℕ) : Type 0 where
+-- v is a point of the list from `from` up to `to`
+pub record IsAmong (vs : List Point) (from to : ℕ) (v : Point) : Type 0 where
   pub place : ℕ
-  pub extent : Extent
   pub past : from ≤ place
   pub less : place < to
-  pub at : IsAt ss place extent
-  pub is : extent.first ≡ j
+  pub at : IsAt vs place v
 
--- the places of the boxes from `from` up to `to` are added
-pub record AddsPlaces (ss : List Extent) (from to : ℕ) (old new : List ℕ) : Type 0 where
-  pub kept : (j : ℕ) → Contains old j → Contains new j
-  pub given : (j : ℕ) → Contains new j → Contains old j ⊎ IsPlaceOf ss from to j
-  pub all : (k : ℕ) (s : Extent) → from ≤ k → k < to → IsAt ss k s → Contains new s.first
+-- the points from `from` up to `to` are added
+pub record AddsPoints (vs : List Point) (from to : ℕ) (old new : List Point) : Type 0 where
+  pub kept : (v : Point) → Contains old v → Contains new v
+  pub given : (v : Point) → Contains new v → Contains old v ⊎ IsAmong vs from to v
+  pub all : (v : Point) → IsAmong vs from to v → Contains new v
 
--- takes boxes of points between two x-coordinates, and adds the places of some, including each whose pixel e meets
-pub record AddsRun (left right : ℤ) (e : CountedEdge) (ss : List Extent) (from to : ℕ) (old new : List ℕ) : Type 0 where
-  pub kept : (j : ℕ) → Contains old j → Contains new j
-  pub given : (j : ℕ) → Contains new j → Contains old j ⊎ IsPlaceOf ss from to j
-  pub all : (k : ℕ) (s : Extent) (v : Point) → from ≤ k → k < to → IsAt ss k s → v.y ≡ s.low → left ≤ℤ v.x →
-      v.x ≤ℤ right → meets_pixel (ends_of e) v ≡ true → Contains new s.first
+-- takes points between two x-coordinates, and adds some of them, including each whose pixel e meets
+pub record AddsRun (left right : ℤ) (e : CountedEdge) (vs : List Point) (from to : ℕ) (old new : List Point) : Type 0
+  where
+    pub kept : (v : Point) → Contains old v → Contains new v
+    pub given : (v : Point) → Contains new v → Contains old v ⊎ IsAmong vs from to v
+    pub all : (v : Point) → IsAmong vs from to v → left ≤ℤ v.x → v.x ≤ℤ right → meets_pixel (ends_of e) v ≡ true →
+        Contains new v

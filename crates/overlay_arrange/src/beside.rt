@@ -1,19 +1,22 @@
 //! A search for the edges of bundles that an edge may meet.
 
-ghost use Rattle.std.specs.Prelude.{◌≡◌, ◌+◌, ◌/◌, ◌<◌, List, [], All, length, IsTrue, OnOk};
+ghost use Rattle.std.specs.Prelude.{◌≡◌, ◌+◌, ◌/◌, ◌<◌, List, [], All, length, cond, IsTrue, OnOk};
 ghost use Rattle.overlay_geom.specs.Edges.{CountedEdge as WholeEdge};
 ghost use Rattle.overlay_arrange.specs.Bundles.{plain_bundle, plain_bundles, AreBundlesOf, ArePassed, BeginsBeside};
+ghost use Rattle.overlay_arrange.specs.Bundles.{IsBeyondLine, IsBoxBeside, IsBoxLeft, IsBoxRight};
 ghost use Rattle.overlay_arrange.specs.Bundles.{IsHeldBundle, IsPassed, LiesBeside};
 ghost use Rattle.overlay_arrange.specs.Content.{plain_edge, IsHeld};
 ghost use Rattle.overlay_arrange.specs.Extents.{plain_extent, plain_extents};
 ghost use Rattle.overlay_arrange.specs.Near.{IsSearchedBy};
 
-use crate::bundles::{Bundle, Bundles, is_left_of};
+use crate::bundles::{Bundle, Bundles, is_left_of_parallel};
 use crate::count::EdgeCount;
 use crate::edge::CountedEdge;
-use crate::extents::{Extent, is_apart};
+use crate::extents::{Extent, is_apart, is_less};
 use crate::near::{on_by, push_near};
+use overlay_geom::edge::IntEdge;
 use overlay_geom::number::IntNumber;
+use overlay_geom::point::IntPoint;
 use std::alloc::{AllocError, Allocator};
 
 // Number of boxes that are tested one by one at a time.
@@ -117,22 +120,72 @@ fn begins_beside<I: IntNumber, C: EdgeCount>(
     ensures { IsTrue result → BeginsBeside (plain_bundles I.whole bundles.now) size
         (plain_edge I.whole C.counts e.now) (plain_extent I.whole of) at }
 {
-    at % size == 0 && lies_beside(bundles[at / size], e, of)
+    at % size == 0 && lies_beside(&bundles[at / size], e, of)
 }
 
-/// Returns whether the bundle lies apart from `of`, or both ends of e lie beyond one of its lines.
+/// Returns whether the bundle lies apart from `of`, both ends of e lie beyond one of its lines, or its box lies beside
+/// the line of e.
 fn lies_beside<I: IntNumber, C: EdgeCount>(
-    bundle: Bundle<I>,
+    bundle: &Bundle<I>,
     e: &CountedEdge<I, C>,
     of: Extent<I>,
 ) -> bool
-    requires held { IsHeldBundle I.limit (plain_bundle I.whole bundle) }
+    requires held { IsHeldBundle I.limit (plain_bundle I.whole bundle.now) }
     requires one { IsHeld I.limit (plain_edge I.whole C.counts e.now) }
-    ensures { IsTrue result → LiesBeside (plain_bundle I.whole bundle) (plain_edge I.whole C.counts e.now)
+    ensures { IsTrue result → LiesBeside (plain_bundle I.whole bundle.now) (plain_edge I.whole C.counts e.now)
         (plain_extent I.whole of) }
 {
     is_apart(of, bundle.extent)
-        || is_left_of(bundle.along, bundle.left, e.a) && is_left_of(bundle.along, bundle.left, e.b)
-        || is_left_of(bundle.along, e.a, bundle.right)
-            && is_left_of(bundle.along, e.b, bundle.right)
+        || is_beyond_line(bundle, e)
+        || bundle.is_large && is_box_beside(bundle, e)
+}
+
+/// Returns whether both ends of e lie beyond one of the bundle's lines.
+fn is_beyond_line<I: IntNumber, C: EdgeCount>(bundle: &Bundle<I>, e: &CountedEdge<I, C>) -> bool
+    requires held { IsHeldBundle I.limit (plain_bundle I.whole bundle.now) }
+    requires one { IsHeld I.limit (plain_edge I.whole C.counts e.now) }
+    ensures { IsTrue result → IsBeyondLine (plain_bundle I.whole bundle.now) (plain_edge I.whole C.counts e.now) }
+{
+    is_left_of_parallel(bundle.along, bundle.left, e.a)
+        && is_left_of_parallel(bundle.along, bundle.left, e.b)
+        || is_left_of_parallel(bundle.along, e.a, bundle.right)
+            && is_left_of_parallel(bundle.along, e.b, bundle.right)
+}
+
+/// Returns whether the bundle's box lies on one side of the line of e.
+fn is_box_beside<I: IntNumber, C: EdgeCount>(bundle: &Bundle<I>, e: &CountedEdge<I, C>) -> bool
+    requires held { IsHeldBundle I.limit (plain_bundle I.whole bundle.now) }
+    requires one { IsHeld I.limit (plain_edge I.whole C.counts e.now) }
+    ensures { IsTrue result → IsBoxBeside (plain_bundle I.whole bundle.now) (plain_edge I.whole C.counts e.now) }
+{
+    is_box_left(bundle, e) || is_box_right(bundle, e)
+}
+
+/// Returns whether the bundle's box lies to the left of the line of e: its corner farthest to the right does.
+fn is_box_left<I: IntNumber, C: EdgeCount>(bundle: &Bundle<I>, e: &CountedEdge<I, C>) -> bool
+    requires held { IsHeldBundle I.limit (plain_bundle I.whole bundle.now) }
+    requires one { IsHeld I.limit (plain_edge I.whole C.counts e.now) }
+    ensures { IsTrue result → IsBoxLeft (plain_bundle I.whole bundle.now) (plain_edge I.whole C.counts e.now) }
+{
+    let x = either(is_less(e.b.y, e.a.y), bundle.west, bundle.east);
+    let corner = IntPoint::new(x, bundle.extent.low);
+    is_left_of_parallel(IntEdge { a: e.a, b: e.b }, e.a, corner)
+}
+
+/// Returns whether the bundle's box lies to the right of the line of e: its corner farthest to the left does.
+fn is_box_right<I: IntNumber, C: EdgeCount>(bundle: &Bundle<I>, e: &CountedEdge<I, C>) -> bool
+    requires held { IsHeldBundle I.limit (plain_bundle I.whole bundle.now) }
+    requires one { IsHeld I.limit (plain_edge I.whole C.counts e.now) }
+    ensures { IsTrue result → IsBoxRight (plain_bundle I.whole bundle.now) (plain_edge I.whole C.counts e.now) }
+{
+    let x = either(is_less(e.b.y, e.a.y), bundle.east, bundle.west);
+    let corner = IntPoint::new(x, bundle.extent.high);
+    is_left_of_parallel(IntEdge { a: e.a, b: e.b }, corner, e.a)
+}
+
+/// Returns the first number or the second.
+fn either<I: IntNumber>(is_first: bool, x: I, y: I) -> I
+    ensures { I.whole result ≡ cond is_first (I.whole x) (I.whole y) }
+{
+    if is_first { x } else { y }
 }

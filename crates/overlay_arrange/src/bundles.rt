@@ -4,25 +4,37 @@ ghost use Rattle.std.specs.Prelude.{◌≡◌, ◌<◌, All, IfOk};
 ghost use Rattle.std.specs.List.Sorted.{IsPermutation};
 ghost use Rattle.overlay_geom.specs.Points.{plain_point, InRange};
 ghost use Rattle.overlay_geom.specs.Resolved.{plain_edge as plain_line};
-ghost use Rattle.overlay_arrange.specs.Bundles.{is_left_of, plain_bundle, plain_bundles, AreBundlesOf, AreHeldBundles};
-ghost use Rattle.overlay_arrange.specs.Bundles.{HoldsEdge, IsHeldBundle, IsReached, IsWidened};
+ghost use Rattle.overlay_arrange.specs.Bundles.{is_left_of_parallel, plain_bundle, plain_bundles};
+ghost use Rattle.overlay_arrange.specs.Bundles.{AreBundlesOf, AreHeldBundles, HoldsEdge, IsHeldBundle};
+ghost use Rattle.overlay_arrange.specs.Bundles.{IsReached, IsWidened};
 ghost use Rattle.overlay_arrange.specs.Content.{plain_edge, plain_edges, IsHeld};
-ghost use Rattle.overlay_arrange.specs.Extents.{extents_of, plain_extent, plain_extents};
+ghost use Rattle.overlay_arrange.specs.Extents.{extent_of, extents_of, plain_extent, plain_extents};
 
 use crate::count::EdgeCount;
 use crate::edge::CountedEdge;
-use crate::extents::{Extent, joined};
-use crate::lines::by_lines;
+use crate::extents::{Extent, joined, ordered};
+use crate::lines::{by_lines, size_of};
 use overlay_geom::edge::IntEdge;
 use overlay_geom::number::{IntNumber, WideIntNumber};
 use overlay_geom::point::IntPoint;
 use std::alloc::{AllocError, Allocator};
 
+// How many times as large as an edge a much larger box is.
+const MUCH: u64 = 4;
+
 /// Some edges of a list: their box, and two parallel lines between which they lie.
 #[derive(Clone, Copy)]
 pub(crate) struct Bundle<I> {
-    /// The box of the edges.
+    /// The box of the edges, by heights and places.
     pub extent: Extent<I>,
+    /// The least x-coordinate.
+    pub west: I,
+    /// The greatest x-coordinate.
+    pub east: I,
+    /// The size of the longest edge, in x or in y.
+    pub longest: u64,
+    /// Whether the box is much larger than the longest edge. A search tests such boxes too.
+    pub is_large: bool,
     /// An edge in the direction of both lines.
     pub along: IntEdge<I>,
     /// A point of the left line. No end of the edges lies to the left of this line.
@@ -102,13 +114,18 @@ fn bundles_of_size<I: IntNumber, C: EdgeCount, A: Allocator>(
 
 /// Returns the bundle of an edge in its box.
 fn bundle_of<I: IntNumber, C: EdgeCount>(e: &CountedEdge<I, C>, extent: Extent<I>) -> Bundle<I>
-    requires { IsHeld I.limit (plain_edge I.whole C.counts e.now) }
+    requires one { IsHeld I.limit (plain_edge I.whole C.counts e.now) }
+    requires own { plain_extent I.whole extent ≡ extent_of (plain_edge I.whole C.counts e.now) extent.first }
     ensures held { IsHeldBundle I.limit (plain_bundle I.whole result) }
     ensures holds { HoldsEdge (plain_bundle I.whole result) (plain_extent I.whole extent)
         (plain_edge I.whole C.counts e.now) }
 {
     Bundle {
         extent,
+        west: e.a.x,
+        east: e.b.x,
+        longest: size_of(e.a, e.b),
+        is_large: false,
         along: IntEdge { a: e.a, b: e.b },
         left: e.a,
         right: e.a,
@@ -123,17 +140,28 @@ fn widened<I: IntNumber, C: EdgeCount>(
 ) -> Bundle<I>
     requires held { IsHeldBundle I.limit (plain_bundle I.whole bundle) }
     requires one { IsHeld I.limit (plain_edge I.whole C.counts e.now) }
+    requires own { plain_extent I.whole extent ≡ extent_of (plain_edge I.whole C.counts e.now) extent.first }
     ensures held { IsHeldBundle I.limit (plain_bundle I.whole result) }
     ensures holds { HoldsEdge (plain_bundle I.whole result) (plain_extent I.whole extent)
         (plain_edge I.whole C.counts e.now) }
     ensures widened { IsWidened (plain_bundle I.whole bundle) (plain_bundle I.whole result) }
 {
     let reached = reached(reached(bundle, e.a), e.b);
+    let joined = joined(bundle.extent, extent);
+    let (west, _) = ordered(bundle.west, e.a.x);
+    let (_, east) = ordered(bundle.east, e.b.x);
+    let size = size_of(
+        IntPoint::new(west, joined.low),
+        IntPoint::new(east, joined.high),
+    );
+    let longest = bundle.longest.max(size_of(e.a, e.b));
     Bundle {
-        extent: joined(bundle.extent, extent),
-        along: reached.along,
-        left: reached.left,
-        right: reached.right,
+        extent: joined,
+        west,
+        east,
+        longest,
+        is_large: longest < size / MUCH,
+        ..reached
     }
 }
 
@@ -144,23 +172,26 @@ fn reached<I: IntNumber>(bundle: Bundle<I>, v: IntPoint<I>) -> Bundle<I>
     ensures held { IsHeldBundle I.limit (plain_bundle I.whole result) }
     ensures reached { IsReached (plain_bundle I.whole bundle) (plain_point I.whole v) (plain_bundle I.whole result) }
 {
-    let is_beyond_left = is_left_of(bundle.along, bundle.left, v);
-    let is_beyond_right = is_left_of(bundle.along, v, bundle.right);
+    let is_beyond_left = is_left_of_parallel(bundle.along, bundle.left, v);
+    let is_beyond_right = is_left_of_parallel(bundle.along, v, bundle.right);
     Bundle {
-        extent: bundle.extent,
-        along: bundle.along,
         left: if is_beyond_left { v } else { bundle.left },
         right: if is_beyond_right { v } else { bundle.right },
+        ..bundle
     }
 }
 
-/// Returns whether q lies to the left of the line through p in the direction of the edge.
-pub(crate) fn is_left_of<I: IntNumber>(along: IntEdge<I>, p: IntPoint<I>, q: IntPoint<I>) -> bool
+/// Returns whether q lies to the left of the parallel to an edge through p, in the edge's direction.
+pub(crate) fn is_left_of_parallel<I: IntNumber>(
+    along: IntEdge<I>,
+    p: IntPoint<I>,
+    q: IntPoint<I>,
+) -> bool
     requires a { InRange I.limit (plain_point I.whole along.a) }
     requires b { InRange I.limit (plain_point I.whole along.b) }
     requires p { InRange I.limit (plain_point I.whole p) }
     requires q { InRange I.limit (plain_point I.whole q) }
-    ensures { result ≡ is_left_of (plain_line I.whole along) (plain_point I.whole p) (plain_point I.whole q) }
+    ensures { result ≡ is_left_of_parallel (plain_line I.whole along) (plain_point I.whole p) (plain_point I.whole q) }
 {
     (along.b - along.a).cross_product(q - p).sign().is_gt()
 }

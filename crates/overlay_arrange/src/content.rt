@@ -21,7 +21,7 @@ use crate::edge::CountedEdge;
 use crate::fill_rule::FillRule;
 use crate::fill_test::FillTest;
 use crate::graph::Graph;
-use crate::merge::{merge, merge_runs, weight_of};
+use crate::merge::{merge, merge_runs, weight_of, weight_unless};
 use overlay_geom::error::OverlayError;
 use overlay_geom::number::IntNumber;
 use std::alloc::{AllocError, Allocator};
@@ -163,8 +163,9 @@ impl<I: IntNumber, C: EdgeCount, A: Allocator> Content<I, C, A> {
         ensures content { IsContent I.limit (edges_in self.new) }
         ensures store { IsStoreReached C.writes store.old store.new }
     {
+        let count = self.edges.len();
         let merged = merge_runs(&mut self.edges, store);
-        self.weight = weight_of(&self.edges);
+        self.weight = weight_unless(&self.edges, count, self.weight);
         merged
     }
 

@@ -108,7 +108,7 @@ fn cross_in_ends<I: IntNumber, C: EdgeCount>(e: &CountedEdge<I, C>, f: &CountedE
     ensures back { result ≡ false → IsAcross (ends_of (plain_edge I.whole C.counts f.now))
         (ends_of (plain_edge I.whole C.counts e.now)) }
 {
-    matches!(place_by(f, e), Place::Beside) || share_end(e, f)
+    share_end(e, f) || matches!(place_by(f, e), Place::Beside)
 }
 
 /// Returns whether an end of e is an end of f.

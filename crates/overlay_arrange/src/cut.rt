@@ -177,12 +177,13 @@ fn push_pieces<I: IntNumber, C: EdgeCount, A: Allocator>(
     ensures only { IfErr result (λ e. (e ≡ OverlayError.Memory) ⊎ (e ≡ OverlayError.TooManyEdges)) }
 {
     let is_whole = stays_whole(e, points);
+    let e = *e;
     let mut from = e.a;
     for to in points {
-        push_piece(pieces, e, from, *to, is_whole, store)?;
+        push_piece(pieces, &e, from, *to, is_whole, store)?;
         from = *to;
     }
-    push_piece(pieces, e, from, e.b, is_whole, store)
+    push_piece(pieces, &e, from, e.b, is_whole, store)
 }
 
 /// Adds the piece of the edge from one point of its chain to the next, if they differ.

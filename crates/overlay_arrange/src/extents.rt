@@ -4,6 +4,7 @@ ghost use Rattle.std.specs.Prelude.{◌≡◌, ◌↔◌, int_lt, cond, IsTrue};
 ghost use Rattle.overlay_geom.specs.Points.{plain_point};
 ghost use Rattle.overlay_arrange.specs.Content.{plain_edge};
 ghost use Rattle.overlay_arrange.specs.Extents.{extent_of, extent_of_point, plain_extent, Encloses, IsApart};
+ghost use Rattle.overlay_arrange.specs.Extents.{ShareNoHeight};
 
 use crate::count::EdgeCount;
 use crate::edge::CountedEdge;
@@ -53,6 +54,9 @@ pub(crate) fn extent_of_point<I: IntNumber>(v: IntPoint<I>, place: usize) -> Ext
 
 /// Returns the least box that encloses both.
 pub(crate) fn joined<I: IntNumber>(s: Extent<I>, t: Extent<I>) -> Extent<I>
+    ensures low { I.whole result.low ≡ cond (int_lt (I.whole s.low) (I.whole t.low)) (I.whole s.low) (I.whole t.low) }
+    ensures high { I.whole result.high
+        ≡ cond (int_lt (I.whole s.high) (I.whole t.high)) (I.whole t.high) (I.whole s.high) }
     ensures first { Encloses (plain_extent I.whole result) (plain_extent I.whole s) }
     ensures second { Encloses (plain_extent I.whole result) (plain_extent I.whole t) }
 {
@@ -71,6 +75,13 @@ pub(crate) fn is_apart<I: IntNumber>(s: Extent<I>, t: Extent<I>) -> bool
     is_less(s.high, t.low) || is_less(t.high, s.low) || s.last < t.first || t.last < s.first
 }
 
+/// Returns whether the boxes share no height.
+pub(crate) fn share_no_height<I: IntNumber>(s: Extent<I>, t: Extent<I>) -> bool
+    ensures { IsTrue result ↔ ShareNoHeight (plain_extent I.whole s) (plain_extent I.whole t) }
+{
+    is_less(s.high, t.low) || is_less(t.high, s.low)
+}
+
 /// Returns whether s lies wholly below t.
 pub(crate) fn is_under<I: IntNumber>(s: Extent<I>, t: Extent<I>) -> bool
     ensures { result ≡ int_lt (I.whole s.high) (I.whole t.low) }
@@ -79,7 +90,7 @@ pub(crate) fn is_under<I: IntNumber>(s: Extent<I>, t: Extent<I>) -> bool
 }
 
 /// Returns the two numbers, the lesser first.
-fn ordered<I: IntNumber>(y: I, z: I) -> (I, I)
+pub(crate) fn ordered<I: IntNumber>(y: I, z: I) -> (I, I)
     ensures low { I.whole result.0 ≡ cond (int_lt (I.whole y) (I.whole z)) (I.whole y) (I.whole z) }
     ensures high { I.whole result.1 ≡ cond (int_lt (I.whole y) (I.whole z)) (I.whole z) (I.whole y) }
 {

@@ -1,7 +1,9 @@
 //! The hot points of a list of edges: their ends, and the whole points nearest to their meeting points.
 
 ghost use Rattle.std.specs.Prelude.{◌≡◌, ◌++◌, map, IfOk, OnOk};
-ghost use Rattle.overlay_geom.specs.Points.{plain_points};
+ghost use Rattle.std.specs.List.Sorted.{IsPermutation, IsSorted};
+ghost use Rattle.overlay_geom.specs.Points.{plain_point, plain_points};
+ghost use Rattle.overlay_geom.specs.Resolved.{point_cmp};
 ghost use Rattle.overlay_arrange.specs.Content.{plain_edges};
 ghost use Rattle.overlay_arrange.specs.HotPoints.{AreHotPoints, ArePointsAscending, HaveSameMembers};
 ghost use Rattle.overlay_arrange.specs.Meetings.{plain_meetings, AreMeetings};
@@ -10,10 +12,12 @@ use crate::count::EdgeCount;
 use crate::edge::{CountedEdge, compare_points};
 use crate::meetings::Meeting;
 use crate::sort_points::order_by_points;
+use crate::sort_runs::sort_neighbours;
 use overlay_geom::edge_pair::is_same;
 use overlay_geom::number::IntNumber;
 use overlay_geom::point::IntPoint;
 use std::alloc::{AllocError, Allocator};
+use std::cmp::Ordering;
 
 /// Returns the hot points of the edges, each once, by x and then by y. The meetings are those of all edges.
 pub(crate) fn hot_points<I: IntNumber, C: EdgeCount, A: Allocator + Clone>(
@@ -76,8 +80,7 @@ fn push_points<I: IntNumber, A: Allocator>(
     Ok(())
 }
 
-/// Sorts the points by x and then by y, and drops repeated points. Many points are put in order by digits first, so
-/// that the sort takes one pass.
+/// Sorts the points by x and then by y, and drops repeated points.
 fn sort_points<I: IntNumber, A: Allocator + Clone>(
     points: &mut Vec<IntPoint<I>, A>,
 ) -> Result<(), AllocError>
@@ -85,8 +88,34 @@ fn sort_points<I: IntNumber, A: Allocator + Clone>(
         (plain_points I.whole points.old.items) (plain_points I.whole points.new.items)) }
     ensures ascending { OnOk result (ArePointsAscending (plain_points I.whole points.new.items)) }
 {
-    order_by_points(points, |v| *v)?;
-    points.sort_by(|v, w| compare_points(*v, *w))?;
+    put_in_order(points)?;
     points.dedup_by(|v, w| is_same(*v, *w));
     Ok(())
+}
+
+/// Sorts the points by x and then by y. Many points are put in order by digits first, so that few have to be moved.
+fn put_in_order<I: IntNumber, A: Allocator + Clone>(
+    points: &mut Vec<IntPoint<I>, A>,
+) -> Result<(), AllocError>
+    ensures permutation { IsPermutation points.old.items points.new.items }
+    ensures order { OnOk result (IsSorted
+        (λ v w. point_cmp (plain_point I.whole v) (plain_point I.whole w)) points.new.items) }
+{
+    order_by_points(points, |v| *v)?;
+    if sort_neighbours(points, |v, w| compare_neighbours(v, w)) {
+        return Ok(());
+    }
+    points.sort_by(|v, w| compare_points(*v, *w))?;
+    Ok(())
+}
+
+/// Compares two points as `compare_points` does. It is faster where points side by side in a list differ in x, or agree
+/// there.
+fn compare_neighbours<I: IntNumber>(v: &IntPoint<I>, w: &IntPoint<I>) -> Ordering
+    ensures { result ≡ point_cmp (plain_point I.whole v.now) (plain_point I.whole w.now) }
+{
+    match v.x.compare(w.x) {
+        Ordering::Equal => v.y.compare(w.y),
+        other => other,
+    }
 }

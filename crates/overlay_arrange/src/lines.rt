@@ -1,4 +1,5 @@
-//! Edges in the order of their lines: edges on nearby lines, and near each other, come together.
+//! Edges in the order of their lines: edges on nearby lines, and near each other, come together. Short edges come
+//! behind all others, in the order of their places.
 
 ghost use Rattle.std.specs.Prelude.{◌<◌, length, IfOk};
 ghost use Rattle.std.specs.List.Sorted.{IsPermutation};
@@ -19,6 +20,10 @@ use std::alloc::{AllocError, Allocator};
 const BITS: u32 = 30;
 
 const MIDDLE: u64 = 1 << 29;
+// Width and height below which an edge is short, and the bit that tells short edges.
+const SHORT: u64 = 1 << 22;
+
+const IS_SHORT: u64 = 1 << 63;
 // Number of bits of a slope, and of those of a height that are left out.
 const SLOPE: u32 = 20;
 
@@ -85,7 +90,7 @@ fn scale_of<I: IntNumber, C: EdgeCount>(edges: &[CountedEdge<I, C>], v: IntPoint
             greater(high.y, greater(e.a.y, e.b.y)),
         );
     }
-    let size = high.x.distance(low.x).max(high.y.distance(low.y));
+    let size = size_of(low, high);
     let bits = u64::BITS.wrapping_sub(size.leading_zeros());
     Scale {
         corner: low,
@@ -94,8 +99,12 @@ fn scale_of<I: IntNumber, C: EdgeCount>(edges: &[CountedEdge<I, C>], v: IntPoint
     }
 }
 
-// Returns a number for the line from a to b. Its first bits tell the cell of the middle of the edge. The others are, by
-// turns, those of the line's direction and of the height at which it passes the middle of the box.
+/// Returns the distance of two points in x or in y, whichever is greater.
+pub(crate) fn size_of<I: IntNumber>(p: IntPoint<I>, q: IntPoint<I>) -> u64 {
+    p.x.distance(q.x).max(p.y.distance(q.y))
+}
+
+// Returns a number for the edge from a to b: for its line, or for its place where it is short.
 fn number_of<I: IntNumber>(scale: &Scale<I>, a: IntPoint<I>, b: IntPoint<I>) -> u64 {
     let ax = scaled(scale, a.x.distance(scale.corner.x));
     let ay = scaled(scale, a.y.distance(scale.corner.y));
@@ -108,19 +117,29 @@ fn number_of<I: IntNumber>(scale: &Scale<I>, a: IntPoint<I>, b: IntPoint<I>) -> 
     } else {
         ay.wrapping_sub(by)
     };
-    let cell = by_turns(cell_of(ax, bx), cell_of(ay, by));
-    let line = if dy <= dx {
+    let x = middle_of(ax, bx);
+    let y = middle_of(ay, by);
+    if dx < SHORT && dy < SHORT {
+        return IS_SHORT | by_turns(x, y);
+    }
+    let cell = by_turns(x.wrapping_shr(IN_CELL), y.wrapping_shr(IN_CELL));
+    cell.wrapping_shl(LINE) | line_of(ax, ay, dx, dy, rises)
+}
+
+// Returns a number for the line that passes the point (x, y), and rises or falls by dy on a width of dx. Its bits are,
+// by turns, those of the line's direction and of the height at which it passes the middle of the box.
+fn line_of(x: u64, y: u64, dx: u64, dy: u64, rises: bool) -> u64 {
+    if dy <= dx {
         by_turns(
             turned(1, rises, slope_of(dy, dx)),
-            height_of(ax, ay, dx, dy, rises),
+            height_of(x, y, dx, dy, rises),
         )
     } else {
         by_turns(
             turned(3, !rises, slope_of(dx, dy)),
-            height_of(ay, ax, dy, dx, rises),
+            height_of(y, x, dy, dx, rises),
         )
-    };
-    cell.wrapping_shl(LINE) | line
+    }
 }
 
 // Returns a distance from the corner, scaled.
@@ -128,15 +147,15 @@ fn scaled<I: IntNumber>(scale: &Scale<I>, distance: u64) -> u64 {
     distance.wrapping_shl(scale.left).wrapping_shr(scale.right)
 }
 
-// Returns the cell of the middle of two scaled coordinates.
-fn cell_of(u: u64, v: u64) -> u64 {
-    u.wrapping_add(v).wrapping_shr(IN_CELL.wrapping_add(1))
+// Returns the middle of two scaled coordinates.
+fn middle_of(u: u64, v: u64) -> u64 {
+    u.wrapping_add(v).wrapping_shr(1)
 }
 
-// Returns the direction that is a slope away from a multiple of the right angle's half.
-fn turned(halves: u64, rises: bool, slope: u64) -> u64 {
+// Returns the number of a direction: `halves` halves of a right angle, and the slope more or less.
+fn turned(halves: u64, is_more: bool, slope: u64) -> u64 {
     let axis = halves.wrapping_shl(SLOPE);
-    if rises {
+    if is_more {
         axis.wrapping_add(slope)
     } else {
         axis.wrapping_sub(slope)

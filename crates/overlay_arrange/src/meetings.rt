@@ -87,11 +87,11 @@ fn gather_from<I: IntNumber, C: EdgeCount, A: Allocator>(
         (HasBefore (i + 1)) (plain_meetings I.whole meetings.new.items)) }
     ensures open { OnOk result (AreOpenBefore (plain_edges I.whole C.counts edges.now) (i + 1) is_open.new.items) }
 {
-    let e = &edges[i];
+    let e = edges[i];
     for k in 0..near.len() {
         let j = near[k];
         let f = &edges[j];
-        if push_meetings(meetings, i, e, j, f)? {
+        if push_meetings(meetings, i, &e, j, f)? {
             mark_open(is_open, i, j);
         }
     }

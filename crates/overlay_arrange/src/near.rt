@@ -5,27 +5,20 @@ ghost use Rattle.overlay_arrange.specs.Content.{plain_edge, plain_edges, IsAscen
 ghost use Rattle.overlay_arrange.specs.Extents.{plain_extent, plain_extents, AreByHeights, AreInBlocks};
 ghost use Rattle.overlay_arrange.specs.Extents.{AreInStrips};
 ghost use Rattle.overlay_arrange.specs.Strips.{AreHeldStripsOf};
-ghost use Rattle.overlay_arrange.specs.Near.{run_of, AreApartFrom, AreBetween, AreNearAdded, AreNearBehind};
+ghost use Rattle.overlay_arrange.specs.Near.{run_of, AreApartFrom, AreNearAdded, AreNearBehind, AreNearHeights};
 ghost use Rattle.overlay_arrange.specs.Near.{BeginsApart, IsSearchedTo};
 
 use crate::beside::find_in_bundles;
 use crate::count::EdgeCount;
 use crate::edge::CountedEdge;
-use crate::extents::{Extent, extent_of, is_apart, is_under};
-use crate::settle::meet_in_ends;
+use crate::extents::{Extent, extent_of, is_apart, is_under, share_no_height};
 use crate::spans::run_end;
 use crate::strips::Strips;
 use overlay_geom::number::IntNumber;
 use std::alloc::{AllocError, Allocator};
 
-// Length of a run from which on it is searched by blocks; a shorter run is taken whole.
-const FEW: usize = 8;
-// Number of edges from which on bundles may be made, of edges in a sample, and of those that are many for such an edge.
-const MANY: usize = 4096;
-
-const SAMPLE: usize = 16;
-
-const FOUND: usize = 64;
+// Length of a run from which on it is searched by blocks or bundles; of a shorter run each edge is tested.
+const FEW: usize = 64;
 // Number of boxes that are tested one by one at a time.
 const BLOCK: usize = 8;
 
@@ -50,7 +43,7 @@ pub(crate) fn find_near_behind<I: IntNumber, C: EdgeCount, A: Allocator>(
     let end = run_end(edges, e.b.x, from);
     near.clear();
     if end - from < FEW {
-        take_run(near, from, end)
+        take_by_heights(near, edges, extent_of(e, from), from, end)
     } else if let Some(bundles) = &strips.bundles {
         find_in_bundles(near, bundles, e, run_of(e, from, end))
     } else {
@@ -58,67 +51,24 @@ pub(crate) fn find_near_behind<I: IntNumber, C: EdgeCount, A: Allocator>(
     }
 }
 
-/// Returns whether a quarter of the edges of a sample, or more, find many edges by their boxes and meet few of them
-/// elsewhere than in ends. It only serves as an estimate. Short lists are not tried.
-pub(crate) fn misses_many<I: IntNumber, C: EdgeCount, A: Allocator>(
-    alloc: A,
-    edges: &[CountedEdge<I, C>],
-    strips: &Strips<I, A>,
-) -> Result<bool, AllocError>
-    requires held { All (IsHeld I.limit) (plain_edges I.whole C.counts edges.now) }
-    requires ascending { IsAscending (plain_edges I.whole C.counts edges.now) }
-    requires strips { AreHeldStripsOf I.whole I.limit (plain_edges I.whole C.counts edges.now) strips.now }
-{
-    if edges.len() < MANY {
-        return Ok(false);
-    }
-    let distance = edges.len() / SAMPLE;
-    let mut near = Vec::new(alloc);
-    let mut count: usize = 0;
-    for k in 0..SAMPLE {
-        let i = k.saturating_mul(distance);
-        if i < edges.len() {
-            let e = &edges[i];
-            find_near_behind(&mut near, edges, strips, e, i + 1)?;
-            if near.len() >= FOUND && count_met(edges, e, &near) < near.len() / 4 {
-                count = count.saturating_add(1);
-            }
-        }
-    }
-    Ok(count >= SAMPLE / 4)
-}
-
-/// Returns how many of the edges at the places e meets elsewhere than in ends.
-fn count_met<I: IntNumber, C: EdgeCount>(
-    edges: &[CountedEdge<I, C>],
-    e: &CountedEdge<I, C>,
-    places: &[usize],
-) -> usize
-    requires held { All (IsHeld I.limit) (plain_edges I.whole C.counts edges.now) }
-    requires one { IsHeld I.limit (plain_edge I.whole C.counts e.now) }
-    requires within { All (λ j. j < length edges.now) places.now }
-{
-    let mut count: usize = 0;
-    for place in places {
-        if !meet_in_ends(e, &edges[*place]) {
-            count = count.saturating_add(1);
-        }
-    }
-    count
-}
-
-/// Takes all places from `from` up to `to`.
-pub(crate) fn take_run<A: Allocator>(
+/// Takes the places from `from` up to `to` of the edges that share a height with `of`.
+fn take_by_heights<I: IntNumber, C: EdgeCount, A: Allocator>(
     near: &mut Vec<usize, A>,
+    edges: &[CountedEdge<I, C>],
+    of: Extent<I>,
     from: usize,
     to: usize,
 ) -> Result<(), AllocError>
     requires empty { near.old.items ≡ [] }
     requires ordered { from ≤ to }
-    ensures ok { OnOk result (AreBetween from to near.new.items) }
+    requires within { to ≤ length edges.now }
+    ensures ok { OnOk result (AreNearHeights (plain_edges I.whole C.counts edges.now) (plain_extent I.whole of)
+        from to near.new.items) }
 {
     for j in from..to {
-        near.push(j)?;
+        if !share_no_height(of, extent_of(&edges[j], j)) {
+            near.push(j)?;
+        }
     }
     Ok(())
 }

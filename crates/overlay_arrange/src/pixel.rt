@@ -1,27 +1,33 @@
-//! Test whether an edge meets the pixel of a whole point: whether some point of the edge rounds to it.
+//! Test whether an edge meets the pixel of a whole point between its ends: whether some point of the edge rounds to it.
 
-ghost use Rattle.std.specs.Prelude.{◌≡◌, pos, ◌*ℤ◌, ◌-ℤ◌, int_le, cond, ◌&&◌};
+ghost use Rattle.std.specs.Prelude.{◌≡◌, ◌↔◌, true, IsTrue, pos, ◌*ℤ◌, ◌-ℤ◌, int_le, cond, ◌&&◌};
 ghost use Rattle.std.specs.Ordering.{int_cmp, is_lt, is_le, is_gt, is_ge};
 ghost use Rattle.overlay_geom.specs.Edges.{ends_of};
 ghost use Rattle.overlay_geom.specs.Points.{plain_point, InRange};
 ghost use Rattle.overlay_plane.specs.SnapPoints.{half_girth, is_amid, is_in_box, line_meets, meets_pixel};
 ghost use Rattle.overlay_arrange.specs.Content.{plain_edge, IsHeld};
+ghost use Rattle.overlay_arrange.specs.Cut.{IsEndOf};
 
 use crate::count::EdgeCount;
+use crate::crossing::is_end_of;
 use crate::edge::CountedEdge;
 use crate::extents::is_less;
-use overlay_geom::edge_pair::is_same;
 use overlay_geom::number::IntNumber;
 use overlay_geom::point::IntPoint;
 use overlay_geom::vector::cross_at;
 use std::cmp::Ordering;
 
-/// Returns whether some point of the edge rounds to the point.
-pub(crate) fn meets_pixel<I: IntNumber, C: EdgeCount>(e: &CountedEdge<I, C>, v: IntPoint<I>) -> bool
+/// Returns whether some point of the edge rounds to the point, which is no end of the edge.
+pub(crate) fn meets_pixel_inside<I: IntNumber, C: EdgeCount>(
+    e: &CountedEdge<I, C>,
+    v: IntPoint<I>,
+) -> bool
     requires { IsHeld I.limit (plain_edge I.whole C.counts e.now) }
-    ensures { result ≡ meets_pixel (ends_of (plain_edge I.whole C.counts e.now)) (plain_point I.whole v) }
+    ensures { let whole = plain_edge I.whole C.counts e.now in
+        IsTrue result ↔ (meets_pixel (ends_of whole) (plain_point I.whole v) ≡ true)
+        × ¬ (IsEndOf whole (plain_point I.whole v)) }
 {
-    is_same(v, e.a) || is_same(v, e.b) || (is_in_box(e, v) && line_meets(e, v))
+    is_in_box(e, v) && line_meets(e, v) && !is_end_of(e, v)
 }
 
 /// Returns whether the point lies in the bounding box of the edge.

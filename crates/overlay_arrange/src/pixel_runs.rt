@@ -5,16 +5,14 @@ ghost use Rattle.std.specs.Prelude.{◌≡◌, ◌⊎◌, ℕ, ◌<◌, ◌≤�
 ghost use Rattle.std.specs.Prelude.{OnOk};
 ghost use Rattle.std.specs.Ordering.{is_lt};
 ghost use Rattle.overlay_geom.specs.Edges.{ends_of};
-ghost use Rattle.overlay_geom.specs.Points.{plain_point, InRange};
+ghost use Rattle.overlay_geom.specs.Points.{plain_point, plain_points, InRange};
 ghost use Rattle.overlay_arrange.specs.Content.{plain_edge, IsHeld};
-ghost use Rattle.overlay_arrange.specs.Extents.{Extent as PlainExtent, plain_extents};
-ghost use Rattle.overlay_arrange.specs.Meetings.{IsAt};
-ghost use Rattle.overlay_arrange.specs.PixelRuns.{AddsPlaces, AddsRun, ArePassedAbove, ArePassedBelow, AreUpwards};
+ghost use Rattle.overlay_arrange.specs.PixelRuns.{AddsPoints, AddsRun, ArePassedAbove, ArePassedBelow, AreUpwards};
 ghost use Rattle.overlay_arrange.specs.PixelRuns.{is_far_above, is_far_below, IsAmidX, PassesAbove, PassesBelow};
 
 use crate::count::EdgeCount;
 use crate::edge::CountedEdge;
-use crate::extents::{Extent, is_less};
+use crate::extents::is_less;
 use crate::pixel::{order_to_high, order_to_low};
 use overlay_geom::number::IntNumber;
 use overlay_geom::point::IntPoint;
@@ -25,11 +23,11 @@ use std::cmp::Ordering;
 // First step, in places, of the search for a point that lies above an edge.
 const FIRST: usize = 8;
 
-/// Adds the places of the points of a strip, from `from` up to `to`, whose pixels the edge may meet. Their
-/// x-coordinates lie between `left` and `right`.
+/// Adds the points of a strip, from `from` up to `to`, whose pixels the edge may meet. Their x-coordinates lie between
+/// `left` and `right`.
 pub(crate) fn push_run<I: IntNumber, C: EdgeCount, A: Allocator>(
-    near: &mut Vec<usize, A>,
-    strips: &[Extent<I>],
+    points: &mut Vec<IntPoint<I>, A>,
+    strips: &[IntPoint<I>],
     e: &CountedEdge<I, C>,
     left: I,
     right: I,
@@ -39,20 +37,21 @@ pub(crate) fn push_run<I: IntNumber, C: EdgeCount, A: Allocator>(
     requires one { IsHeld I.limit (plain_edge I.whole C.counts e.now) }
     requires ordered { from ≤ to }
     requires within { to ≤ length strips.now }
-    requires upwards { AreUpwards (plain_extents I.whole strips.now) from to }
+    requires upwards { AreUpwards (plain_points I.whole strips.now) from to }
     ensures ok { OnOk result (AddsRun (I.whole left) (I.whole right) (plain_edge I.whole C.counts e.now)
-        (plain_extents I.whole strips.now) from to near.old.items near.new.items) }
+        (plain_points I.whole strips.now) from to
+        (plain_points I.whole points.old.items) (plain_points I.whole points.new.items)) }
 {
     let (first, last) = x_along(e, left, right);
     let low = place_not_below(strips, e, first, from, to);
     let high = place_above(strips, e, last, low, to);
-    push_places(near, strips, low, high, is_less(e.b.y, e.a.y))
+    push_points(points, strips, low, high, is_less(e.b.y, e.a.y))
 }
 
-/// Adds the places of the boxes from `from` up to `to`, last first where an edge falls: in the order along the edge.
-fn push_places<I: IntNumber, A: Allocator>(
-    near: &mut Vec<usize, A>,
-    strips: &[Extent<I>],
+/// Adds the points from `from` up to `to`, last first where an edge falls: in the order along the edge.
+fn push_points<I: IntNumber, A: Allocator>(
+    points: &mut Vec<IntPoint<I>, A>,
+    strips: &[IntPoint<I>],
     from: usize,
     to: usize,
     falls: bool,
@@ -60,50 +59,51 @@ fn push_places<I: IntNumber, A: Allocator>(
     requires ordered { from ≤ to }
     requires within { to ≤ length strips.now }
     ensures ok { OnOk result
-        (AddsPlaces (plain_extents I.whole strips.now) from to near.old.items near.new.items) }
+        (AddsPoints (plain_points I.whole strips.now) from to
+        (plain_points I.whole points.old.items) (plain_points I.whole points.new.items)) }
 {
     if falls {
-        push_downwards(near, strips, from, to)
+        push_downwards(points, strips, from, to)
     } else {
-        push_upwards(near, strips, from, to)
+        push_upwards(points, strips, from, to)
     }
 }
 
-/// Adds the places of the boxes from `from` up to `to`, last first.
+/// Adds the points from `from` up to `to`, last first.
 fn push_downwards<I: IntNumber, A: Allocator>(
-    near: &mut Vec<usize, A>,
-    strips: &[Extent<I>],
+    points: &mut Vec<IntPoint<I>, A>,
+    strips: &[IntPoint<I>],
     from: usize,
     to: usize,
 ) -> Result<(), AllocError>
     requires ordered { from ≤ to }
     requires within { to ≤ length strips.now }
     ensures ok { OnOk result
-        (AddsPlaces (plain_extents I.whole strips.now) from to near.old.items near.new.items) }
+        (AddsPoints (plain_points I.whole strips.now) from to
+        (plain_points I.whole points.old.items) (plain_points I.whole points.new.items)) }
 {
     let mut k = to;
     while k > from {
         k -= 1;
-        near.push(strips[k].first)?;
+        points.push(strips[k])?;
     }
     Ok(())
 }
 
-/// Adds the places of the boxes from `from` up to `to`, in their order.
+/// Adds the points from `from` up to `to`, in their order.
 fn push_upwards<I: IntNumber, A: Allocator>(
-    near: &mut Vec<usize, A>,
-    strips: &[Extent<I>],
+    points: &mut Vec<IntPoint<I>, A>,
+    strips: &[IntPoint<I>],
     from: usize,
     to: usize,
 ) -> Result<(), AllocError>
     requires ordered { from ≤ to }
     requires within { to ≤ length strips.now }
     ensures ok { OnOk result
-        (AddsPlaces (plain_extents I.whole strips.now) from to near.old.items near.new.items) }
+        (AddsPoints (plain_points I.whole strips.now) from to
+        (plain_points I.whole points.old.items) (plain_points I.whole points.new.items)) }
 {
-    for k in from..to {
-        near.push(strips[k].first)?;
-    }
+    points.extend_from_slice(&strips[from..to])?;
     Ok(())
 }
 
@@ -142,7 +142,7 @@ fn x_within<I: IntNumber, C: EdgeCount>(e: &CountedEdge<I, C>, x: I) -> I
 
 /// Returns a place up to which the points of a strip lie below the edge, for points from x on in its rising direction.
 fn place_not_below<I: IntNumber, C: EdgeCount>(
-    strips: &[Extent<I>],
+    strips: &[IntPoint<I>],
     e: &CountedEdge<I, C>,
     x: I,
     from: usize,
@@ -152,17 +152,17 @@ fn place_not_below<I: IntNumber, C: EdgeCount>(
     requires amid { IsAmidX (plain_edge I.whole C.counts e.now) (I.whole x) }
     requires ordered { from ≤ to }
     requires within { to ≤ length strips.now }
-    requires upwards { AreUpwards (plain_extents I.whole strips.now) from to }
+    requires upwards { AreUpwards (plain_points I.whole strips.now) from to }
     ensures ordered { from ≤ result }
     ensures within { result ≤ to }
     ensures below { ArePassedAbove (plain_edge I.whole C.counts e.now) (I.whole x)
-        (plain_extents I.whole strips.now) from result }
+        (plain_points I.whole strips.now) from result }
 {
     let mut low = from;
     let mut high = to;
     while low < high {
         let middle = low + (high - low) / 2;
-        if passes_above(e, x, strips[middle].low) {
+        if passes_above(e, x, strips[middle].y) {
             low = middle + 1;
         } else {
             high = middle;
@@ -173,7 +173,7 @@ fn place_not_below<I: IntNumber, C: EdgeCount>(
 
 /// Returns a place from which on the points of a strip lie above the edge, for points up to x in its rising direction.
 fn place_above<I: IntNumber, C: EdgeCount>(
-    strips: &[Extent<I>],
+    strips: &[IntPoint<I>],
     e: &CountedEdge<I, C>,
     x: I,
     from: usize,
@@ -183,17 +183,17 @@ fn place_above<I: IntNumber, C: EdgeCount>(
     requires amid { IsAmidX (plain_edge I.whole C.counts e.now) (I.whole x) }
     requires ordered { from ≤ to }
     requires within { to ≤ length strips.now }
-    requires upwards { AreUpwards (plain_extents I.whole strips.now) from to }
+    requires upwards { AreUpwards (plain_points I.whole strips.now) from to }
     ensures ordered { from ≤ result }
     ensures within { result ≤ to }
     ensures above { ArePassedBelow (plain_edge I.whole C.counts e.now) (I.whole x)
-        (plain_extents I.whole strips.now) result to }
+        (plain_points I.whole strips.now) result to }
 {
     let mut low = from;
     let mut high = place_over(strips, e, x, from, to);
     while low < high {
         let middle = low + (high - low) / 2;
-        if passes_below(e, x, strips[middle].low) {
+        if passes_below(e, x, strips[middle].y) {
             high = middle;
         } else {
             low = middle + 1;
@@ -205,7 +205,7 @@ fn place_above<I: IntNumber, C: EdgeCount>(
 /// Returns a place as [`place_above`] does, near `from` if few points lie near the edge: each step is twice as long as
 /// the step before.
 fn place_over<I: IntNumber, C: EdgeCount>(
-    strips: &[Extent<I>],
+    strips: &[IntPoint<I>],
     e: &CountedEdge<I, C>,
     x: I,
     from: usize,
@@ -215,16 +215,16 @@ fn place_over<I: IntNumber, C: EdgeCount>(
     requires amid { IsAmidX (plain_edge I.whole C.counts e.now) (I.whole x) }
     requires ordered { from ≤ to }
     requires within { to ≤ length strips.now }
-    requires upwards { AreUpwards (plain_extents I.whole strips.now) from to }
+    requires upwards { AreUpwards (plain_points I.whole strips.now) from to }
     ensures ordered { from ≤ result }
     ensures within { result ≤ to }
     ensures above { ArePassedBelow (plain_edge I.whole C.counts e.now) (I.whole x)
-        (plain_extents I.whole strips.now) result to }
+        (plain_points I.whole strips.now) result to }
 {
     let mut at = from;
     let mut step: usize = FIRST;
     while at < to {
-        if passes_below(e, x, strips[at].low) {
+        if passes_below(e, x, strips[at].y) {
             return at;
         }
         at = at.saturating_add(step);

@@ -4,19 +4,17 @@ ghost use Rattle.std.specs.Prelude.{◌≡◌, ◌∷◌, [], ◌+◌, ◌<◌, 
 ghost use Rattle.std.specs.Prelude.{slice_range, IfOk, OnOk};
 ghost use Rattle.overlay_geom.specs.Points.{plain_point, plain_points};
 ghost use Rattle.overlay_arrange.specs.Content.{plain_edge, plain_edges, IsHeld};
-ghost use Rattle.overlay_arrange.specs.Extents.{plain_extents, ArePointsByStrips};
-ghost use Rattle.overlay_arrange.specs.HotPoints.{points_at, AddsMet, AreHotPoints, AreLeftBefore, AreMetAmong};
-ghost use Rattle.overlay_arrange.specs.HotPoints.{ArePointsAscending, AreRanksNear, AreRightFrom, AreStripsIfAny};
+ghost use Rattle.overlay_arrange.specs.HotPoints.{AddsMet, AreHotPoints, AreLeftBefore, AreMetAmong};
+ghost use Rattle.overlay_arrange.specs.HotPoints.{ArePointsAscending, AreRightFrom, AreStripsIfAny, AreStripsOf};
 ghost use Rattle.overlay_arrange.specs.Meetings.{plain_meetings, AreByPlace};
 ghost use Rattle.overlay_arrange.specs.SnapMeetings.{AreSnapMeetings};
 
 use crate::count::EdgeCount;
-use crate::crossing::is_end_of;
 use crate::edge::CountedEdge;
-use crate::extents::{Extent, is_less};
+use crate::extents::is_less;
 use crate::meetings::Meeting;
 use crate::near::on_by;
-use crate::pixel::meets_pixel;
+use crate::pixel::meets_pixel_inside;
 use crate::pixel_runs::push_run;
 use crate::strips::{SAMPLES, points_by_strips, strip_width};
 use overlay_geom::number::IntNumber;
@@ -42,7 +40,6 @@ pub(crate) fn gather_snapped<I: IntNumber, C: EdgeCount, A: Allocator + Clone>(
     // (a quarter as wide as strips of edges)
     let width = strip_width(length_of_spans(edges, hot) / 16);
     let mut strips = Vec::new(alloc.clone()?);
-    let mut near = Vec::new(alloc.clone()?);
     let mut points = Vec::new(alloc.clone()?);
     let mut meetings = Vec::new(alloc);
     let mut low = 0;
@@ -51,16 +48,7 @@ pub(crate) fn gather_snapped<I: IntNumber, C: EdgeCount, A: Allocator + Clone>(
     for i in 0..edges.len() {
         let e = &edges[i];
         low = count_left_of(hot, e.a.x, low);
-        take_near(
-            &mut points,
-            &mut near,
-            &mut strips,
-            hot,
-            width,
-            e,
-            low,
-            spare,
-        )?;
+        take_near(&mut points, &mut strips, hot, width, e, low, spare)?;
         push_snapped(&mut meetings, i, e, &points)?;
         spare = spare_behind(spare, !strips.is_empty(), points.len());
     }
@@ -81,8 +69,7 @@ fn spare_behind(spare: usize, has_strips: bool, count: usize) -> usize {
 /// most `FEW` and `spare` of them, or those that strips find. The first `low` points lie left of the edge.
 fn take_near<I: IntNumber, C: EdgeCount, A: Allocator + Clone>(
     points: &mut Vec<IntPoint<I>, A>,
-    near: &mut Vec<usize, A>,
-    strips: &mut Vec<Extent<I>, A>,
+    strips: &mut Vec<IntPoint<I>, A>,
     hot: &[IntPoint<I>],
     width: usize,
     e: &CountedEdge<I, C>,
@@ -92,18 +79,17 @@ fn take_near<I: IntNumber, C: EdgeCount, A: Allocator + Clone>(
     requires some { 0 < width }
     requires one { IsHeld I.limit (plain_edge I.whole C.counts e.now) }
     requires ascending { ArePointsAscending (plain_points I.whole hot.now) }
-    requires strips { AreStripsIfAny (plain_points I.whole hot.now) width (plain_extents I.whole strips.old.items) }
+    requires strips { AreStripsIfAny (plain_points I.whole hot.now) width (plain_points I.whole strips.old.items) }
     requires left { AreLeftBefore (plain_points I.whole hot.now) (I.whole e.now.a.x) low }
     ensures ok { OnOk result (AreMetAmong (plain_points I.whole hot.now) (plain_edge I.whole C.counts e.now)
         (plain_points I.whole points.new.items)) }
     ensures strips { OnOk result
-        (AreStripsIfAny (plain_points I.whole hot.now) width (plain_extents I.whole strips.new.items)) }
+        (AreStripsIfAny (plain_points I.whole hot.now) width (plain_points I.whole strips.new.items)) }
 {
     let high = place_up_to(hot, e.b.x, low, spare.saturating_add(FEW));
     if goes_on(hot, e.b.x, high) {
         make_strips(strips, hot, width)?;
-        find_ranks(near, hot, width, strips, e, low)?;
-        take_points(points, hot, near)
+        take_by_strips(points, hot, width, strips, e, low)
     } else {
         take_range(points, hot, low, high)
     }
@@ -111,14 +97,14 @@ fn take_near<I: IntNumber, C: EdgeCount, A: Allocator + Clone>(
 
 /// Makes the strips of the points, unless they are made already.
 fn make_strips<I: IntNumber, A: Allocator + Clone>(
-    strips: &mut Vec<Extent<I>, A>,
+    strips: &mut Vec<IntPoint<I>, A>,
     hot: &[IntPoint<I>],
     width: usize,
 ) -> Result<(), AllocError>
     requires some { 0 < width }
-    requires strips { AreStripsIfAny (plain_points I.whole hot.now) width (plain_extents I.whole strips.old.items) }
+    requires strips { AreStripsIfAny (plain_points I.whole hot.now) width (plain_points I.whole strips.old.items) }
     ensures ok { OnOk result
-        (ArePointsByStrips (plain_points I.whole hot.now) width (plain_extents I.whole strips.new.items)) }
+        (AreStripsOf (plain_points I.whole hot.now) width (plain_points I.whole strips.new.items)) }
 {
     if strips.is_empty() {
         *strips = points_by_strips(strips.allocator().clone()?, hot, width)?;
@@ -206,48 +192,29 @@ fn goes_on<I: IntNumber>(hot: &[IntPoint<I>], x: I, rank: usize) -> bool
     rank < hot.len() && !is_less(x, hot[rank].x)
 }
 
-/// Finds the ranks of the hot points whose pixels the edge may meet: in each strip of its span, those near its line.
-/// The first `low` points lie left of the edge.
-fn find_ranks<I: IntNumber, C: EdgeCount, A: Allocator>(
-    near: &mut Vec<usize, A>,
+/// Replaces the list by points among which those stand whose pixels the edge meets: in each strip of its span, those
+/// near its line. The first `low` points lie left of the edge.
+fn take_by_strips<I: IntNumber, C: EdgeCount, A: Allocator>(
+    points: &mut Vec<IntPoint<I>, A>,
     hot: &[IntPoint<I>],
     width: usize,
-    strips: &[Extent<I>],
+    strips: &[IntPoint<I>],
     e: &CountedEdge<I, C>,
     low: usize,
 ) -> Result<(), AllocError>
     requires one { IsHeld I.limit (plain_edge I.whole C.counts e.now) }
     requires ascending { ArePointsAscending (plain_points I.whole hot.now) }
-    requires strips { ArePointsByStrips (plain_points I.whole hot.now) width (plain_extents I.whole strips.now) }
+    requires strips { AreStripsOf (plain_points I.whole hot.now) width (plain_points I.whole strips.now) }
     requires left { AreLeftBefore (plain_points I.whole hot.now) (I.whole e.now.a.x) low }
-    ensures ok { OnOk result (AreRanksNear
-        (plain_points I.whole hot.now) (plain_edge I.whole C.counts e.now) near.new.items) }
+    ensures ok { OnOk result (AreMetAmong (plain_points I.whole hot.now) (plain_edge I.whole C.counts e.now)
+        (plain_points I.whole points.new.items)) }
 {
-    near.clear();
+    points.clear();
     let mut at = low / width * width;
     while goes_on(hot, e.b.x, at) {
         let end = on_by(at, width, hot.len());
-        push_run(near, strips, e, hot[at].x, hot[end - 1].x, at, end)?;
+        push_run(points, strips, e, hot[at].x, hot[end - 1].x, at, end)?;
         at = end;
-    }
-    Ok(())
-}
-
-/// Replaces the list by the points at the ranks. These lie far apart in memory, so one loop that only reads them lets
-/// the processor fetch several at once.
-fn take_points<I: IntNumber, A: Allocator>(
-    points: &mut Vec<IntPoint<I>, A>,
-    hot: &[IntPoint<I>],
-    ranks: &[usize],
-) -> Result<(), AllocError>
-    requires { All (λ k. k < length hot.now) ranks.now }
-    ensures ok { OnOk result (plain_points I.whole points.new.items
-        ≡ points_at (plain_points I.whole hot.now) ranks.now) }
-{
-    points.clear();
-    for k in 0..ranks.len() {
-        let rank = ranks[k];
-        points.push(hot[rank])?;
     }
     Ok(())
 }
@@ -280,8 +247,10 @@ fn push_snapped<I: IntNumber, C: EdgeCount, A: Allocator>(
     ensures ok { OnOk result (AddsMet i (plain_edge I.whole C.counts e.now) (plain_points I.whole points.now)
         (plain_meetings I.whole meetings.old.items) (plain_meetings I.whole meetings.new.items)) }
 {
+    // (what is computed of the edge alone is computed once, for a copy)
+    let e = *e;
     for k in 0..points.len() {
-        push_where_met(meetings, i, e, points[k])?;
+        push_where_met(meetings, i, &e, points[k])?;
     }
     Ok(())
 }
@@ -297,7 +266,7 @@ fn push_where_met<I: IntNumber, C: EdgeCount, A: Allocator>(
     ensures ok { OnOk result (AddsMet i (plain_edge I.whole C.counts e.now) (plain_point I.whole v ∷ [])
         (plain_meetings I.whole meetings.old.items) (plain_meetings I.whole meetings.new.items)) }
 {
-    if meets_pixel(e, v) && !is_end_of(e, v) {
+    if meets_pixel_inside(e, v) {
         meetings.push(Meeting { place: i, point: v })?;
     }
     Ok(())

@@ -1,11 +1,12 @@
 //! The boxes of the edges or points of a list, in strips of neighbours, and the boxes of blocks of edges.
 
-ghost use Rattle.std.specs.Prelude.{◌≡◌, ◌<◌, ◌≤ℤ◌, List, [], ◌++◌, All, AllPairs, IfOk, OnOk};
+ghost use Rattle.std.specs.Prelude.{◌≡◌, ◌<◌, ◌≤ℤ◌, List, [], ◌++◌, length, All, AllPairs, IfOk, OnOk};
 ghost use Rattle.std.specs.List.Sorted.{IsPermutation};
 ghost use Rattle.overlay_geom.specs.Points.{plain_points};
 ghost use Rattle.overlay_arrange.specs.Content.{plain_edges, IsAscending, IsHeld};
 ghost use Rattle.overlay_arrange.specs.Extents.{extents_of, extents_of_points, plain_extents, AreBlocks, AreByHeights};
-ghost use Rattle.overlay_arrange.specs.Extents.{AreAtPlaces, AreInStrips, ArePointsByStrips};
+ghost use Rattle.overlay_arrange.specs.Extents.{AreAtPlaces, AreInStrips};
+ghost use Rattle.overlay_arrange.specs.HotPoints.{points_of, AreStripsOf};
 ghost use Rattle.overlay_arrange.specs.Strips.{AreHeldStripsOf};
 ghost use Rattle.overlay_arrange.specs.declared.extents.Extent.{Extent};
 
@@ -13,7 +14,7 @@ use crate::bundles::{Bundles, bundles_of};
 use crate::count::EdgeCount;
 use crate::edge::CountedEdge;
 use crate::extents::{Extent, extent_of, extent_of_point, joined};
-use crate::near::misses_many;
+use crate::sample::misses_many;
 use crate::spans::length_of_runs;
 use overlay_geom::number::IntNumber;
 use overlay_geom::point::IntPoint;
@@ -128,18 +129,36 @@ fn edges_by_strips<I: IntNumber, C: EdgeCount, A: Allocator + Clone>(
     by_strips(alloc, &extents, width)
 }
 
-/// Returns the boxes of the points, strip by strip, and in each strip sorted by their heights.
+/// Returns the points strip by strip, and in each strip sorted by their heights.
 pub(crate) fn points_by_strips<I: IntNumber, A: Allocator + Clone>(
     alloc: A,
     points: &[IntPoint<I>],
     width: usize,
-) -> Result<Vec<Extent<I>, A>, AllocError>
+) -> Result<Vec<IntPoint<I>, A>, AllocError>
     requires { 0 < width }
     ensures ok { IfOk result (λ sorted.
-        ArePointsByStrips (plain_points I.whole points.now) width (plain_extents I.whole sorted.items)) }
+        AreStripsOf (plain_points I.whole points.now) width (plain_points I.whole sorted.items)) }
 {
     let extents = extents_of_points(alloc.clone()?, points)?;
-    by_strips(alloc, &extents, width)
+    let sorted = by_strips(alloc.clone()?, &extents, width)?;
+    points_of(alloc, points, &sorted)
+}
+
+/// Returns the points at the places of the boxes.
+fn points_of<I: IntNumber, A: Allocator>(
+    alloc: A,
+    points: &[IntPoint<I>],
+    boxes: &[Extent<I>],
+) -> Result<Vec<IntPoint<I>, A>, AllocError>
+    requires { All (λ s. s.first < length points.now) boxes.now }
+    ensures ok { IfOk result (λ taken. plain_points I.whole taken.items
+        ≡ points_of (plain_points I.whole points.now) (plain_extents I.whole boxes.now)) }
+{
+    let mut taken = Vec::with_capacity(alloc, boxes.len())?;
+    for k in 0..boxes.len() {
+        taken.push(points[boxes[k].first])?;
+    }
+    Ok(taken)
 }
 
 /// Returns the boxes of the edges, each at its place.

@@ -1,9 +1,9 @@
 -- A bundle that begins there lies beside the edge.
 use Rattle.std.proofs.Common.{◌<◌, ◌/◌, List, All, length, refl, sym, subst, arith}
-use Rattle.overlay_arrange.specs.Bundles.{Bundle, plain_bundle, plain_bundles, BeginsBeside, IsHeldBundle}
+use Rattle.overlay_arrange.specs.Bundles.{plain_bundle, plain_bundles, BeginsBeside, IsHeldBundle}
 use Rattle.overlay_arrange.specs.Content.{plain_edge}
 use Rattle.overlay_arrange.specs.Extents.{plain_extent, plain_extents}
-use Rattle.overlay_arrange.proofs.BundlesBeside.{bundle_held, bundle_passed}
+use Rattle.overlay_arrange.proofs.BundlesBeside.{bundle_held, bundle_passed, lone_bundle}
 use Rattle.overlay_arrange.proofs.beside.count_beside_by_sizes.Goals as goal
 
 pub begins_beside-requires-clause-within : goal.begins_beside-requires-clause-within
@@ -12,12 +12,7 @@ begins_beside-requires-clause-within g c =
     let e = plain_edge whole g.C.EdgeCount.counts c.args.e.now in
     let bundles = c.args.bundles.now in
     let some = c.requires.bundles in
-    let d : Bundle = record {
-      extent = plain_extent whole c.args.of;
-      along = record { a = e.a; b = e.b };
-      left = e.a;
-      right = e.a;
-    } in
+    let d = lone_bundle e (plain_extent whole c.args.of) in
     subst (λ (xs : List _). c.args.at / 32768 < length xs) (sym c.deref.ensures.value)
     (bundle_held (plain_extent whole) (plain_bundle whole) g.I.IntNumber.limit 32768 some.0 bundles.edges.items
     bundles.of_32768.items d c.args.at some.1.permutation some.1.by_32768 c.requires.within)
@@ -47,12 +42,7 @@ begins_beside-requires-else-begins_beside-clause-within g c =
     let e = plain_edge whole g.C.EdgeCount.counts c.args.e.now in
     let bundles = c.args.bundles.now in
     let some = c.requires.bundles in
-    let d : Bundle = record {
-      extent = plain_extent whole c.args.of;
-      along = record { a = e.a; b = e.b };
-      left = e.a;
-      right = e.a;
-    } in
+    let d = lone_bundle e (plain_extent whole c.args.of) in
     subst (λ (xs : List _). c.args.at / 4096 < length xs) (sym c.deref-else-begins_beside.ensures.value)
     (bundle_held (plain_extent whole) (plain_bundle whole) g.I.IntNumber.limit 4096 some.0 bundles.edges.items
     bundles.of_4096.items d c.args.at some.1.permutation some.1.by_4096 c.requires.within)
@@ -82,12 +72,7 @@ begins_beside-requires-else-begins_beside-2-clause-within g c =
     let e = plain_edge whole g.C.EdgeCount.counts c.args.e.now in
     let bundles = c.args.bundles.now in
     let some = c.requires.bundles in
-    let d : Bundle = record {
-      extent = plain_extent whole c.args.of;
-      along = record { a = e.a; b = e.b };
-      left = e.a;
-      right = e.a;
-    } in
+    let d = lone_bundle e (plain_extent whole c.args.of) in
     subst (λ (xs : List _). c.args.at / 512 < length xs) (sym c.deref-else-begins_beside-2.ensures.value)
     (bundle_held (plain_extent whole) (plain_bundle whole) g.I.IntNumber.limit 512 some.0 bundles.edges.items
     bundles.of_512.items d c.args.at some.1.permutation some.1.by_512 c.requires.within)
@@ -118,12 +103,7 @@ begins_beside-requires-else-begins_beside-3-clause-within g c =
     let e = plain_edge whole g.C.EdgeCount.counts c.args.e.now in
     let bundles = c.args.bundles.now in
     let some = c.requires.bundles in
-    let d : Bundle = record {
-      extent = plain_extent whole c.args.of;
-      along = record { a = e.a; b = e.b };
-      left = e.a;
-      right = e.a;
-    } in
+    let d = lone_bundle e (plain_extent whole c.args.of) in
     subst (λ (xs : List _). c.args.at / 64 < length xs) (sym c.deref-else-begins_beside-3.ensures.value)
     (bundle_held (plain_extent whole) (plain_bundle whole) g.I.IntNumber.limit 64 some.0 bundles.edges.items
     bundles.of_64.items d c.args.at some.1.permutation some.1.by_64 c.requires.within)
@@ -154,12 +134,7 @@ begins_beside-requires-else-begins_beside-4-clause-within g c =
     let e = plain_edge whole g.C.EdgeCount.counts c.args.e.now in
     let bundles = c.args.bundles.now in
     let some = c.requires.bundles in
-    let d : Bundle = record {
-      extent = plain_extent whole c.args.of;
-      along = record { a = e.a; b = e.b };
-      left = e.a;
-      right = e.a;
-    } in
+    let d = lone_bundle e (plain_extent whole c.args.of) in
     subst (λ (xs : List _). c.args.at / 8 < length xs) (sym c.deref-else-begins_beside-4.ensures.value)
     (bundle_held (plain_extent whole) (plain_bundle whole) g.I.IntNumber.limit 8 some.0 bundles.edges.items
     bundles.of_8.items d c.args.at some.1.permutation some.1.by_8 c.requires.within)

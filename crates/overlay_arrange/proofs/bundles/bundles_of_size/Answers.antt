@@ -8,7 +8,7 @@ use Rattle.overlay_arrange.specs.Bundles.{Bundle, plain_bundle, plain_bundles, I
 use Rattle.overlay_arrange.specs.Content.{plain_edge, plain_edges, IsHeld}
 use Rattle.overlay_arrange.specs.Extents.{extent_of, plain_extent, plain_extents}
 use Rattle.overlay_arrange.proofs.BundleLists.{AreBundlesUpTo, all_bundles, bundle_begun, bundle_widened, last_bundle}
-use Rattle.overlay_arrange.proofs.BundleLists.{no_bundles}
+use Rattle.overlay_arrange.proofs.BundleLists.{no_bundles, own_box}
 use Rattle.overlay_arrange.proofs.GatheredMeetings.{placed_in_mapped}
 use Rattle.overlay_arrange.proofs.PlacedExtents.{place_there}
 use Rattle.overlay_arrange.proofs.bundles.bundles_of_size.Goals as goal
@@ -47,8 +47,24 @@ loop-k-init g c =
     × All (IsHeldBundle g.I.IntNumber.limit) (plain_bundles whole bs)) (sym c.new-bundles.ensures.items)
     (no_bundles c.args.size es ss c.requires.some, All-nil (IsHeldBundle g.I.IntNumber.limit))
 
-pub bundle_of-requires : goal.bundle_of-requires
-bundle_of-requires g c =
+pub bundle_of-requires-clause-own : goal.bundle_of-requires-clause-own
+bundle_of-requires-clause-own g c =
+    let whole = g.I.IntNumber.whole in
+    let edge = plain_edge whole g.C.EdgeCount.counts in
+    let es = plain_edges whole g.C.EdgeCount.counts c.args.edges.now in
+    let ss = plain_extents whole c.args.boxes.now in
+    let k = c.loop-k.k in
+    let s = plain_extent whole c.index-boxes-k.result in
+    let at_s = placed_in_mapped (plain_extent whole) c.args.boxes.now k c.index-boxes-k.result c.loop-k-test.true
+    c.index-boxes-k.is in
+    let bound : s.first < length c.args.edges.now = (let inside = place_there extent_of es ss c.requires.boxes k s
+    (λ x place. refl) at_s in let l = length-map c.args.edges.now edge in omega (arith, inside, l)) in
+    let at_e = placed_in_mapped edge c.args.edges.now s.first c.index-edges-extent.result bound
+    c.index-edges-extent.is in
+    own_box es ss c.requires.boxes k s (edge c.index-edges-extent.result) at_s at_e
+
+pub bundle_of-requires-clause-one : goal.bundle_of-requires-clause-one
+bundle_of-requires-clause-one g c =
     let whole = g.I.IntNumber.whole in
     let edge = plain_edge whole g.C.EdgeCount.counts in
     let es = plain_edges whole g.C.EdgeCount.counts c.args.edges.now in
@@ -119,6 +135,22 @@ widened-requires-clause-one g c =
     (λ x place. refl) at_s in let l = length-map c.args.edges.now edge in omega (arith, inside, l)) in
     All-mapped_at (IsHeld g.I.IntNumber.limit) edge c.args.edges.now s.first c.index-edges-extent.result bound
     c.index-edges-extent.is c.requires.held
+
+pub widened-requires-clause-own : goal.widened-requires-clause-own
+widened-requires-clause-own g c =
+    let whole = g.I.IntNumber.whole in
+    let edge = plain_edge whole g.C.EdgeCount.counts in
+    let es = plain_edges whole g.C.EdgeCount.counts c.args.edges.now in
+    let ss = plain_extents whole c.args.boxes.now in
+    let k = c.loop-k.k in
+    let s = plain_extent whole c.index-boxes-k.result in
+    let at_s = placed_in_mapped (plain_extent whole) c.args.boxes.now k c.index-boxes-k.result c.loop-k-test.true
+    c.index-boxes-k.is in
+    let bound : s.first < length c.args.edges.now = (let inside = place_there extent_of es ss c.requires.boxes k s
+    (λ x place. refl) at_s in let l = length-map c.args.edges.now edge in omega (arith, inside, l)) in
+    let at_e = placed_in_mapped edge c.args.edges.now s.first c.index-edges-extent.result bound
+    c.index-edges-extent.is in
+    own_box es ss c.requires.boxes k s (edge c.index-edges-extent.result) at_s at_e
 
 pub index_mut-requires : goal.index_mut-requires
 index_mut-requires g c =

@@ -1,10 +1,10 @@
--- The edge passes below the middle box, so it does below those from it on.
+-- The edge passes below the middle point, so it does below those from it on.
 use Rattle.std.proofs.Common.{◌+◌, ◌-◌, ◌/◌, ◌<◌, length, sym, subst, arith}
 use Rattle.std.proofs.Math.Nat.{div-add-mod}
+use Rattle.overlay_geom.specs.Points.{plain_point, plain_points}
+use Rattle.overlay_geom.specs.declared.point.IntPoint.{IntPoint}
 use Rattle.overlay_arrange.specs.Content.{plain_edge}
-use Rattle.overlay_arrange.specs.Extents.{plain_extent, plain_extents}
 use Rattle.overlay_arrange.specs.PixelRuns.{PassesBelow}
-use Rattle.overlay_arrange.specs.declared.extents.Extent.{Extent as HeldExtent}
 use Rattle.overlay_arrange.proofs.GatheredMeetings.{placed_in_mapped}
 use Rattle.overlay_arrange.proofs.HeightRuns.{below_from}
 use Rattle.overlay_arrange.proofs.pixel_runs.place_above.Goals as goal
@@ -22,7 +22,7 @@ loop-low-preserved-then-passes_below g c =
     let whole = g.I.IntNumber.whole in
     let e = plain_edge whole g.C.EdgeCount.counts c.args.e.now in
     let strips = c.args.strips.now in
-    let ss = plain_extents whole strips in
+    let ss = plain_points whole strips in
     let low = c.loop-low.low in
     let high = c.loop-low.high in
     let middle = low + (high - low) / 2 in
@@ -34,12 +34,12 @@ loop-low-preserved-then-passes_below g c =
     let inside : middle < high = omega (arith, half, less) in
     let there : middle < length strips = omega (arith, inside, up_to, within) in
     let s = c.index-strips-middle.result in
-    let at_s = placed_in_mapped (plain_extent whole) strips middle s there c.index-strips-middle.is in (
+    let at_s = placed_in_mapped (plain_point whole) strips middle s there c.index-strips-middle.is in (
       omega (arith, past),
       omega arith,
       omega (arith, inside, up_to),
-      below_from e (whole c.args.x) ss c.args.from c.args.to c.requires.upwards middle (plain_extent whole s) at_s
+      below_from e (whole c.args.x) ss c.args.from c.args.to c.requires.upwards middle (plain_point whole s) at_s
           (omega (arith, past))
-          (subst (λ (t : HeldExtent _). PassesBelow e (whole c.args.x) (whole t.low)) (sym c.index-strips-middle.is)
+          (subst (λ (t : IntPoint _). PassesBelow e (whole c.args.x) (whole t.y)) (sym c.index-strips-middle.is)
           (c.passes_below.ensures c.if-passes_below.true)),
     )

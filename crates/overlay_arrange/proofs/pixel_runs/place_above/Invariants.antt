@@ -1,7 +1,7 @@
 -- Those from the upper place on are passed below.
 use Rattle.std.proofs.Common.{◌-◌, ◌≤◌}
+use Rattle.overlay_geom.specs.Points.{plain_points}
 use Rattle.overlay_arrange.specs.Content.{plain_edge}
-use Rattle.overlay_arrange.specs.Extents.{plain_extents}
 use Rattle.overlay_arrange.specs.PixelRuns.{ArePassedBelow}
 use Rattle.overlay_arrange.proofs.pixel_runs.place_above.Given as goal
 
@@ -9,7 +9,7 @@ abbrev pub invariant-loop-low : goal.invariant-loop-low
 invariant-loop-low g l =
     let whole = g.I.IntNumber.whole in
     (l.from ≤ l.low) × (l.low ≤ l.high) × (l.high ≤ l.to)
-    × ArePassedBelow (plain_edge whole g.C.EdgeCount.counts l.e) (whole l.x) (plain_extents whole l.strips) l.high
+    × ArePassedBelow (plain_edge whole g.C.EdgeCount.counts l.e) (whole l.x) (plain_points whole l.strips) l.high
     l.to
 
 abbrev pub decreases-loop-low : goal.decreases-loop-low

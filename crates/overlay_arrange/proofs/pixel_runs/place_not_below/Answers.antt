@@ -1,10 +1,10 @@
--- The edge passes above the middle box, so it does above those up to it.
+-- The edge passes above the middle point, so it does above those up to it.
 use Rattle.std.proofs.Common.{◌+◌, ◌-◌, ◌/◌, ◌<◌, length, sym, subst, arith}
 use Rattle.std.proofs.Math.Nat.{div-add-mod}
+use Rattle.overlay_geom.specs.Points.{plain_point, plain_points}
+use Rattle.overlay_geom.specs.declared.point.IntPoint.{IntPoint}
 use Rattle.overlay_arrange.specs.Content.{plain_edge}
-use Rattle.overlay_arrange.specs.Extents.{plain_extent, plain_extents}
 use Rattle.overlay_arrange.specs.PixelRuns.{PassesAbove}
-use Rattle.overlay_arrange.specs.declared.extents.Extent.{Extent as HeldExtent}
 use Rattle.overlay_arrange.proofs.GatheredMeetings.{placed_in_mapped}
 use Rattle.overlay_arrange.proofs.HeightRuns.{above_to, none_above}
 use Rattle.overlay_arrange.proofs.pixel_runs.place_not_below.Goals as goal
@@ -15,7 +15,7 @@ loop-low-init g c = let ordered = c.requires.ordered in (
   omega (arith, ordered),
   omega arith,
   none_above (plain_edge g.I.IntNumber.whole g.C.EdgeCount.counts c.args.e.now) (g.I.IntNumber.whole c.args.x)
-      (plain_extents g.I.IntNumber.whole c.args.strips.now) c.args.from c.args.to,
+      (plain_points g.I.IntNumber.whole c.args.strips.now) c.args.from c.args.to,
 )
 
 pub loop-low-preserved-then-passes_above : goal.loop-low-preserved-then-passes_above
@@ -23,7 +23,7 @@ loop-low-preserved-then-passes_above g c =
     let whole = g.I.IntNumber.whole in
     let e = plain_edge whole g.C.EdgeCount.counts c.args.e.now in
     let strips = c.args.strips.now in
-    let ss = plain_extents whole strips in
+    let ss = plain_points whole strips in
     let low = c.loop-low.low in
     let high = c.loop-low.high in
     let middle = low + (high - low) / 2 in
@@ -35,12 +35,12 @@ loop-low-preserved-then-passes_above g c =
     let inside : middle < high = omega (arith, half, less) in
     let there : middle < length strips = omega (arith, inside, up_to, within) in
     let s = c.index-strips-middle.result in
-    let at_s = placed_in_mapped (plain_extent whole) strips middle s there c.index-strips-middle.is in (
+    let at_s = placed_in_mapped (plain_point whole) strips middle s there c.index-strips-middle.is in (
       omega (arith, past),
       omega (arith, inside),
       omega (arith, up_to),
-      above_to e (whole c.args.x) ss c.args.from c.args.to c.requires.upwards middle (plain_extent whole s) at_s
+      above_to e (whole c.args.x) ss c.args.from c.args.to c.requires.upwards middle (plain_point whole s) at_s
           (omega (arith, inside, up_to))
-          (subst (λ (t : HeldExtent _). PassesAbove e (whole c.args.x) (whole t.low)) (sym c.index-strips-middle.is)
+          (subst (λ (t : IntPoint _). PassesAbove e (whole c.args.x) (whole t.y)) (sym c.index-strips-middle.is)
           (c.passes_above.ensures c.if-passes_above.true)),
     )

@@ -1,7 +1,7 @@
 -- Those before the lower place are passed above.
 use Rattle.std.proofs.Common.{◌-◌, ◌≤◌}
+use Rattle.overlay_geom.specs.Points.{plain_points}
 use Rattle.overlay_arrange.specs.Content.{plain_edge}
-use Rattle.overlay_arrange.specs.Extents.{plain_extents}
 use Rattle.overlay_arrange.specs.PixelRuns.{ArePassedAbove}
 use Rattle.overlay_arrange.proofs.pixel_runs.place_not_below.Given as goal
 
@@ -9,7 +9,7 @@ abbrev pub invariant-loop-low : goal.invariant-loop-low
 invariant-loop-low g l =
     let whole = g.I.IntNumber.whole in
     (l.from ≤ l.low) × (l.low ≤ l.high) × (l.high ≤ l.to)
-    × ArePassedAbove (plain_edge whole g.C.EdgeCount.counts l.e) (whole l.x) (plain_extents whole l.strips) l.from
+    × ArePassedAbove (plain_edge whole g.C.EdgeCount.counts l.e) (whole l.x) (plain_points whole l.strips) l.from
     l.low
 
 abbrev pub decreases-loop-low : goal.decreases-loop-low

@@ -1,9 +1,9 @@
 -- Where the edge passes below one of them, so it does below those behind it.
 use Rattle.std.proofs.Common.{◌<◌, length, sym, subst, arith}
+use Rattle.overlay_geom.specs.Points.{plain_point, plain_points}
+use Rattle.overlay_geom.specs.declared.point.IntPoint.{IntPoint}
 use Rattle.overlay_arrange.specs.Content.{plain_edge}
-use Rattle.overlay_arrange.specs.Extents.{plain_extent, plain_extents}
 use Rattle.overlay_arrange.specs.PixelRuns.{PassesBelow}
-use Rattle.overlay_arrange.specs.declared.extents.Extent.{Extent as HeldExtent}
 use Rattle.overlay_arrange.proofs.GatheredMeetings.{placed_in_mapped}
 use Rattle.overlay_arrange.proofs.HeightRuns.{below_from}
 use Rattle.overlay_arrange.proofs.pixel_runs.place_over.Goals as goal
@@ -18,8 +18,8 @@ returns-then-passes_below-clause-above g c =
     let within = c.requires.within in
     let there : at < length strips = omega (arith, less, within) in
     let s = c.index-strips-at.result in
-    below_from e (whole c.args.x) (plain_extents whole strips) c.args.from c.args.to c.requires.upwards at
-    (plain_extent whole s) (placed_in_mapped (plain_extent whole) strips at s there c.index-strips-at.is)
+    below_from e (whole c.args.x) (plain_points whole strips) c.args.from c.args.to c.requires.upwards at
+    (plain_point whole s) (placed_in_mapped (plain_point whole) strips at s there c.index-strips-at.is)
     c.loop-at.invariant.0
-    (subst (λ (t : HeldExtent _). PassesBelow e (whole c.args.x) (whole t.low)) (sym c.index-strips-at.is)
+    (subst (λ (t : IntPoint _). PassesBelow e (whole c.args.x) (whole t.y)) (sym c.index-strips-at.is)
     (c.passes_below.ensures c.if-passes_below.true))

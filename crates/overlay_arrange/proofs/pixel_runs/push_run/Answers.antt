@@ -1,16 +1,16 @@
--- Boxes that the edge passes above or below are left out.
+-- Points that the edge passes above or below are left out.
 use Rattle.std.proofs.Common.{arith}
 use Rattle.std.proofs.lemmas.Result.{on_ok_weaker}
+use Rattle.overlay_geom.specs.Points.{plain_points}
 use Rattle.overlay_geom.proofs.PointOrder.{Decides-point_lt}
 use Rattle.overlay_arrange.specs.Content.{plain_edge}
-use Rattle.overlay_arrange.specs.Extents.{plain_extents}
 use Rattle.overlay_arrange.proofs.HeightRuns.{run_added}
 use Rattle.overlay_arrange.proofs.pixel_runs.push_run.Goals as goal
 
 pub place_above-high-requires-clause-upwards : goal.place_above-high-requires-clause-upwards
-place_above-high-requires-clause-upwards g c = λ j k s t past le less at_s at_t.
+place_above-high-requires-clause-upwards g c = λ j k v w past le less at_v at_w.
     let from = c.place_not_below-low.ensures.ordered in
-    c.requires.upwards j k s t (omega (arith, past, from)) le less at_s at_t
+    c.requires.upwards j k v w (omega (arith, past, from)) le less at_v at_w
 
 pub returns : goal.returns
 returns g c = record {
@@ -19,10 +19,11 @@ returns g c = record {
       let low = c.place_not_below-low.result in
       let high = c.place_above-high.result in
       let ends = c.x_along-first.result in
-      on_ok_weaker c.push_places.result
+      on_ok_weaker c.push_points.result
       (run_added (whole c.args.left) (whole c.args.right) (whole ends.0) (whole ends.1) e
-      (plain_extents whole c.args.strips.now) c.args.from low high c.args.to
-      c.args.near.now.items c.push_places.new.near.items ((Decides-point_lt e.a e.b).0 c.requires.one.forward).x
+      (plain_points whole c.args.strips.now) c.args.from low high c.args.to
+      (plain_points whole c.args.points.now.items)
+      (plain_points whole c.push_points.new.points.items) ((Decides-point_lt e.a e.b).0 c.requires.one.forward).x
       c.place_not_below-low.ensures.ordered c.place_above-high.ensures.within c.x_along-first.ensures.between
-      c.place_not_below-low.ensures.below c.place_above-high.ensures.above) c.push_places.ensures.ok;
+      c.place_not_below-low.ensures.below c.place_above-high.ensures.above) c.push_points.ensures.ok;
 }

@@ -1,31 +1,13 @@
 -- The points of the span are taken, or those that strips find.
-use Rattle.std.proofs.Common.{◌≤◌, ◌<◌, Contains, length, sym, ap, ◌∙◌, subst, arith}
+use Rattle.std.proofs.Common.{◌≤◌, length, sym, subst, arith}
 use Rattle.std.proofs.lemmas.List.{length-map}
 use Rattle.std.proofs.lemmas.Result.{on_ok_weaker}
 use Rattle.overlay_geom.specs.Points.{plain_point, plain_points}
 use Rattle.overlay_geom.proofs.PointOrder.{Decides-point_lt}
-use Rattle.overlay_plane.proofs.Entries.{all_of_entries}
 use Rattle.overlay_arrange.specs.Content.{plain_edge}
-use Rattle.overlay_arrange.specs.HotPoints.{points_at, AreMetAmong}
-use Rattle.overlay_arrange.proofs.GatheredPixels.{ranked_among, span_among}
+use Rattle.overlay_arrange.specs.HotPoints.{AreMetAmong}
+use Rattle.overlay_arrange.proofs.GatheredPixels.{span_among}
 use Rattle.overlay_arrange.proofs.snap.take_near.Goals as goal
-
-pub take_points-requires : goal.take_points-requires
-take_points-requires g c =
-    all_of_entries (λ k. k < length c.args.hot.now) c.deref-then-goes_on.result.now
-    (λ k at. let l = length-map c.args.hot.now (plain_point g.I.IntNumber.whole) in
-    let has = subst (λ ks. Contains ks k) c.deref-then-goes_on.ensures.value at in
-    let less = c.in_ok-find_ranks.ensures.ok.within k has in
-    omega (arith, l, less))
-
-pub returns-in_ok-find_ranks-clause-ok : goal.returns-in_ok-find_ranks-clause-ok
-returns-in_ok-find_ranks-clause-ok g c =
-    let whole = g.I.IntNumber.whole in
-    let vs = plain_points whole c.args.hot.now in
-    let e = plain_edge whole g.C.EdgeCount.counts c.args.e.now in
-    on_ok_weaker c.take_points.result
-    (λ taken. subst (AreMetAmong vs e) (sym (taken ∙ ap (points_at vs) c.deref-then-goes_on.ensures.value))
-    (ranked_among vs e c.find_ranks.new.near.items c.in_ok-find_ranks.ensures.ok)) c.take_points.ensures.ok
 
 pub returns-else-goes_on-clause-ok : goal.returns-else-goes_on-clause-ok
 returns-else-goes_on-clause-ok g c =

@@ -2,17 +2,16 @@
 use Rattle.std.proofs.Common.{◌-◌, ◌≤◌, length}
 use Rattle.overlay_geom.specs.Points.{plain_points}
 use Rattle.overlay_arrange.specs.Content.{plain_edge}
-use Rattle.overlay_arrange.specs.Extents.{plain_extents}
-use Rattle.overlay_arrange.proofs.RankSearches.{AreRanksBefore, IsStripEnd}
-use Rattle.overlay_arrange.proofs.snap.find_ranks.Given as goal
+use Rattle.overlay_arrange.proofs.StripSearches.{AreMetBefore, IsStripEnd}
+use Rattle.overlay_arrange.proofs.snap.take_by_strips.Given as goal
 
 abbrev pub invariant-loop-end : goal.invariant-loop-end
 invariant-loop-end g l =
     let whole = g.I.IntNumber.whole in
     (l.at ≤ length l.hot)
     × IsStripEnd l.width (length (plain_points whole l.hot)) l.at
-    × AreRanksBefore (plain_points whole l.hot) (plain_edge whole g.C.EdgeCount.counts l.e)
-    (plain_extents whole l.strips) l.at l.near.items
+    × AreMetBefore (plain_points whole l.hot) (plain_edge whole g.C.EdgeCount.counts l.e)
+    (plain_points whole l.strips) l.at (plain_points whole l.points.items)
 
 abbrev pub decreases-loop-end : goal.decreases-loop-end
 decreases-loop-end g l = length l.hot - l.at

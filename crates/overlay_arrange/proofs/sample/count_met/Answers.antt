@@ -2,7 +2,7 @@
 use Rattle.std.proofs.Common.{get_or, refl}
 use Rattle.overlay_geom.proofs.Mapped.{All-mapped_at}
 use Rattle.overlay_arrange.specs.Content.{plain_edge, IsHeld}
-use Rattle.overlay_arrange.proofs.near.count_met.Goals as goal
+use Rattle.overlay_arrange.proofs.sample.count_met.Goals as goal
 
 pub meet_in_ends-requires-clause-other : goal.meet_in_ends-requires-clause-other
 meet_in_ends-requires-clause-other g c = All-mapped_at (IsHeld g.I.IntNumber.limit)

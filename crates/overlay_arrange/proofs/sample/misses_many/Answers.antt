@@ -3,7 +3,7 @@ use Rattle.std.proofs.Common.{◌<◌, List, All, length, get_or, sym, subst, ar
 use Rattle.std.proofs.lemmas.List.{get_or_default, length-map}
 use Rattle.overlay_geom.proofs.Mapped.{All-mapped_at}
 use Rattle.overlay_arrange.specs.Content.{plain_edge, IsHeld}
-use Rattle.overlay_arrange.proofs.near.misses_many.Goals as goal
+use Rattle.overlay_arrange.proofs.sample.misses_many.Goals as goal
 
 pub find_near_behind-requires-clause-one : goal.find_near_behind-requires-clause-one
 find_near_behind-requires-clause-one g c = All-mapped_at (IsHeld g.I.IntNumber.limit)

@@ -1,0 +1,12 @@
+-- The places of the edges so far that share a height are taken.
+use Rattle.std.proofs.Common.{◌≤◌}
+use Rattle.overlay_arrange.specs.Content.{plain_edges}
+use Rattle.overlay_arrange.specs.Extents.{plain_extent}
+use Rattle.overlay_arrange.specs.Near.{AreNearHeights}
+use Rattle.overlay_arrange.proofs.near.take_by_heights.Given as goal
+
+abbrev pub invariant-loop-j : goal.invariant-loop-j
+invariant-loop-j g l =
+    (l.from ≤ l.j) × (l.j ≤ l.to)
+    × AreNearHeights (plain_edges g.I.IntNumber.whole g.C.EdgeCount.counts l.edges)
+    (plain_extent g.I.IntNumber.whole l.of) l.from l.j l.near.items
