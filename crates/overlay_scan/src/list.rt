@@ -30,8 +30,9 @@ pub struct LiveEdge<I, V> {
     pub value: V,
 }
 
-/// A [`Scan`] that keeps its edges in a list. A look-up is a binary search that begins where the last one ended. An
-/// ended edge stays in the list until a new edge takes its place, or until many edges have ended.
+/// A [`Scan`] that keeps its edges in a list. A look-up is a binary search that begins at an edge which ends where the
+/// asked edge starts, if one is remembered, and else where the last search ended. An ended edge stays in the list until
+/// a new edge takes its place, or until many edges have ended.
 #[derive(Drop)]
 pub struct ScanList<I: IntNumber, V: Copy, A: Allocator> {
     // the edges over the line, and some ended edges
@@ -60,6 +61,21 @@ impl<I: IntNumber, V: Copy, A: Allocator> ScanList<I, V, A> {
         let place = self.live.find(x, order);
         self.reached = Some(x);
         self.live.value_below(place)
+    }
+
+    // Looks up by an order at x, as `look_up` does. It is fast where an edge ends at the point v, near the answer.
+    fn look_up_at<F: Fn(IntLine<I>) -> Ordering>(
+        &mut self,
+        v: IntPoint<I>,
+        x: I,
+        order: &F,
+    ) -> Option<V>
+        requires { IsCallableOn I.whole (F.pre order.now) (live_of I.whole (I.whole x) self.old.live) }
+        ensures found { IsLookedUp I.whole (F.post order.now) (I.whole x) self.old.live self.new.live [] result }
+        ensures reached { self.new.reached ≡ Some x }
+    {
+        self.live.aim_at(v, x);
+        self.look_up(x, order)
     }
 
     // Inserts an entry by an order at x.
@@ -130,7 +146,7 @@ impl<I: IntNumber, V: Copy, A: Allocator> Scan<I, V> for ScanList<I, V, A> {
             requires { IsComparable I.limit (plain_line I.whole f) (plain_entry I.whole asked).edge }
             ensures { not (is_gt result) ≡ is_lower (plain_line I.whole f) (plain_entry I.whole asked).edge }
         { order_at_start(f, &asked) };
-        let found = self.look_up(x, &order);
+        let found = self.look_up_at(asked.a, x, &order);
         found.unwrap_or(default)
     }
 

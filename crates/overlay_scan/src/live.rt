@@ -8,10 +8,13 @@ ghost use Rattle.overlay_scan.specs.Lists.{plain_entry};
 ghost use Rattle.overlay_scan.specs.Scan.{IsCallableOn};
 ghost use Rattle.overlay_scan.specs.Searches.{IsBetween};
 
+use crate::ends::EndPlaces;
 use crate::list::{LiveEdge, has_ended};
-use crate::search::search;
+use crate::search::{above_live, search};
+use overlay_geom::edge_pair::is_same;
 use overlay_geom::number::IntNumber;
 use overlay_geom::path::IntLine;
+use overlay_geom::point::IntPoint;
 use std::alloc::{AllocError, Allocator};
 use std::cmp::Ordering;
 use std::marker::Model;
@@ -28,10 +31,13 @@ const SPARE: usize = 16;
 pub struct LiveEdges<I: IntNumber, V: Copy, A: Allocator> {
     // from bottom to top
     entries: Vec<LiveEdge<I, V>, A>,
-    // the expected end of the next search: the end of the last search, or the place above the last inserted edge
+    // the expected end of the next search: the end of the last search, the place above the last inserted edge, or that
+    // of an edge which ends at the point that is looked for
     guess: usize,
     // number of inserts left before the ended edges are dropped
     spare: usize,
+    // the places where edges were inserted, by their ends
+    ends: EndPlaces,
 }
 
 impl<I: IntNumber, V: Copy, A: Allocator> Model for LiveEdges<I, V, A> {
@@ -52,6 +58,17 @@ impl<I: IntNumber, V: Copy, A: Allocator> LiveEdges<I, V, A> {
             entries: Vec::new(alloc),
             guess: 0,
             spare: SPARE,
+            ends: EndPlaces::new(),
+        }
+    }
+
+    /// Lets the next search, at x, begin at an edge that ends at the point, where the place of one is remembered.
+    pub fn aim_at(&mut self, v: IntPoint<I>, x: I)
+        ensures { self.new ≡ self.old }
+    {
+        let place = self.ends.noted(v);
+        if place < self.entries.len() && is_same(self.entries[place].b, v) {
+            self.guess = above_live(&self.entries, place, x);
         }
     }
 
@@ -107,6 +124,7 @@ impl<I: IntNumber, V: Copy, A: Allocator> LiveEdges<I, V, A> {
         self.guess = place.saturating_add(1);
         if place < self.entries.len() && has_ended(&self.entries[place], x) {
             self.entries[place] = edge;
+            self.ends.note(edge.b, place);
             return Ok(());
         }
         self.insert(place, edge, x)
@@ -121,6 +139,7 @@ impl<I: IntNumber, V: Copy, A: Allocator> LiveEdges<I, V, A> {
         ensures err { OnErr result (self.new ≡ self.old) }
     {
         self.entries.insert(place, edge)?;
+        self.ends.note(edge.b, place);
         if self.spare == 0 {
             self.drop_ended(x);
         } else {

@@ -13,6 +13,9 @@ use overlay_geom::number::IntNumber;
 use overlay_geom::path::IntLine;
 use std::cmp::Ordering;
 
+// Number of ended entries below a place that are passed.
+const FEW: usize = 8;
+
 // The lowest and the highest place that a search still considers.
 #[derive(Clone, Copy)]
 struct Bounds {
@@ -162,4 +165,14 @@ fn passes<I: IntNumber, V: Copy, F: Fn(IntLine<I>) -> Ordering>(
     ensures { (o : Ordering) × F.post order.now (f.now.a ∷ f.now.b ∷ []) o × (result ≡ not (is_gt o)) }
 {
     !order([f.a, f.b]).is_gt()
+}
+
+/// Returns the place above the next live entry below a place, or a place some steps below that.
+pub fn above_live<I: IntNumber, V: Copy>(entries: &[LiveEdge<I, V>], place: usize, x: I) -> usize {
+    let mut at = place.min(entries.len());
+    let least = at.saturating_sub(FEW);
+    while at > least && has_ended(&entries[at - 1], x) {
+        at -= 1;
+    }
+    at
 }

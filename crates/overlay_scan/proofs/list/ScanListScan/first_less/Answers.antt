@@ -10,8 +10,8 @@ use Rattle.overlay_scan.proofs.Asked.{moved, value_is_below, may_compare}
 use Rattle.overlay_scan.proofs.Moving.{sweep_moved}
 use Rattle.overlay_scan.proofs.list.ScanListScan.first_less.Goals as goal
 
-pub look_up-found-requires : goal.look_up-found-requires
-look_up-found-requires g c k d lt a b at_a at_b =
+pub look_up_at-found-requires : goal.look_up_at-found-requires
+look_up_at-found-requires g c k d lt a b at_a at_b =
     let whole = g.I.IntNumber.whole in
     let limit = g.I.IntNumber.limit in
     let old = c.args.self.now in
@@ -28,27 +28,27 @@ pub returns-clause-value : goal.returns-clause-value
 returns-clause-value g c =
     let whole = g.I.IntNumber.whole in
     let old = c.args.self.now in
-    let new = c.look_up-found.new.self in
+    let new = c.look_up_at-found.new.self in
     let asked = (plain_entry whole c.live_edge-asked.result).edge in
     c.unwrap_or.ensures
     ∙ value_is_below whole g.I.IntNumber.limit c.args.x old.live new.live old.reached new.reached c.requires.state
     c.requires.moves (plain_line whole c.args.edge) c.requires.meets
     (λ line o. List (IntPoint g.row.I.Denot) × (not (is_gt o) ≡ is_lower (plain_line whole line) asked))
-    c.look_up-found.result asked (ap (λ n. n.edge) c.live_edge-asked.ensures) (λ line o answered. answered.1)
-    c.requires.asked c.look_up-found.ensures.found c.args.default
+    c.look_up_at-found.result asked (ap (λ n. n.edge) c.live_edge-asked.ensures) (λ line o answered. answered.1)
+    c.requires.asked c.look_up_at-found.ensures.found c.args.default
 
 pub returns-clause-content : goal.returns-clause-content
 returns-clause-content g c =
     let whole = g.I.IntNumber.whole in
     let old = c.args.self.now in
-    let new = c.look_up-found.new.self in
+    let new = c.look_up_at-found.new.self in
     let asked = (plain_entry whole c.live_edge-asked.result).edge in
-    moved whole c.args.x old.live old.reached c.requires.moves new.live new.reached c.look_up-found.ensures.reached
+    moved whole c.args.x old.live old.reached c.requires.moves new.live new.reached c.look_up_at-found.ensures.reached
     (λ line o. List (IntPoint g.row.I.Denot) × (not (is_gt o) ≡ is_lower (plain_line whole line) asked))
-    c.look_up-found.result c.look_up-found.ensures.found
+    c.look_up_at-found.result c.look_up_at-found.ensures.found
 
 pub returns-clause-state : goal.returns-clause-state
 returns-clause-state g c =
     let whole = g.I.IntNumber.whole in
     sweep_moved g.I.IntNumber.limit (whole c.args.x) (plain_sweep whole c.args.self.now)
-    (plain_sweep whole c.look_up-found.new.self) c.requires.state c.requires.moves (returns-clause-content g c)
+    (plain_sweep whole c.look_up_at-found.new.self) c.requires.state c.requires.moves (returns-clause-content g c)
