@@ -25,6 +25,14 @@ struct block {
     struct block *last;
 };
 
+/* What functions for 128-bit numbers of the compiler's own library take, which it has with guarded stacks: a number
+ * that they put behind their variables, and the end where it has changed. */
+uintptr_t __stack_chk_guard = 0x5bd1e995;
+
+_Noreturn void __stack_chk_fail(void) {
+    __builtin_trap();
+}
+
 extern char __heap_base;
 static struct block *top;
 static struct block *lists[LISTS];
