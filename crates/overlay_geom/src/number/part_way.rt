@@ -6,6 +6,20 @@ ghost use Rattle.std.specs.Prelude.{pos, neg_ℤ, ◌+ℤ◌, ◌-ℤ◌, ◌*�
 ghost use Rattle.overlay_geom.specs.Numbers.{Within, greatest_of_64_bits};
 ghost use Rattle.overlay_geom.specs.Rounding.{nearest};
 
+use std::num::saturating_f64_to_i64;
+
+// The least number that takes more than 64 bits.
+const LONG: u128 = 18446744073709551616;
+
+// Up to this number each whole number is a floating-point number.
+const EXACT: u64 = 9007199254740992;
+
+// By how much greater numbers are divided to come below that.
+const LOST: u64 = 2048;
+
+// How much a guessed quotient is enlarged before it is rounded down, so that whole quotients are met.
+const MARGIN: f64 = 0.0009765625;
+
 /// Returns the coordinate nearest to the point `t / d` of the way from `from` to `to`. Of two equally near coordinates
 /// it returns the greater.
 pub(crate) fn nearest_on_way(from: i64, to: i64, t: i128, d: i128) -> i64
@@ -55,10 +69,52 @@ fn times_quotient(n: u64, t: u128, d: u128) -> (u64, u128)
     ensures rest { result.1 < d }
     ensures most { result.0 ≤ n }
 {
+    if d < LONG {
+        return short_quotient(n, t as u64, d as u64);
+    }
     match u128::from(n).checked_mul(t) {
         Some(product) => ((product / d) as u64, product % d),
         None => doubled_quotient(n, t, d),
     }
+}
+
+// Returns the quotient and the remainder of `n * t` by `d`. A guess is tried before a division of 128 bits, which takes
+// longer.
+fn short_quotient(n: u64, t: u64, d: u64) -> (u64, u128)
+    requires part { t ≤ d }
+    requires divides { 0 < d }
+    ensures value { n * t ≡ result.0 * d + result.1 }
+    ensures rest { result.1 < d }
+    ensures most { result.0 ≤ n }
+{
+    let product = u128::from(n) * u128::from(t);
+    let guess = guessed_quotient(n, t, d);
+    let whole = u128::from(guess) * u128::from(d);
+    if whole <= product && product - whole < u128::from(d) {
+        return (guess, product - whole);
+    }
+    let d = u128::from(d);
+    ((product / d) as u64, product % d)
+}
+
+// Returns the quotient of `n * t` by `d` in nearly all cases, by floating-point numbers. It only serves as an estimate.
+fn guessed_quotient(n: u64, t: u64, d: u64) -> u64
+    requires { t ≤ d }
+{
+    if d < EXACT {
+        guessed_ratio(n, t, d)
+    } else {
+        guessed_ratio(n, t / LOST, d / LOST)
+    }
+}
+
+// Guesses the quotient of `n * t` by `d`, where floating-point numbers hold t and d exactly.
+fn guessed_ratio(n: u64, t: u64, d: u64) -> u64
+    requires part { t < 2 ^ 53 }
+    requires whole { d < 2 ^ 53 }
+{
+    let quotient = n.min(EXACT) as f64 * t as f64 / d as f64;
+    saturating_f64_to_i64(quotient + MARGIN).unsigned_abs()
 }
 
 // Returns the quotient and the remainder of `n * t` by `d`, computed bit by bit of `n`.
