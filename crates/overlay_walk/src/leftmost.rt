@@ -12,7 +12,7 @@ use overlay_geom::number::IntNumber;
 use std::alloc::{AllocError, Allocator};
 
 // Greatest number of edges for each step up to which their numbers are counted.
-const MOST_EDGES_A_STEP: usize = 16;
+const MOST_EDGES_A_STEP: usize = 64;
 
 /// Returns the places of the steps, sorted by the starts of their edges: by the smaller ends, and from one point by
 /// slope, highest first.

@@ -64,7 +64,11 @@ impl<'a, I: IntNumber> Starts<'a, I> {
             is_lt result ≡ comes_top_first (edge_of (slice_index_or steps j behind))
             (edge_of (slice_index_or steps k behind)) }
     {
-        compare_top_first(self.step_at(j), self.step_at(k))
+        if comes_before(stepped_edge(self.step_at(j)), stepped_edge(self.step_at(k))) {
+            Ordering::Less
+        } else {
+            Ordering::Greater
+        }
     }
 
     // Returns whether places are in the order of these starts. It takes the edge of each step once.
