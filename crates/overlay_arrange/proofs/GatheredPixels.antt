@@ -1,15 +1,14 @@
--- A loop over edges that gathers the hot points whose pixels each meets: the points that an edge adds, and those of all
--- edges.
+-- A loop over edges that gathers the hot points whose pixels each meets.
 use Rattle.std.proofs.Common.{◌≡◌, ⊎_elim, inl, inr, ℕ, ◌+◌, ◌<◌, ◌≤◌, true, ◌≤ℤ◌, List, [], ◌∷◌, ◌++◌}
-use Rattle.std.proofs.Common.{AllPairs, Contains, filter, length, get_or, slice_range, pos, sym, ap, ◌∙◌, subst, arith}
+use Rattle.std.proofs.Common.{AllPairs, Contains, filter, length, get_or, slice_range, pos, sym, ap, subst, arith}
 use Rattle.std.proofs.lemmas.Bool.{cases_lt}
-use Rattle.std.proofs.lemmas.List.{append-nil, append_assoc, get_or_default}
+use Rattle.std.proofs.lemmas.List.{get_or_default}
 use Rattle.std.proofs.lemmas.List.Elements.{All-contains, Contains-append_cases, Contains-append_left}
 use Rattle.std.proofs.lemmas.List.Elements.{Contains-append_right}
 use Rattle.std.proofs.lemmas.List.Kept.{AllPairs-cons}
 use Rattle.overlay_geom.specs.Plane.{Point}
 use Rattle.overlay_geom.specs.Edges.{CountedEdge, ends_of}
-use Rattle.overlay_geom.proofs.Entries.{Contains-cases, Contains-head, Contains-later}
+use Rattle.overlay_geom.proofs.Entries.{Contains-head, Contains-later}
 use Rattle.overlay_geom.proofs.Merging.{AllPairs-head, AllPairs-tail}
 use Rattle.overlay_geom.proofs.Signs.{linear}
 use Rattle.overlay_plane.specs.CutPoints.{comes_first}
@@ -24,7 +23,6 @@ use Rattle.overlay_arrange.specs.Meetings.{AreByPlace, IsAt, IsEndOrMet, Meeting
 use Rattle.overlay_arrange.specs.SnapMeetings.{AreSnapMeetings}
 use Rattle.overlay_arrange.proofs.GatheredMeetings.{at_or_before, one_entry}
 use Rattle.overlay_arrange.proofs.LedThrough.{from_ranged, ranged}
-use Rattle.overlay_arrange.proofs.PairMeetings.{only_entry}
 use Rattle.overlay_arrange.proofs.PassedCorners.{met_amid}
 
 -- ---- pairs of two lists
@@ -48,68 +46,6 @@ pairs_joined R (x ∷ xs) ys h k between = AllPairs-cons R x (xs ++ ys)
     (λ new. between x z (Contains-head x xs) new) (Contains-append_cases xs ys z at)))
     (pairs_joined R xs ys (AllPairs-tail R x xs h) k
     (λ a b in_a in_b. between a b (Contains-later x xs a in_a) in_b))
-
--- ---- the meetings that an edge adds
-
-module _ (i : ℕ) (e : CountedEdge) where
-  -- no points add nothing
-  pub nothing_met : (ms : List Meeting) → AddsMet i e [] ms ms
-  nothing_met ms = record {
-    more = [];
-    added = sym (append-nil ms);
-    led = λ m at. absurd (omega (arith, at.1));
-    all = λ v at. absurd (omega (arith, at.1));
-  }
-
-  -- a point whose pixel is not met but at an end adds nothing
-  pub point_passed : (v : Point) (ms : List Meeting) → (meets_pixel (ends_of e) v ≡ true → IsEndOf e v) →
-      AddsMet i e (v ∷ []) ms ms
-  point_passed v ms end = record {
-    more = [];
-    added = sym (append-nil ms);
-    led = λ m at. absurd (omega (arith, at.1));
-    all = λ w at meets. let is = only_entry v w at in
-        inl (subst (IsEndOf e) is (end (subst (λ u. meets_pixel (ends_of e) u ≡ true) (sym is) meets)));
-  }
-
-  -- one whose pixel is met is added
-  pub point_met : (v : Point) (old new : List Meeting) → meets_pixel (ends_of e) v ≡ true →
-      new ≡ old ++ record { place = i; point = v } ∷ [] → AddsMet i e (v ∷ []) old new
-  point_met v old new meets is = record {
-    more = pushed ∷ [];
-    added = is;
-    led = λ m at. let same : pushed ≡ m = ⊎_elim (λ one. one) (λ none. absurd (omega (arith, none.1)))
-        (Contains-cases pushed [] m at) in (
-          sym (ap (λ (n : Meeting). n.place) same),
-          subst (Contains (v ∷ [])) (ap (λ (n : Meeting). n.point) same) (Contains-head v []),
-          subst (λ u. meets_pixel (ends_of e) u ≡ true) (ap (λ (n : Meeting). n.point) same) meets,
-        );
-    all = λ w at meets_w. inr (subst (λ u. Contains (pushed ∷ []) (record { place = i; point = u }))
-        (only_entry v w at) (Contains-head pushed []));
-  }
-    where
-      pushed : Meeting
-      pushed = record { place = i; point = v }
-
-  -- some points are looked at, and then others
-  pub met_joined : (us vs : List Point) {old mid new : List Meeting} → AddsMet i e us old mid → AddsMet i e vs mid new →
-      AddsMet i e (us ++ vs) old new
-  met_joined us vs {old} first second = record {
-    more = first.more ++ second.more;
-    added = second.added ∙ ap (λ ms. ms ++ second.more) first.added ∙ append_assoc old first.more second.more;
-    led = λ m at. ⊎_elim
-        (λ one. let l = first.led m one in (l.0, Contains-append_left us vs m.point l.1, l.2))
-        (λ other. let l = second.led m other in (l.0, Contains-append_right us vs m.point l.1, l.2))
-        (Contains-append_cases first.more second.more m at);
-    all = λ v at meets. ⊎_elim
-        (λ one. ⊎_elim (λ end. inl end) (λ there. inr (Contains-append_left first.more second.more (met v) there))
-        (first.all v one meets))
-        (λ other. ⊎_elim (λ end. inl end) (λ there. inr (Contains-append_right first.more second.more (met v) there))
-        (second.all v other meets)) (Contains-append_cases us vs v at);
-  }
-    where
-      met : Point → Meeting
-      met v = record { place = i; point = v }
 
 -- ---- the points among which those stand whose pixels an edge meets
 

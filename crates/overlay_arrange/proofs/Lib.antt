@@ -33,6 +33,7 @@ pub mod HeldRuns
 pub mod HeldWeight
 pub mod HotLists
 pub mod HotRanks
+pub mod KeptMet
 pub mod LedThrough
 pub mod LedToEnds
 pub mod MeetingRuns
@@ -59,6 +60,7 @@ pub mod RepeatedMeetings
 pub mod RunsAlike
 pub mod RunsLoop
 pub mod RunsMerged
+pub mod SameMembers
 pub mod Searches
 pub mod SettledFronts
 pub mod SettledLists
@@ -71,6 +73,7 @@ pub mod SolverRounds
 pub mod SortedMerges
 pub mod SortedPoints
 pub mod SpanWithin
+pub mod StartsPushed
 pub mod StartsTogether
 pub mod StripOrder
 pub mod StripPoints

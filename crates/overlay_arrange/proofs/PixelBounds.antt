@@ -2,7 +2,7 @@
 -- of two differences of coordinates, and the test of the line as comparisons with them. Pixels that are met at ends
 -- alone.
 use Rattle.std.proofs.Common.{◌≡◌, ⊎_elim, inl, inr, ◌⊎◌, Bool, true, false, cond, ◌&&◌, ◌||◌, ℤ, pos}
-use Rattle.std.proofs.Common.{◌+ℤ◌, ◌-ℤ◌, ◌*ℤ◌, int_lt, int_le}
+use Rattle.std.proofs.Common.{not, ◌+ℤ◌, ◌-ℤ◌, ◌*ℤ◌, int_lt, int_le}
 use Rattle.std.proofs.Common.{refl, sym, ap, ap₂, ◌∙◌, arith}
 use Rattle.std.proofs.lemmas.Bool.{false≢true, or_cases}
 use Rattle.std.proofs.lemmas.Int.{ints}
@@ -17,6 +17,7 @@ use Rattle.overlay_plane.specs.SnapPoints.{half_girth, is_in_box, line_meets, me
 use Rattle.overlay_plane.proofs.CrossingPoints.{abs_up, abs_down}
 use Rattle.overlay_plane.proofs.Tests.{ge_from_test, lt_from_test}
 use Rattle.overlay_arrange.specs.Cut.{IsEndOf}
+use Rattle.overlay_arrange.specs.HotPoints.{meets_inside}
 
 -- ---- the bounds
 
@@ -117,3 +118,42 @@ is_end_or_not e v = by (point_eq v e.a) (point_eq v e.b) refl refl
     by false false is other = inr (λ end. ⊎_elim
         (λ a. false≢true (sym is ∙ (Decides-point_eq v e.a).1 a))
         (λ b. false≢true (sym other ∙ (Decides-point_eq v e.b).1 b)) end)
+
+-- the test of a point is told by the box, the line and the ends
+module _ (e : CountedEdge) (v : Point) where
+  abbrev is_end : Bool
+  is_end = point_eq v e.a || point_eq v e.b
+
+  or_true : (b : Bool) → (b || true) ≡ true
+  or_true true = refl
+  or_true false = refl
+
+  ends : is_end ≡ true → IsEndOf e v
+  ends is = ⊎_elim (λ a. inl ((Decides-point_eq v e.a).0 a)) (λ b. inr ((Decides-point_eq v e.b).0 b))
+      (or_cases (point_eq v e.a) (point_eq v e.b) is)
+
+  -- an end is not met inside
+  pub end_not_inside : IsEndOf e v → false ≡ meets_inside e v
+  end_not_inside end = ⊎_elim
+      (λ a. sym (ap (λ s. (s || point_eq v e.b || (is_in_box (ends_of e) v && line_meets (ends_of e) v))
+      && not (s || point_eq v e.b)) ((Decides-point_eq v e.a).1 a)))
+      (λ b. sym (ap (λ s. (s || (is_in_box (ends_of e) v && line_meets (ends_of e) v)) && not s)
+      (ap (λ s. point_eq v e.a || s) ((Decides-point_eq v e.b).1 b) ∙ or_true (point_eq v e.a)))) end
+
+  by : (q inside : Bool) → q ≡ false → inside ≡ ((q || inside) && not q)
+  by true inside is = absurd (false≢true (sym is))
+  by false true is = refl
+  by false false is = refl
+
+  not_end : (q : Bool) → q ≡ is_end → ¬ (IsEndOf e v) → q ≡ false
+  not_end true is other = absurd (other (ends (sym is)))
+  not_end false is other = refl
+
+  -- any other point is, where the box holds it and the line meets its pixel
+  pub inside_where : ¬ (IsEndOf e v) → (is_in_box (ends_of e) v && line_meets (ends_of e) v) ≡ meets_inside e v
+  inside_where other = by is_end (is_in_box (ends_of e) v && line_meets (ends_of e) v) (not_end is_end refl other)
+
+  -- and not where the box does not hold it
+  pub outside : is_in_box (ends_of e) v ≡ false → false ≡ meets_inside e v
+  outside is = ⊎_elim end_not_inside
+      (λ other. sym (ap (λ s. s && line_meets (ends_of e) v) is) ∙ inside_where other) (is_end_or_not e v)

@@ -1,8 +1,8 @@
 -- A search of boxes for those that do not lie apart from a box: its begin, some boxes passed over, and places that are
 -- added; and the places of edges that share a height with it.
-use Rattle.std.proofs.Common.{◌≡◌, ◌⊎◌, ⊎_elim, inl, inr, ℕ, ◌+◌, ◌<◌, ◌≤◌, List, [], ◌∷◌, ◌++◌, Contains}
-use Rattle.std.proofs.Common.{sym, subst, arith}
-use Rattle.std.proofs.lemmas.Bool.{cases_lt}
+use Rattle.std.proofs.Common.{◌≡◌, ◌↔◌, ◌⊎◌, ⊎_elim, inl, inr, ℕ, ◌+◌, ◌<◌, ◌≤◌, List, [], ◌∷◌, ◌++◌, Contains}
+use Rattle.std.proofs.Common.{Bool, true, false, IsTrue, refl, sym, subst, arith}
+use Rattle.std.proofs.lemmas.Bool.{cases_lt, false≢true}
 use Rattle.std.proofs.lemmas.List.Elements.{Contains-append_left, Contains-push, Contains-push_cases}
 use Rattle.std.proofs.Math.Nat.{eq-or-lt_of_le}
 use Rattle.overlay_geom.specs.Edges.{CountedEdge}
@@ -86,6 +86,14 @@ module _ (ss : List Extent) (s : Extent) (from : ℕ) (old : List ℕ) where
           at_u (inr (Contains-push js t.first)) (λ before. ⊎_elim (λ apart. inl apart)
           (λ has. inr (Contains-append_left js (t.first ∷ []) u.first has)) (added.all l u past before at_u));
     }
+
+    -- a test says which of these it is
+    pub added_put : (apart : Bool) (new : List ℕ) → (IsTrue apart ↔ IsApart s t) → (apart ≡ true → new ≡ js) →
+        (apart ≡ false → new ≡ js ++ t.first ∷ []) → AreNearAdded ss s from (k + 1) old new
+    added_put true new is passed put = subst (AreNearAdded ss s from (k + 1) old) (sym (passed refl))
+        (added_apart (is.0 refl))
+    added_put false new is passed put = subst (AreNearAdded ss s from (k + 1) old) (sym (put refl))
+        (added_near (λ apart. false≢true (is.1 apart)))
 
 -- the places of edges that share a height
 module _ (es : List CountedEdge) (s : Extent) (from : ℕ) where

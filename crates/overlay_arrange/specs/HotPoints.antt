@@ -1,9 +1,10 @@
 -- The hot points of a list of edges in their order, and a search for those whose pixels an edge meets.
-use Rattle.std.specs.Prelude.{◌≡◌, ◌⊎◌, ℕ, ◌/◌, ◌<◌, ◌≤◌, true, ℤ, pos, ◌<ℤ◌, ◌≤ℤ◌, List, [], ◌++◌, map, length}
-use Rattle.std.specs.Prelude.{slice_index_or, AllPairs, Contains}
-use Rattle.overlay_geom.specs.Plane.{Point, point_lt}
+use Rattle.std.specs.Prelude.{◌≡◌, ◌⊎◌, ℕ, ◌/◌, ◌<◌, ◌≤◌, Bool, true, ℤ, pos, ◌<ℤ◌, ◌≤ℤ◌, List, [], ◌++◌, map, length}
+use Rattle.std.specs.Prelude.{slice_index_or, AllPairs, Contains, not, ◌&&◌, ◌||◌}
+use Rattle.overlay_geom.specs.Plane.{Point, point_eq, point_lt}
 use Rattle.overlay_geom.specs.Edges.{CountedEdge, ends_of}
 use Rattle.overlay_plane.specs.SnapPoints.{hot_points, meets_pixel}
+use Rattle.overlay_arrange.specs.Cut.{IsEndOf}
 use Rattle.overlay_arrange.specs.Extents.{Extent}
 use Rattle.overlay_arrange.specs.Meetings.{Meeting, IsAt, IsEndOrMet}
 
@@ -54,6 +55,19 @@ pub record AreMetAmong (vs : List Point) (e : CountedEdge) (us : List Point) : T
   pub all : (v : Point) → Contains vs v → meets_pixel (ends_of e) v ≡ true → Contains us v
 
 -- ---- gathering
+
+-- e meets the pixel of v, which is no end of e
+abbrev pub meets_inside : CountedEdge → Point → Bool
+meets_inside e v = meets_pixel (ends_of e) v && not (point_eq v e.a || point_eq v e.b)
+
+-- us are points of vs alone whose pixels the edge e meets: all of them, but perhaps its own ends
+pub record AreMetInside (e : CountedEdge) (vs us : List Point) : Type 0 where
+  pub within : (v : Point) → Contains us v → Contains vs v × (meets_pixel (ends_of e) v ≡ true)
+  pub all : (v : Point) → Contains vs v → meets_pixel (ends_of e) v ≡ true → IsEndOf e v ⊎ Contains us v
+
+-- the points as meetings of the edge at place i
+abbrev pub meetings_at : ℕ → List Point → List Meeting
+meetings_at i vs = map (λ (v : Point). record { place = i; point = v }) vs
 
 -- the points whose pixels the edge e at place i meets are added as its meetings; its own ends may be left out
 pub record AddsMet (i : ℕ) (e : CountedEdge) (vs : List Point) (old new : List Meeting) : Type 0 where

@@ -1,5 +1,5 @@
 -- The edges of a list in the order of a sweep, and the entries that the sweep holds.
-use Rattle.std.specs.Prelude.{◌≡◌, ℕ, ◌+◌, false, ℤ, pos, List, map, AllPairs, slice_index_or}
+use Rattle.std.specs.Prelude.{◌≡◌, ℕ, ◌+◌, Bool, false, ℤ, pos, List, map, AllPairs, slice_index_or}
 use Rattle.std.specs.List.Sorted.{IsPermutation}
 use Rattle.overlay_geom.specs.Counts.{Counts}
 use Rattle.overlay_geom.specs.Edges.{CountedEdge, ends_of, subj_of, clip_of, winding_below, winding_above}
@@ -26,6 +26,11 @@ edge_at es k = slice_index_or es k no_edge
 
 abbrev pub edges_at : List CountedEdge → List ℕ → List CountedEdge
 edges_at es places = map (edge_at es) places
+
+-- the edge at a place starts before that at another, where an edge stands for places behind all
+abbrev pub starts_before_at : List CountedEdge → CountedEdge → ℕ → ℕ → Bool
+starts_before_at es behind j k =
+    is_anchored_before (ends_of (slice_index_or es j behind)) (ends_of (slice_index_or es k behind))
 
 -- those of a list of edges, as counted edges
 abbrev pub plain_starts : {I C : Type 0} → (I → ℤ) → (C → Counts) → List (HeldEdge I C) → List ℕ →

@@ -28,7 +28,7 @@ use crate::content::Content;
 use crate::count::EdgeCount;
 use crate::crossing::is_end_of;
 use crate::edge::{CountedEdge, compare_points};
-use crate::meetings::{Meeting, gather, run_at};
+use crate::meetings::{Meeting, gather, run_at, sort_meetings};
 use crate::strips::strips_of;
 use crate::whole::are_whole;
 use overlay_geom::error::OverlayError;
@@ -62,18 +62,17 @@ impl<I: IntNumber, C: EdgeCount, A: Allocator> Content<I, C, A> {
     }
 
     /// Cuts the edges at the given meetings, and answers as `cut` does, with the edges before the cut. The meetings are
-    /// those of the edges, sorted by their places. They are dropped.
+    /// those of the edges. They are dropped.
     #[tactic(auto, using(crate::proofs::ReachedStores::never_written))]
     pub(crate) fn cut_at(
         &mut self,
-        meetings: Vec<Meeting<I>, A>,
+        mut meetings: Vec<Meeting<I>, A>,
         store: &mut C::Store,
     ) -> Result<(bool, Self), OverlayError>
     where
         A: Clone,
         requires ascending { IsAscending (edges_in self.old) }
         requires meetings { AreMeetings (edges_in self.old) (plain_meetings I.whole meetings.items) }
-        requires order { AreByPlace (plain_meetings I.whole meetings.items) }
         ensures ok { OnOk result (edges_in self.new ≡ cut_edges (edges_in self.old)) }
         ensures carried { OnOk result (AreCutAlong C.splits C.reverses
             (computed_chain (edges_in self.old)) self.old self.new) }
@@ -85,6 +84,7 @@ impl<I: IntNumber, C: EdgeCount, A: Allocator> Content<I, C, A> {
         ensures only { IfErr result (λ e. (e ≡ OverlayError.Memory) ⊎ (e ≡ OverlayError.TooManyEdges)) }
     {
         let is_whole = are_whole(self.edges(), &meetings);
+        sort_meetings(&mut meetings, self.edges())?;
         let alloc = self.allocator().clone()?;
         let pieces = cut_edges(alloc, self.edges(), &meetings, store)?;
         let before = mem::replace(self, pieces);

@@ -4,7 +4,6 @@ ghost use Rattle.std.specs.Prelude.{◌≡◌, ◌↔◌, int_lt, cond, IsTrue};
 ghost use Rattle.overlay_geom.specs.Points.{plain_point};
 ghost use Rattle.overlay_arrange.specs.Content.{plain_edge};
 ghost use Rattle.overlay_arrange.specs.Extents.{extent_of, extent_of_point, plain_extent, Encloses, IsApart};
-ghost use Rattle.overlay_arrange.specs.Extents.{ShareNoHeight};
 
 use crate::count::EdgeCount;
 use crate::edge::CountedEdge;
@@ -72,14 +71,7 @@ pub(crate) fn joined<I: IntNumber>(s: Extent<I>, t: Extent<I>) -> Extent<I>
 pub(crate) fn is_apart<I: IntNumber>(s: Extent<I>, t: Extent<I>) -> bool
     ensures { IsTrue result ↔ IsApart (plain_extent I.whole s) (plain_extent I.whole t) }
 {
-    is_less(s.high, t.low) || is_less(t.high, s.low) || s.last < t.first || t.last < s.first
-}
-
-/// Returns whether the boxes share no height.
-pub(crate) fn share_no_height<I: IntNumber>(s: Extent<I>, t: Extent<I>) -> bool
-    ensures { IsTrue result ↔ ShareNoHeight (plain_extent I.whole s) (plain_extent I.whole t) }
-{
-    is_less(s.high, t.low) || is_less(t.high, s.low)
+    is_less(s.high, t.low) | is_less(t.high, s.low) | (s.last < t.first) | (t.last < s.first)
 }
 
 /// Returns whether s lies wholly below t.

@@ -169,12 +169,12 @@ fn with_fills<I: IntNumber, C: EdgeCount, A: Allocator>(
 {
     let mut filled = Vec::with_capacity(alloc, edges.len())?;
     for i in 0..edges.len() {
-        filled.push(DataVectorEdge {
+        filled.push_reserved(DataVectorEdge {
             a: edges[i].a,
             b: edges[i].b,
             fill: fills[i],
             edge_data: edges[i].count,
-        })?;
+        });
     }
     Ok(filled)
 }

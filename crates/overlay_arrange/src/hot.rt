@@ -1,6 +1,6 @@
 //! The hot points of a list of edges: their ends, and the whole points nearest to their meeting points.
 
-ghost use Rattle.std.specs.Prelude.{◌≡◌, ◌++◌, map, IfOk, OnOk};
+ghost use Rattle.std.specs.Prelude.{◌≡◌, [], ◌∷◌, ◌++◌, map, IfOk, OnOk};
 ghost use Rattle.std.specs.List.Sorted.{IsPermutation, IsSorted};
 ghost use Rattle.overlay_geom.specs.Points.{plain_point, plain_points};
 ghost use Rattle.overlay_geom.specs.Resolved.{point_cmp};
@@ -66,16 +66,32 @@ fn push_ends<I: IntNumber, C: EdgeCount, A: Allocator>(
     Ok(())
 }
 
-/// Adds the points of the meetings.
+/// Adds the points of the meetings. Edges that cross give a point twice, one meeting after the other, and once is
+/// enough.
 fn push_points<I: IntNumber, A: Allocator>(
     points: &mut Vec<IntPoint<I>, A>,
     meetings: &[Meeting<I>],
 ) -> Result<(), AllocError>
-    ensures ok { OnOk result (plain_points I.whole points.new.items ≡ plain_points I.whole points.old.items
-        ++ map (λ m. m.point) (plain_meetings I.whole meetings.now)) }
+    ensures ok { OnOk result (HaveSameMembers (plain_points I.whole points.old.items
+        ++ map (λ m. m.point) (plain_meetings I.whole meetings.now)) (plain_points I.whole points.new.items)) }
 {
     for i in 0..meetings.len() {
-        points.push(meetings[i].point)?;
+        push_once(points, meetings[i].point)?;
+    }
+    Ok(())
+}
+
+/// Adds the point, unless it is the last one already.
+fn push_once<I: IntNumber, A: Allocator>(
+    points: &mut Vec<IntPoint<I>, A>,
+    v: IntPoint<I>,
+) -> Result<(), AllocError>
+    ensures ok { OnOk result (HaveSameMembers
+        (plain_points I.whole points.old.items ++ plain_point I.whole v ∷ []) (plain_points I.whole points.new.items)) }
+{
+    let count = points.len();
+    if count == 0 || !is_same(points[count - 1], v) {
+        points.push(v)?;
     }
     Ok(())
 }

@@ -9,6 +9,7 @@ mod changed;
 pub mod content;
 pub mod count;
 mod counted_end;
+mod course;
 mod crossing;
 mod cut;
 pub mod data;

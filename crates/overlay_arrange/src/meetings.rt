@@ -31,10 +31,10 @@ pub(crate) struct Meeting<I> {
     pub point: IntPoint<I>,
 }
 
-/// Returns the whole points through which the edges lead each other, sorted by the places of their edges, and marks of
-/// open edges. Two edges that are not open meet in ends alone. An edge's own ends may be missing, since they change
-/// nothing. The edges ascend, and those before the place `from` meet each later edge in ends alone. Where the changed
-/// edges are known, pairs of unchanged edges are not tested.
+/// Returns the whole points through which the edges lead each other, in no order, and marks of open edges. Two edges
+/// that are not open meet in ends alone. An edge's own ends may be missing, since they change nothing. The edges
+/// ascend, and those before the place `from` meet each later edge in ends alone. Where the changed edges are known,
+/// pairs of unchanged edges are not tested.
 pub(crate) fn gather<I: IntNumber, C: EdgeCount, A: Allocator + Clone>(
     alloc: A,
     edges: &[CountedEdge<I, C>],
@@ -50,7 +50,6 @@ pub(crate) fn gather<I: IntNumber, C: EdgeCount, A: Allocator + Clone>(
     requires settled { AreSettledBefore (plain_edges I.whole C.counts edges.now) from }
     ensures ok { IfOk result (λ gathered. AreMeetings
         (plain_edges I.whole C.counts edges.now) (plain_meetings I.whole gathered.0.items)) }
-    ensures order { IfOk result (λ gathered. AreByPlace (plain_meetings I.whole gathered.0.items)) }
     ensures open { IfOk result (λ gathered. AreOpenIn (plain_edges I.whole C.counts edges.now) gathered.1.items) }
 {
     let mut near = Vec::new(alloc.clone()?);
@@ -63,7 +62,6 @@ pub(crate) fn gather<I: IntNumber, C: EdgeCount, A: Allocator + Clone>(
         gather_from(&mut meetings, &mut is_open, edges, i, &near)?;
         most = drop_repeats_from(&mut meetings, most)?;
     }
-    sort_by_place(&mut meetings, edges.len())?;
     Ok((meetings, is_open))
 }
 
@@ -109,6 +107,19 @@ fn mark_open<A: Allocator>(is_open: &mut Vec<bool, A>, i: usize, j: usize)
 {
     is_open[i] = true;
     is_open[j] = true;
+}
+
+/// Sorts the meetings of the edges by their places.
+pub(crate) fn sort_meetings<I: IntNumber, C: EdgeCount, A: Allocator + Clone>(
+    meetings: &mut Vec<Meeting<I>, A>,
+    edges: &[CountedEdge<I, C>],
+) -> Result<(), AllocError>
+    requires { AreMeetings (plain_edges I.whole C.counts edges.now) (plain_meetings I.whole meetings.old.items) }
+    ensures meetings { AreMeetings (plain_edges I.whole C.counts edges.now)
+        (plain_meetings I.whole meetings.new.items) }
+    ensures order { OnOk result (AreByPlace (plain_meetings I.whole meetings.new.items)) }
+{
+    sort_by_place(meetings, edges.len())
 }
 
 /// Sorts the meetings by their places. It is fast if these are below `count`.

@@ -1,24 +1,26 @@
 //! The later edges of a list that an edge may meet.
 
-ghost use Rattle.std.specs.Prelude.{◌≡◌, ◌⊎◌, ◌+◌, ◌≤◌, ◌<◌, ◌/◌, [], All, length, IsTrue, OnOk};
+ghost use Rattle.std.specs.Prelude.{◌≡◌, ◌↔◌, ◌⊎◌, ◌+◌, ◌-◌, ◌≤◌, ◌<◌, ◌<ℤ◌, ◌/◌, ◌++◌, ◌∷◌, []};
+ghost use Rattle.std.specs.Prelude.{true, false, take, All, length, IsTrue, OnOk};
 ghost use Rattle.overlay_arrange.specs.Content.{plain_edge, plain_edges, IsAscending, IsHeld};
-ghost use Rattle.overlay_arrange.specs.Extents.{plain_extent, plain_extents, AreByHeights, AreInBlocks};
-ghost use Rattle.overlay_arrange.specs.Extents.{AreInStrips};
+ghost use Rattle.overlay_arrange.specs.Extents.{extent_of, plain_extent, plain_extents, AreByHeights, AreInBlocks};
+ghost use Rattle.overlay_arrange.specs.Extents.{AreInStrips, ShareNoHeight};
 ghost use Rattle.overlay_arrange.specs.Strips.{AreHeldStripsOf};
-ghost use Rattle.overlay_arrange.specs.Near.{run_of, AreApartFrom, AreNearAdded, AreNearBehind, AreNearHeights};
+ghost use Rattle.overlay_arrange.specs.Meetings.{IsAt};
+ghost use Rattle.overlay_arrange.specs.Near.{run_of, AreApartFrom, AreNearAdded, AreNearBehind};
 ghost use Rattle.overlay_arrange.specs.Near.{BeginsApart, IsSearchedTo};
 
 use crate::beside::find_in_bundles;
 use crate::count::EdgeCount;
 use crate::edge::CountedEdge;
-use crate::extents::{Extent, extent_of, is_apart, is_under, share_no_height};
-use crate::spans::run_end;
+use crate::extents::{Extent, extent_of, is_apart, is_less, is_under};
+use crate::spans::{place_right_of, run_end};
 use crate::strips::Strips;
 use overlay_geom::number::IntNumber;
 use std::alloc::{AllocError, Allocator};
 
-// Length of a run from which on it is searched by blocks or bundles; of a shorter run each edge is tested.
-const FEW: usize = 64;
+// Greatest number of edges that are tested one by one. Where there may be more, blocks or bundles are searched.
+const FEW: usize = 112;
 // Number of boxes that are tested one by one at a time.
 const BLOCK: usize = 8;
 
@@ -40,10 +42,14 @@ pub(crate) fn find_near_behind<I: IntNumber, C: EdgeCount, A: Allocator>(
     ensures ok { OnOk result (AreNearBehind (plain_edges I.whole C.counts edges.now) (plain_edge I.whole C.counts e.now)
         from near.new.items) }
 {
-    let end = run_end(edges, e.b.x, from);
     near.clear();
-    if end - from < FEW {
-        take_by_heights(near, edges, extent_of(e, from), from, end)
+    let to = place_right_of(edges, from, e.b.x);
+    if to - from <= FEW {
+        return take_by_heights(near, edges, e, from, to);
+    }
+    let end = run_end(edges, e.b.x, from);
+    if end == from {
+        Ok(())
     } else if let Some(bundles) = &strips.bundles {
         find_in_bundles(near, bundles, e, run_of(e, from, end))
     } else {
@@ -51,26 +57,59 @@ pub(crate) fn find_near_behind<I: IntNumber, C: EdgeCount, A: Allocator>(
     }
 }
 
-/// Takes the places from `from` up to `to` of the edges that share a height with `of`.
+/// Takes the places from `from` on of the edges that start up to the right end of e and share a height with it. No
+/// such edge stands from `to` on.
 fn take_by_heights<I: IntNumber, C: EdgeCount, A: Allocator>(
     near: &mut Vec<usize, A>,
     edges: &[CountedEdge<I, C>],
-    of: Extent<I>,
+    e: &CountedEdge<I, C>,
     from: usize,
     to: usize,
 ) -> Result<(), AllocError>
+    requires held { All (IsHeld I.limit) (plain_edges I.whole C.counts edges.now) }
+    requires ascending { IsAscending (plain_edges I.whole C.counts edges.now) }
+    requires one { IsHeld I.limit (plain_edge I.whole C.counts e.now) }
     requires empty { near.old.items ≡ [] }
     requires ordered { from ≤ to }
     requires within { to ≤ length edges.now }
-    ensures ok { OnOk result (AreNearHeights (plain_edges I.whole C.counts edges.now) (plain_extent I.whole of)
-        from to near.new.items) }
+    requires right { (f : _) → IsAt (plain_edges I.whole C.counts edges.now) to f
+        → I.whole e.now.b.x <ℤ f.a.x }
+    ensures ok { OnOk result (AreNearBehind (plain_edges I.whole C.counts edges.now) (plain_edge I.whole C.counts e.now)
+        from near.new.items) }
 {
-    for j in from..to {
-        if !share_no_height(of, extent_of(&edges[j], j)) {
+    let of = extent_of(e, from);
+    let right = e.b.x;
+    let mut j = from;
+    while j < to && !is_less(right, edges[j].a.x) {
+        if !misses_heights(of, &edges[j]) {
             near.push(j)?;
         }
+        j += 1;
     }
     Ok(())
+}
+
+/// Returns whether both ends of the edge lie below or above the heights of `of`. It does not order the ends first.
+fn misses_heights<I: IntNumber, C: EdgeCount>(of: Extent<I>, e: &CountedEdge<I, C>) -> bool
+    ensures { IsTrue result ↔ ShareNoHeight (plain_extent I.whole of)
+        (extent_of (plain_edge I.whole C.counts e.now) 0) }
+{
+    is_less(e.a.y, of.low) && is_less(e.b.y, of.low)
+        || is_less(of.high, e.a.y) && is_less(of.high, e.b.y)
+}
+
+/// Puts a place behind the first `count` places. Returns the number of places in front: it counts the new place too,
+/// unless the test holds.
+#[inline(always)]
+fn put_unless(test: bool, near: &mut [usize], count: usize, place: usize) -> usize
+    requires { count < length near.old }
+    ensures length { length near.new ≡ length near.old }
+    ensures most { result ≤ count + 1 }
+    ensures passed { test ≡ true → take result near.new ≡ take count near.old }
+    ensures put { test ≡ false → take result near.new ≡ take count near.old ++ place ∷ [] }
+{
+    near[count] = place;
+    if test { count } else { count + 1 }
 }
 
 /// Finds the places of the edges whose boxes do not lie apart from `of`. They are in the strips of its places.
@@ -204,13 +243,39 @@ pub(crate) fn push_near<I: IntNumber, A: Allocator>(
     ensures ok { OnOk result (AreNearAdded (plain_extents I.whole extents.now) (plain_extent I.whole of)
         from to near.old.items near.new.items) }
 {
+    let old = near.len();
+    near.resize(old.saturating_add(to - from), 0)?;
+    if near.len() - old < to - from {
+        return Err(AllocError);
+    }
+    let count = put_near(near, old, of, extents, from, to);
+    near.truncate(count);
+    Ok(())
+}
+
+/// Puts the places of the boxes from `from` up to `to` that do not lie apart from `of` behind the first `old` places.
+/// Returns the number of all. It has no branch for each test, since that would go wrong often.
+#[inline(always)]
+fn put_near<I: IntNumber>(
+    near: &mut [usize],
+    old: usize,
+    of: Extent<I>,
+    extents: &[Extent<I>],
+    from: usize,
+    to: usize,
+) -> usize
+    requires room { old + (to - from) ≤ length near.old }
+    requires ordered { from ≤ to }
+    requires within { to ≤ length extents.now }
+    ensures { AreNearAdded (plain_extents I.whole extents.now) (plain_extent I.whole of)
+        from to (take old near.old) (take result near.new) }
+{
+    let mut count = old;
     for k in from..to {
         let extent = extents[k];
-        if !is_apart(of, extent) {
-            near.push(extent.first)?;
-        }
+        count = put_unless(is_apart(of, extent), near, count, extent.first);
     }
-    Ok(())
+    count
 }
 
 /// Returns the box of the edge's heights, and of the places from `from` to the end of a run.

@@ -1,12 +1,12 @@
 //! Test whether an edge meets the pixel of a whole point between its ends: whether some point of the edge rounds to it.
 
-ghost use Rattle.std.specs.Prelude.{◌≡◌, ◌↔◌, true, IsTrue, pos, ◌*ℤ◌, ◌-ℤ◌, int_le, cond, ◌&&◌};
+ghost use Rattle.std.specs.Prelude.{◌≡◌, pos, ◌*ℤ◌, ◌-ℤ◌, int_le, cond, ◌&&◌};
 ghost use Rattle.std.specs.Ordering.{int_cmp, is_lt, is_le, is_gt, is_ge};
 ghost use Rattle.overlay_geom.specs.Edges.{ends_of};
 ghost use Rattle.overlay_geom.specs.Points.{plain_point, InRange};
-ghost use Rattle.overlay_plane.specs.SnapPoints.{half_girth, is_amid, is_in_box, line_meets, meets_pixel};
+ghost use Rattle.overlay_plane.specs.SnapPoints.{half_girth, is_amid, is_in_box, line_meets};
 ghost use Rattle.overlay_arrange.specs.Content.{plain_edge, IsHeld};
-ghost use Rattle.overlay_arrange.specs.Cut.{IsEndOf};
+ghost use Rattle.overlay_arrange.specs.HotPoints.{meets_inside};
 
 use crate::count::EdgeCount;
 use crate::crossing::is_end_of;
@@ -23,11 +23,9 @@ pub(crate) fn meets_pixel_inside<I: IntNumber, C: EdgeCount>(
     v: IntPoint<I>,
 ) -> bool
     requires { IsHeld I.limit (plain_edge I.whole C.counts e.now) }
-    ensures { let whole = plain_edge I.whole C.counts e.now in
-        IsTrue result ↔ (meets_pixel (ends_of whole) (plain_point I.whole v) ≡ true)
-        × ¬ (IsEndOf whole (plain_point I.whole v)) }
+    ensures { result ≡ meets_inside (plain_edge I.whole C.counts e.now) (plain_point I.whole v) }
 {
-    is_in_box(e, v) && line_meets(e, v) && !is_end_of(e, v)
+    is_in_box(e, v) && (!is_end_of(e, v) && line_meets(e, v))
 }
 
 /// Returns whether the point lies in the bounding box of the edge.
@@ -70,9 +68,9 @@ fn is_between(wide: bool, rises: bool, low: Ordering, high: Ordering) -> bool
         (is_gt low && cond rises (is_lt high) (is_le high)) (is_ge low && is_lt high) }
 {
     if wide {
-        low.is_gt() && is_inside(rises, high)
+        low.is_gt() & is_inside(rises, high)
     } else {
-        low.is_ge() && high.is_lt()
+        low.is_ge() & high.is_lt()
     }
 }
 

@@ -11,6 +11,7 @@ ghost use Rattle.overlay_arrange.specs.PixelRuns.{AddsPoints, AddsRun, ArePassed
 ghost use Rattle.overlay_arrange.specs.PixelRuns.{is_far_above, is_far_below, IsAmidX, PassesAbove, PassesBelow};
 
 use crate::count::EdgeCount;
+use crate::course::Course;
 use crate::edge::CountedEdge;
 use crate::extents::is_less;
 use crate::pixel::{order_to_high, order_to_low};
@@ -29,6 +30,7 @@ pub(crate) fn push_run<I: IntNumber, C: EdgeCount, A: Allocator>(
     points: &mut Vec<IntPoint<I>, A>,
     strips: &[IntPoint<I>],
     e: &CountedEdge<I, C>,
+    course: &Course<I>,
     left: I,
     right: I,
     from: usize,
@@ -43,8 +45,8 @@ pub(crate) fn push_run<I: IntNumber, C: EdgeCount, A: Allocator>(
         (plain_points I.whole points.old.items) (plain_points I.whole points.new.items)) }
 {
     let (first, last) = x_along(e, left, right);
-    let low = place_not_below(strips, e, first, from, to);
-    let high = place_above(strips, e, last, low, to);
+    let low = run_start(strips, e, course, first, from, to);
+    let high = run_end(strips, e, course, last, low, to);
     push_points(points, strips, low, high, is_less(e.b.y, e.a.y))
 }
 
@@ -138,6 +140,107 @@ fn x_within<I: IntNumber, C: EdgeCount>(e: &CountedEdge<I, C>, x: I) -> I
     } else {
         x
     }
+}
+
+/// Returns a place as [`place_not_below`] does: the guessed place, if it is right.
+fn run_start<I: IntNumber, C: EdgeCount>(
+    strips: &[IntPoint<I>],
+    e: &CountedEdge<I, C>,
+    course: &Course<I>,
+    x: I,
+    from: usize,
+    to: usize,
+) -> usize
+    requires one { IsHeld I.limit (plain_edge I.whole C.counts e.now) }
+    requires amid { IsAmidX (plain_edge I.whole C.counts e.now) (I.whole x) }
+    requires ordered { from ≤ to }
+    requires within { to ≤ length strips.now }
+    requires upwards { AreUpwards (plain_points I.whole strips.now) from to }
+    ensures ordered { from ≤ result }
+    ensures within { result ≤ to }
+    ensures below { ArePassedAbove (plain_edge I.whole C.counts e.now) (I.whole x)
+        (plain_points I.whole strips.now) from result }
+{
+    let guess = guessed_start(strips, course, x, from, to);
+    if guess == from || passes_above(e, x, strips[guess - 1].y) {
+        guess
+    } else {
+        place_not_below(strips, e, x, from, to)
+    }
+}
+
+/// Returns roughly the place up to which the points of a strip lie below the edge at x.
+fn guessed_start<I: IntNumber>(
+    strips: &[IntPoint<I>],
+    course: &Course<I>,
+    x: I,
+    from: usize,
+    to: usize,
+) -> usize
+    requires ordered { from ≤ to }
+    requires within { to ≤ length strips.now }
+    ensures ordered { from ≤ result }
+    ensures within { result ≤ to }
+{
+    if from == to {
+        return from;
+    }
+    let floor = strips[from].y;
+    let least = course.least_at(x, floor);
+    from + strips[from..to].partition_point(|v| v.y.distance(floor) < least)
+}
+
+/// Returns a place as [`place_above`] does: the guessed place, if it is right.
+fn run_end<I: IntNumber, C: EdgeCount>(
+    strips: &[IntPoint<I>],
+    e: &CountedEdge<I, C>,
+    course: &Course<I>,
+    x: I,
+    from: usize,
+    to: usize,
+) -> usize
+    requires one { IsHeld I.limit (plain_edge I.whole C.counts e.now) }
+    requires amid { IsAmidX (plain_edge I.whole C.counts e.now) (I.whole x) }
+    requires ordered { from ≤ to }
+    requires within { to ≤ length strips.now }
+    requires upwards { AreUpwards (plain_points I.whole strips.now) from to }
+    ensures ordered { from ≤ result }
+    ensures within { result ≤ to }
+    ensures above { ArePassedBelow (plain_edge I.whole C.counts e.now) (I.whole x)
+        (plain_points I.whole strips.now) result to }
+{
+    let guess = guessed_end(strips, course, x, from, to);
+    if guess == to || passes_below(e, x, strips[guess].y) {
+        guess
+    } else {
+        place_above(strips, e, x, from, to)
+    }
+}
+
+/// Returns roughly the place from which on the points of a strip lie above the edge at x. The points from `from` on are
+/// looked at by turns.
+fn guessed_end<I: IntNumber>(
+    strips: &[IntPoint<I>],
+    course: &Course<I>,
+    x: I,
+    from: usize,
+    to: usize,
+) -> usize
+    requires ordered { from ≤ to }
+    requires within { to ≤ length strips.now }
+    ensures ordered { from ≤ result }
+    ensures within { result ≤ to }
+{
+    if from == to {
+        return from;
+    }
+    let floor = strips[from].y;
+    let most = course.most_at(x, floor);
+    let mut at = from;
+    while at < to && strips[at].y.distance(floor) <= most {
+        at += 1;
+    }
+    at
 }
 
 /// Returns a place up to which the points of a strip lie below the edge, for points from x on in its rising direction.

@@ -6,7 +6,7 @@ ghost use Rattle.overlay_arrange.specs.Arranged.{IsArranged, IsArrangedCarrying,
 ghost use Rattle.overlay_arrange.specs.Arranged.{MayRefuseSplitting};
 ghost use Rattle.overlay_arrange.specs.Changed.{AreOpenIn};
 ghost use Rattle.overlay_arrange.specs.Content.{IsAscending};
-ghost use Rattle.overlay_arrange.specs.Meetings.{plain_meetings, AreByPlace, AreMeetings};
+ghost use Rattle.overlay_arrange.specs.Meetings.{plain_meetings, AreMeetings};
 ghost use Rattle.overlay_arrange.specs.Stores.{IsStoreReached};
 ghost use Rattle.overlay_geom.specs.Settled.{IsSettled};
 ghost use Rattle.overlay_geom.specs.declared.solver.Solver.TheVariants.{Rounds};
@@ -112,9 +112,9 @@ impl<I: IntNumber, C: EdgeCount, A: Allocator + Clone> Content<I, C, A> {
         Ok(true)
     }
 
-    /// Returns the whole points through which the edges lead each other, sorted by the places of their edges, and marks
-    /// of open edges. Returns None where any two different edges meet in ends alone. The record of the list before is
-    /// dropped. The edges ascend, as they do once merged.
+    /// Returns the whole points through which the edges lead each other, and marks of open edges. Returns None where
+    /// any two different edges meet in ends alone. The record of the list before is dropped. The edges ascend, as they
+    /// do once merged.
     pub(crate) fn open_meetings(
         &self,
         before: Option<Settling<I, C, A>>,
@@ -124,8 +124,6 @@ impl<I: IntNumber, C: EdgeCount, A: Allocator + Clone> Content<I, C, A> {
         ensures settled { IfOk result (λ found. (found ≡ None) ↔ IsSettled (edges_in self.now)) }
         ensures ok { IfOk result (λ found. IfSome found (λ gathered.
             AreMeetings (edges_in self.now) (plain_meetings I.whole gathered.0.items))) }
-        ensures order { IfOk result (λ found. IfSome found (λ gathered.
-            AreByPlace (plain_meetings I.whole gathered.0.items))) }
         ensures open { IfOk result (λ found. IfSome found (λ gathered.
             AreOpenIn (edges_in self.now) gathered.1.items)) }
     {

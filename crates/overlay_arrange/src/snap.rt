@@ -1,15 +1,17 @@
 //! The whole points through which snap rounding leads the edges of a list: the hot points whose pixels they meet.
 
-ghost use Rattle.std.specs.Prelude.{◌≡◌, ◌∷◌, [], ◌+◌, ◌<◌, ◌≤◌, All, length, IsTrue, false};
+ghost use Rattle.std.specs.Prelude.{◌≡◌, ◌++◌, ◌+◌, ◌<◌, ◌≤◌, All, length, IsTrue, false};
 ghost use Rattle.std.specs.Prelude.{slice_range, IfOk, OnOk};
-ghost use Rattle.overlay_geom.specs.Points.{plain_point, plain_points};
+ghost use Rattle.overlay_geom.specs.Points.{plain_points};
 ghost use Rattle.overlay_arrange.specs.Content.{plain_edge, plain_edges, IsHeld};
-ghost use Rattle.overlay_arrange.specs.HotPoints.{AddsMet, AreHotPoints, AreLeftBefore, AreMetAmong};
+ghost use Rattle.overlay_arrange.specs.HotPoints.{AddsMet, AreHotPoints, AreLeftBefore, AreMetAmong, AreMetInside};
 ghost use Rattle.overlay_arrange.specs.HotPoints.{ArePointsAscending, AreRightFrom, AreStripsIfAny, AreStripsOf};
+ghost use Rattle.overlay_arrange.specs.HotPoints.{meetings_at};
 ghost use Rattle.overlay_arrange.specs.Meetings.{plain_meetings, AreByPlace};
 ghost use Rattle.overlay_arrange.specs.SnapMeetings.{AreSnapMeetings};
 
 use crate::count::EdgeCount;
+use crate::course::course_of;
 use crate::edge::CountedEdge;
 use crate::extents::is_less;
 use crate::meetings::Meeting;
@@ -49,8 +51,8 @@ pub(crate) fn gather_snapped<I: IntNumber, C: EdgeCount, A: Allocator + Clone>(
         let e = &edges[i];
         low = count_left_of(hot, e.a.x, low);
         take_near(&mut points, &mut strips, hot, width, e, low, spare)?;
-        push_snapped(&mut meetings, i, e, &points)?;
         spare = spare_behind(spare, !strips.is_empty(), points.len());
+        push_snapped(&mut meetings, i, e, &mut points)?;
     }
     Ok(meetings)
 }
@@ -210,10 +212,11 @@ fn take_by_strips<I: IntNumber, C: EdgeCount, A: Allocator>(
         (plain_points I.whole points.new.items)) }
 {
     points.clear();
+    let line = course_of(e);
     let mut at = low / width * width;
     while goes_on(hot, e.b.x, at) {
         let end = on_by(at, width, hot.len());
-        push_run(points, strips, e, hot[at].x, hot[end - 1].x, at, end)?;
+        push_run(points, strips, e, &line, hot[at].x, hot[end - 1].x, at, end)?;
         at = end;
     }
     Ok(())
@@ -236,38 +239,50 @@ fn take_range<I: IntNumber, A: Allocator>(
     Ok(())
 }
 
-/// Adds the points whose pixels the edge at place i meets, as its meetings.
+/// Adds the points whose pixels the edge at place i meets, as its meetings, and leaves these points alone in the list.
 fn push_snapped<I: IntNumber, C: EdgeCount, A: Allocator>(
     meetings: &mut Vec<Meeting<I>, A>,
     i: usize,
     e: &CountedEdge<I, C>,
-    points: &[IntPoint<I>],
+    points: &mut Vec<IntPoint<I>, A>,
 ) -> Result<(), AllocError>
     requires { IsHeld I.limit (plain_edge I.whole C.counts e.now) }
-    ensures ok { OnOk result (AddsMet i (plain_edge I.whole C.counts e.now) (plain_points I.whole points.now)
+    ensures ok { OnOk result (AddsMet i (plain_edge I.whole C.counts e.now) (plain_points I.whole points.old.items)
         (plain_meetings I.whole meetings.old.items) (plain_meetings I.whole meetings.new.items)) }
+{
+    keep_met(points, e);
+    push_all(meetings, i, points)
+}
+
+/// Removes the points whose pixels the edge does not meet, and its own ends. No branch depends on the answers, which
+/// nothing foretells.
+fn keep_met<I: IntNumber, C: EdgeCount, A: Allocator>(
+    points: &mut Vec<IntPoint<I>, A>,
+    e: &CountedEdge<I, C>,
+)
+    requires { IsHeld I.limit (plain_edge I.whole C.counts e.now) }
+    ensures { AreMetInside (plain_edge I.whole C.counts e.now) (plain_points I.whole points.old.items)
+        (plain_points I.whole points.new.items) }
 {
     // (what is computed of the edge alone is computed once, for a copy)
     let e = *e;
-    for k in 0..points.len() {
-        push_where_met(meetings, i, &e, points[k])?;
-    }
-    Ok(())
+    points.retain(|v| meets_pixel_inside(&e, *v));
 }
 
-/// Adds the point if the edge at place i meets its pixel, unless it is an end of the edge.
-fn push_where_met<I: IntNumber, C: EdgeCount, A: Allocator>(
+/// Adds the points as meetings of the edge at place i.
+fn push_all<I: IntNumber, A: Allocator>(
     meetings: &mut Vec<Meeting<I>, A>,
     i: usize,
-    e: &CountedEdge<I, C>,
-    v: IntPoint<I>,
+    points: &[IntPoint<I>],
 ) -> Result<(), AllocError>
-    requires { IsHeld I.limit (plain_edge I.whole C.counts e.now) }
-    ensures ok { OnOk result (AddsMet i (plain_edge I.whole C.counts e.now) (plain_point I.whole v ∷ [])
-        (plain_meetings I.whole meetings.old.items) (plain_meetings I.whole meetings.new.items)) }
+    ensures ok { OnOk result (plain_meetings I.whole meetings.new.items
+        ≡ plain_meetings I.whole meetings.old.items ++ meetings_at i (plain_points I.whole points.now)) }
 {
-    if meets_pixel_inside(e, v) {
-        meetings.push(Meeting { place: i, point: v })?;
+    for k in 0..points.len() {
+        meetings.push(Meeting {
+            place: i,
+            point: points[k],
+        })?;
     }
     Ok(())
 }

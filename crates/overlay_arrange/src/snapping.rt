@@ -49,8 +49,8 @@ impl<I: IntNumber, C: EdgeCount, A: Allocator + Clone> Content<I, C, A> {
         Ok(true)
     }
     /// Leads each edge through whole points, once. Where all meeting points are whole, it takes the edge's meeting
-    /// points; else the hot points whose pixels it meets. The edges ascend, and the meetings are theirs, sorted by
-    /// their places. A refusal leaves the content open.
+    /// points; else the hot points whose pixels it meets. The edges ascend, and the meetings are theirs. A refusal
+    /// leaves the content open.
     #[tactic(auto, using(crate::proofs::ReachedStores::never_written))]
     fn lead_once(
         &mut self,
@@ -59,7 +59,6 @@ impl<I: IntNumber, C: EdgeCount, A: Allocator + Clone> Content<I, C, A> {
     ) -> Result<(), OverlayError>
         requires ascending { IsAscending (edges_in self.old) }
         requires meetings { AreMeetings (edges_in self.old) (plain_meetings I.whole meetings.items) }
-        requires order { AreByPlace (plain_meetings I.whole meetings.items) }
         ensures ok { OnOk result (IsLedOnce C.splits C.reverses self.old self.new) }
         ensures store { IsStoreReached C.writes store.old store.new }
         ensures too_many { IsErrOf result OverlayError.TooManyEdges → AreHeavyPieces (2 ^ 31) (edges_in self.old) }

@@ -28,7 +28,7 @@ pub(crate) fn run_end<I: IntNumber, C: EdgeCount>(
 
 /// Returns a place from `from` on where an edge starts right of x, or the number of edges. Each step is twice as long
 /// as the step before, so the place is not far behind the first such place.
-fn place_right_of<I: IntNumber, C: EdgeCount>(
+pub(crate) fn place_right_of<I: IntNumber, C: EdgeCount>(
     edges: &[CountedEdge<I, C>],
     from: usize,
     x: I,

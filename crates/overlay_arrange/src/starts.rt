@@ -1,17 +1,19 @@
 //! The places of edges in the order in which a sweep comes to the edges.
 
-ghost use Rattle.std.specs.Prelude.{◌≡◌, ◌<◌, false, length, slice_index_or, All, AllPairs, IfOk, OnOk};
-ghost use Rattle.std.specs.List.Sorted.{IsPermutation};
+ghost use Rattle.std.specs.Prelude.{◌≡◌, ◌+◌, ◌<◌, ◌≤◌, [], false, length, slice_index_or, All, IfOk, IsTrue};
+ghost use Rattle.std.specs.Prelude.{vec_capacity};
+ghost use Rattle.std.specs.List.Sorted.{IsPermutation, IsSortedBy, IsSortedWithin};
 ghost use Rattle.std.specs.Ordering.{is_lt};
 ghost use Rattle.overlay_geom.specs.Edges.{ends_of};
 ghost use Rattle.overlay_geom.specs.Numbered.{numbered};
+ghost use Rattle.overlay_geom.specs.Plane.{point_eq};
 ghost use Rattle.overlay_plane.specs.Anchors.{is_anchored_before};
-ghost use Rattle.overlay_arrange.specs.Content.{plain_edge, plain_edges, IsContent, IsHeld};
-ghost use Rattle.overlay_arrange.specs.Starts.{numbered_at, AreByStart};
+ghost use Rattle.overlay_arrange.specs.Content.{plain_edge, plain_edges, IsAscending, IsContent, IsHeld};
+ghost use Rattle.overlay_arrange.specs.Starts.{numbered_at, starts_before_at, AreByStart};
 
 use crate::count::EdgeCount;
 use crate::edge::CountedEdge;
-use crate::sort_runs::sort_neighbours;
+use crate::sort_runs::{REACH, move_back};
 use overlay_geom::edge::is_before;
 use overlay_geom::edge_pair::is_same;
 use overlay_geom::number::{IntNumber, WideIntNumber};
@@ -19,59 +21,30 @@ use overlay_geom::vector::cross_at;
 use std::alloc::{AllocError, Allocator};
 use std::cmp::Ordering;
 
-/// Returns the places of the edges by their smaller ends, and of edges from one point by slope, lowest first.
+/// Returns the places of the edges by their smaller ends, and of edges from one point by slope, lowest first. It takes
+/// one pass where few edges start in one point.
 pub(crate) fn places_by_start<I: IntNumber, C: EdgeCount, A: Allocator>(
     alloc: A,
     edges: &[CountedEdge<I, C>],
 ) -> Result<Vec<usize, A>, AllocError>
-    requires { IsContent I.limit (plain_edges I.whole C.counts edges.now) }
+    requires content { IsContent I.limit (plain_edges I.whole C.counts edges.now) }
+    requires ascending { IsAscending (plain_edges I.whole C.counts edges.now) }
     ensures ok { let es = plain_edges I.whole C.counts edges.now in
         IfOk result (λ v. AreByStart es (numbered_at es v.items)) }
 {
-    let mut places = all_places(alloc, edges)?;
-    sort_by_start(&mut places, edges)?;
-    Ok(places)
-}
-
-/// Returns the places of the edges in their order.
-fn all_places<I: IntNumber, C: EdgeCount, A: Allocator>(
-    alloc: A,
-    edges: &[CountedEdge<I, C>],
-) -> Result<Vec<usize, A>, AllocError>
-    ensures ok { let es = plain_edges I.whole C.counts edges.now in
-        IfOk result (λ v. numbered_at es v.items ≡ numbered 0 es) }
-{
     let mut places = Vec::with_capacity(alloc, edges.len())?;
-    for place in 0..edges.len() {
-        places.push(place)?;
-    }
-    Ok(places)
-}
-
-/// Sorts places of edges by the edges' smaller ends, and of edges from one point by slope, lowest first. It takes one
-/// pass where few edges start in one point, and they are sorted but for these.
-fn sort_by_start<I: IntNumber, C: EdgeCount, A: Allocator>(
-    places: &mut Vec<usize, A>,
-    edges: &[CountedEdge<I, C>],
-) -> Result<(), AllocError>
-    requires content { IsContent I.limit (plain_edges I.whole C.counts edges.now) }
-    requires within { All (λ k. k < length edges.now) places.old.items }
-    ensures permutation { IsPermutation places.old.items places.new.items }
-    ensures order { OnOk result (AllPairs (λ m n. is_anchored_before (ends_of n.item) (ends_of m.item) ≡ false)
-        (numbered_at (plain_edges I.whole C.counts edges.now) places.new.items)) }
-{
     let [first, ..] = edges else {
-        return Ok(());
+        return Ok(places);
     };
     let starts = Starts {
         edges,
         behind: *first,
     };
-    if sort_neighbours(places, |j, k| starts.compare(*j, *k)) {
-        return Ok(());
+    if starts.push_places(&mut places) {
+        return Ok(places);
     }
     places.sort_by(|j, k| starts.compare(*j, *k))?;
-    Ok(())
+    Ok(places)
 }
 
 // Edges whose places are compared, and the edge that stands for places behind all.
@@ -84,12 +57,60 @@ struct Starts<'a, I: IntNumber, C: EdgeCount> {
 }
 
 impl<'a, I: IntNumber, C: EdgeCount> Starts<'a, I, C> {
+    // Adds the places of all edges to a list without places, and moves each back past those right before it whose edges
+    // start behind its edge. Returns whether all are in the order of their starts: few start in one point.
+    fn push_places<A: Allocator>(&self, places: &mut Vec<usize, A>) -> bool
+        requires ascending { IsAscending (plain_edges I.whole C.counts self.now.edges.now) }
+        requires empty { places.old.items ≡ [] }
+        requires room { length self.now.edges.now ≤ vec_capacity places.old }
+        ensures permutation { let es = plain_edges I.whole C.counts self.now.edges.now in
+            IsPermutation (numbered 0 es) (numbered_at es places.new.items) }
+        ensures sorted { let es = plain_edges I.whole C.counts self.now.edges.now in
+            let behind = plain_edge I.whole C.counts self.now.behind in
+            IsTrue result → IsSortedBy (starts_before_at es behind) places.new.items }
+    {
+        let mut is_sorted = true;
+        for place in 0..self.edges.len() {
+            places.push_reserved(place);
+            if place > 0
+                && self.start_together(places[place - 1], place)
+                && !self.move_back(places, place)
+            {
+                is_sorted = false;
+            }
+        }
+        is_sorted
+    }
+
+    // Returns whether the edges at two places start in one point.
+    fn start_together(&self, j: usize, k: usize) -> bool
+        requires j { j < length self.now.edges.now }
+        requires k { k < length self.now.edges.now }
+        ensures { let es = plain_edges I.whole C.counts self.now.edges.now in
+            let behind = plain_edge I.whole C.counts self.now.behind in
+            result ≡ point_eq (slice_index_or es j behind).a (slice_index_or es k behind).a }
+    {
+        is_same(self.edges[j].a, self.edges[k].a)
+    }
+
+    // Moves the number at a place of a list back past those right before it whose edges start behind its edge. Returns
+    // whether it had to go no further than few places.
+    fn move_back(&self, places: &mut [usize], place: usize) -> bool
+        requires within { place < length places.old }
+        ensures permutation { IsPermutation places.old places.new }
+        ensures sorted { let es = plain_edges I.whole C.counts self.now.edges.now in
+            let behind = plain_edge I.whole C.counts self.now.behind in
+            IsTrue result → IsSortedWithin (starts_before_at es behind) places.old 0 place
+            → IsSortedWithin (starts_before_at es behind) places.new 0 (place + 1) }
+    {
+        move_back(places, place, REACH, &|j, k| self.compare(*j, *k))
+    }
+
     // Compares the starts of the edges at two places.
     fn compare(&self, j: usize, k: usize) -> Ordering
         ensures { let es = plain_edges I.whole C.counts self.now.edges.now in
             let behind = plain_edge I.whole C.counts self.now.behind in
-            is_lt result ≡ is_anchored_before (ends_of (slice_index_or es j behind))
-            (ends_of (slice_index_or es k behind)) }
+            is_lt result ≡ starts_before_at es behind j k }
     {
         compare_starts(self.edge_at(j), self.edge_at(k))
     }
@@ -118,10 +139,10 @@ fn compare_starts<I: IntNumber, C: EdgeCount>(
     ensures { is_lt result ≡ is_anchored_before
         (ends_of (plain_edge I.whole C.counts e.now)) (ends_of (plain_edge I.whole C.counts f.now)) }
 {
-    if is_before(e.a, f.a) {
-        Ordering::Less
-    } else if is_same(e.a, f.a) {
+    if is_same(e.a, f.a) {
         cross_at(e.a, f.b, e.b).sign()
+    } else if is_before(e.a, f.a) {
+        Ordering::Less
     } else {
         Ordering::Greater
     }

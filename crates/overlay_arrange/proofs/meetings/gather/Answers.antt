@@ -1,10 +1,9 @@
 -- Edges before the first place need no meetings. Each other edge adds the points through which it and the later edges
--- lead each other; sorting keeps them.
+-- lead each other.
 use Rattle.std.proofs.Common.{◌≡◌, List, length, sym, subst, arith}
 use Rattle.std.proofs.lemmas.List.{length-map}
-use Rattle.std.proofs.lemmas.List.Sorted.{Contains-permutation, IsPermutation-map, IsPermutation-sym}
 use Rattle.overlay_arrange.specs.Content.{plain_edge, plain_edges}
-use Rattle.overlay_arrange.specs.Meetings.{plain_meeting, plain_meetings, AreGathered, HasBefore}
+use Rattle.overlay_arrange.specs.Meetings.{plain_meetings, AreGathered, HasBefore}
 use Rattle.overlay_arrange.specs.Near.{AreNear}
 use Rattle.overlay_arrange.specs.declared.meetings.Meeting.{Meeting}
 use Rattle.overlay_arrange.proofs.GatheredMeetings.{all_gathered, gathered_moved}
@@ -44,15 +43,9 @@ loop-i-preserved g c =
 
 pub returns-clause-ok : goal.returns-clause-ok
 returns-clause-ok g c =
-    let es = plain_edges g.I.IntNumber.whole g.C.EdgeCount.counts c.args.edges.now in
     let count = length-map c.args.edges.now (plain_edge g.I.IntNumber.whole g.C.EdgeCount.counts) in
-    let old = plain_meetings g.I.IntNumber.whole c.loop-i.meetings.items in
-    let new = plain_meetings g.I.IntNumber.whole c.sort_by_place.new.meetings.items in
-    let moved = IsPermutation-map (plain_meeting g.I.IntNumber.whole) c.loop-i.meetings.items
-    c.sort_by_place.new.meetings.items c.sort_by_place.ensures.permutation in
-    gathered_moved es (λ m at. Contains-permutation old new m moved at)
-    (λ m at. Contains-permutation new old m (IsPermutation-sym old new moved) at)
-    (all_gathered es c.loop-i.i (omega (arith, count, c.loop-i-test.false)) c.loop-i.invariant.0)
+    all_gathered (plain_edges g.I.IntNumber.whole g.C.EdgeCount.counts c.args.edges.now) c.loop-i.i
+    (omega (arith, count, c.loop-i-test.false)) c.loop-i.invariant.0
 
 pub returns-clause-open : goal.returns-clause-open
 returns-clause-open g c =

@@ -1,24 +1,29 @@
 -- The run is tested edge by edge, or searched.
-use Rattle.std.proofs.Common.{IfSome, length, sym, ap, subst, arith}
+use Rattle.std.proofs.Common.{◌≡◌, IfSome, [], length, refl, sym, ap, subst, arith}
 use Rattle.std.proofs.lemmas.List.{length-map}
 use Rattle.std.proofs.lemmas.List.Sorted.{length_permutation}
 use Rattle.std.proofs.lemmas.Result.{on_ok_weaker}
 use Rattle.overlay_arrange.specs.Bundles.{AreBundlesOf, IsPassed}
 use Rattle.overlay_arrange.specs.Content.{plain_edge, plain_edges}
 use Rattle.overlay_arrange.specs.Extents.{Extent, extent_of, extents_of, plain_extent, plain_extents}
-use Rattle.overlay_arrange.specs.Near.{run_of, IsSearchedBy, IsSearchedTo}
+use Rattle.overlay_arrange.specs.Meetings.{IsRunEnd}
+use Rattle.overlay_arrange.specs.Near.{run_of, AreNearBehind, IsSearchedBy, IsSearchedTo}
 use Rattle.overlay_arrange.proofs.NearEdges.{heights_near, searched_beside, searched_near}
 use Rattle.overlay_arrange.proofs.PlacedExtents.{as_many_placed}
+use Rattle.overlay_arrange.proofs.Searches.{heights_none}
 use Rattle.overlay_arrange.proofs.near.find_near_behind.Goals as goal
 
-pub returns-then-end-from-lt-FEW : goal.returns-then-end-from-lt-FEW
-returns-then-end-from-lt-FEW g c = record {
-  ok = on_ok_weaker c.take_by_heights.result
-      (heights_near (plain_edges g.I.IntNumber.whole g.C.EdgeCount.counts c.args.edges.now) c.args.from
-      c.run_end-end.result (plain_edge g.I.IntNumber.whole g.C.EdgeCount.counts c.args.e.now) g.I.IntNumber.limit
-      c.requires.held c.requires.one c.requires.ascending c.run_end-end.ensures
-      (plain_extent g.I.IntNumber.whole c.extent_of.result) c.take_by_heights.new.near.items c.extent_of.ensures)
-      c.take_by_heights.ensures.ok;
+pub returns-then-end-from : goal.returns-then-end-from
+returns-then-end-from g c = record {
+  ok = let es = plain_edges g.I.IntNumber.whole g.C.EdgeCount.counts c.args.edges.now in
+      let e = plain_edge g.I.IntNumber.whole g.C.EdgeCount.counts c.args.e.now in
+      let from = c.args.from in
+      let ends = c.if-end-from.true in
+      let same : c.run_end-end.result ≡ from = omega (arith, ends) in
+      subst (AreNearBehind es e from) (sym c.clear.ensures.items)
+      (heights_near es from from e g.I.IntNumber.limit c.requires.held c.requires.one c.requires.ascending
+      (subst (IsRunEnd es e.b.x from) same c.run_end-end.ensures) (extent_of e from) [] refl
+      (heights_none es (extent_of e from) from));
 }
 
 pub find_by_blocks-requires-clause-within : goal.find_by_blocks-requires-clause-within

@@ -1,5 +1,5 @@
 -- The places of the edges so far that share a height are taken.
-use Rattle.std.proofs.Common.{◌≤◌}
+use Rattle.std.proofs.Common.{◌-◌, ◌≤◌}
 use Rattle.overlay_arrange.specs.Content.{plain_edges}
 use Rattle.overlay_arrange.specs.Extents.{plain_extent}
 use Rattle.overlay_arrange.specs.Near.{AreNearHeights}
@@ -10,3 +10,6 @@ invariant-loop-j g l =
     (l.from ≤ l.j) × (l.j ≤ l.to)
     × AreNearHeights (plain_edges g.I.IntNumber.whole g.C.EdgeCount.counts l.edges)
     (plain_extent g.I.IntNumber.whole l.of) l.from l.j l.near.items
+
+abbrev pub decreases-loop-j : goal.decreases-loop-j
+decreases-loop-j g l = l.to - l.j

@@ -1,12 +1,9 @@
 -- Each edge adds its points.
-use Rattle.std.proofs.Common.{List, ap, subst, arith}
+use Rattle.std.proofs.Common.{arith}
 use Rattle.std.proofs.lemmas.List.{length-map}
-use Rattle.overlay_geom.specs.Plane.{Point}
 use Rattle.overlay_geom.specs.Points.{plain_points}
 use Rattle.overlay_geom.proofs.Mapped.{All-mapped_at}
 use Rattle.overlay_arrange.specs.Content.{plain_edge, plain_edges, IsHeld}
-use Rattle.overlay_arrange.specs.HotPoints.{AddsMet}
-use Rattle.overlay_arrange.specs.Meetings.{plain_meetings}
 use Rattle.overlay_arrange.proofs.GatheredMeetings.{placed_in_mapped}
 use Rattle.overlay_arrange.proofs.GatheredPixels.{all_snapped, by_place_more, one_snapped}
 use Rattle.overlay_arrange.proofs.snap.gather_snapped.Goals as goal
@@ -32,9 +29,7 @@ loop-i-preserved g c =
     let at_e = placed_in_mapped plain c.args.edges.now i c.index-edges-i.result c.loop-i-test.true
     c.index-edges-i.is in
     let us = plain_points whole c.take_near.new.points.items in
-    let adds = subst (λ (us : List Point). AddsMet i e us (plain_meetings whole c.loop-i.meetings.items)
-    (plain_meetings whole c.push_snapped.new.meetings.items)) (ap (plain_points whole) c.deref.ensures.value)
-    c.in_ok-push_snapped.ensures.ok in (
+    let adds = c.in_ok-push_snapped.ensures.ok in (
       one_snapped es vs i e at_e us c.in_ok-take_near.ensures.ok c.loop-i.invariant.0 adds,
       by_place_more es vs i e at_e us c.in_ok-take_near.ensures.ok c.loop-i.invariant.0 adds c.loop-i.invariant.1,
       c.in_ok-take_near.ensures.strips,

@@ -14,8 +14,8 @@ use Rattle.overlay_arrange.proofs.StripSearches.{AreMetBefore, IsStripEnd, searc
 use Rattle.overlay_arrange.proofs.StripSearches.{strip_upwards}
 use Rattle.overlay_arrange.proofs.snap.take_by_strips.Goals as goal
 
-pub loop-end-init : goal.loop-end-init
-loop-end-init g c =
+pub loop-line-init : goal.loop-line-init
+loop-line-init g c =
     let whole = g.I.IntNumber.whole in
     let vs = plain_points whole c.args.hot.now in
     let e = plain_edge whole g.C.EdgeCount.counts c.args.e.now in
@@ -50,30 +50,30 @@ pub push_run-requires-clause-upwards : goal.push_run-requires-clause-upwards
 push_run-requires-clause-upwards g c =
     let whole = g.I.IntNumber.whole in
     let vs = plain_points whole c.args.hot.now in
-    let at = c.loop-end.at in
+    let at = c.loop-line.at in
     let count = length-map c.args.hot.now (plain_point whole) in
     strip_upwards vs (plain_edge whole g.C.EdgeCount.counts c.args.e.now) c.args.width
     (plain_points whole c.args.strips.now) c.requires.strips at c.on_by-end.result
-    (begins c.args.width (length vs) at c.loop-end.invariant.1
-    (let less = c.goes_on.ensures.within c.loop-end-test.true in omega (arith, less, count)))
+    (begins c.args.width (length vs) at c.loop-line.invariant.1
+    (let less = c.goes_on.ensures.within c.loop-line-test.true in omega (arith, less, count)))
     (⊎_elim (λ (all : c.on_by-end.result ≡ length c.args.hot.now). inl (omega (arith, all, count))) (λ next. inr next)
     c.on_by-end.ensures.ends) c.on_by-end.ensures.no_further
 
-pub loop-end-preserved : goal.loop-end-preserved
-loop-end-preserved g c =
+pub loop-line-preserved : goal.loop-line-preserved
+loop-line-preserved g c =
     let whole = g.I.IntNumber.whole in
     let hot = c.args.hot.now in
     let vs = plain_points whole hot in
     let e = plain_edge whole g.C.EdgeCount.counts c.args.e.now in
     let ps = plain_points whole c.args.strips.now in
     let width = c.args.width in
-    let at = c.loop-end.at in
+    let at = c.loop-line.at in
     let end = c.on_by-end.result in
     let count = length-map hot (plain_point whole) in
-    let less = c.goes_on.ensures.within c.loop-end-test.true in
-    let begun = begins width (length vs) at c.loop-end.invariant.1 (omega (arith, less, count)) in
+    let less = c.goes_on.ensures.within c.loop-line-test.true in
+    let begun = begins width (length vs) at c.loop-line.invariant.1 (omega (arith, less, count)) in
     let up_to = c.on_by-end.ensures.up_to in
-    let old = plain_points whole c.loop-end.points.items in
+    let old = plain_points whole c.loop-line.points.items in
     let new = plain_points whole c.push_run.new.points.items in
     let added : ℤ → ℤ → Type 0 = λ left right. AddsRun left right e ps at end old new in
     let adds = subst (λ (a : IntPoint _). added (whole a.x) (whole c.index-hot-end.result.x)) (sym c.index-hot-at.is)
@@ -88,7 +88,7 @@ loop-end-preserved g c =
           (whole c.index-hot-end.result.x) old new adds
           (λ k v past inside at_v. amid_points whole hot c.requires.ascending at k (end - 1) c.index-hot-at.result
           c.index-hot-end.result v past (omega (arith, inside)) (omega (arith, up_to, inside)) c.index-hot-at.is
-          c.index-hot-end.is at_v) c.loop-end.invariant.2,
+          c.index-hot-end.is at_v) c.loop-line.invariant.2,
     )
 
 pub returns : goal.returns
@@ -97,6 +97,6 @@ returns g c = record {
       let e = plain_edge whole g.C.EdgeCount.counts c.args.e.now in
       search_done (plain_points whole c.args.hot.now) e c.args.width (plain_points whole c.args.strips.now)
       c.requires.strips ((Decides-point_lt e.a e.b).0 c.requires.one.forward).x
-      c.loop-end.at (plain_points whole c.loop-end.points.items) (c.goes_on.ensures.right c.loop-end-test.false)
-      c.loop-end.invariant.1 c.loop-end.invariant.2;
+      c.loop-line.at (plain_points whole c.loop-line.points.items) (c.goes_on.ensures.right c.loop-line-test.false)
+      c.loop-line.invariant.1 c.loop-line.invariant.2;
 }

@@ -15,47 +15,51 @@ use Rattle.overlay_arrange.proofs.content.Content.cut_at.Goals as goal
 pub cut_edges-requires-clause-in_range : goal.cut_edges-requires-clause-in_range
 cut_edges-requires-clause-in_range g c =
     rw c.deref-2.ensures.value
-    (meetings_in_range g.I.IntNumber.limit (edges_in c.args.self.now) c.edges-2.ensures.content.held
-    (plain_meetings g.I.IntNumber.whole c.args.meetings.items) c.requires.meetings)
+    (meetings_in_range g.I.IntNumber.limit (edges_in c.args.self.now) c.edges-3.ensures.content.held
+    (plain_meetings g.I.IntNumber.whole c.sort_meetings.new.meetings.items)
+    (rw c.edges-2.ensures.plain at c.sort_meetings.ensures.meetings))
 
 pub returns-clause-ok : goal.returns-clause-ok
 returns-clause-ok g c =
     let points = cut_points (edges_in c.args.self.now) in
-    let leads : AreLedAlong (plain_edges g.I.IntNumber.whole g.C.EdgeCount.counts c.edges-2.result.now)
+    let leads : AreLedAlong (plain_edges g.I.IntNumber.whole g.C.EdgeCount.counts c.edges-3.result.now)
     (plain_meetings g.I.IntNumber.whole c.deref-2.result.now) points =
-    rw (c.deref-2.ensures.value, c.edges-2.ensures.plain)
-    (meetings_lead_along g.I.IntNumber.limit (edges_in c.args.self.now) c.edges-2.ensures.content.held
-    (plain_meetings g.I.IntNumber.whole c.args.meetings.items) c.requires.meetings) in
+    rw (c.deref-2.ensures.value, c.edges-3.ensures.plain)
+    (meetings_lead_along g.I.IntNumber.limit (edges_in c.args.self.now) c.edges-3.ensures.content.held
+    (plain_meetings g.I.IntNumber.whole c.sort_meetings.new.meetings.items)
+    (rw c.edges-2.ensures.plain at c.sort_meetings.ensures.meetings)) in
     ap edges_in c.replace-before.ensures.after ∙ c.in_ok-pieces.ensures.ok points leads
-    ∙ ap (flat_map (pieces_through points)) c.edges-2.ensures.plain
+    ∙ ap (flat_map (pieces_through points)) c.edges-3.ensures.plain
 
 pub returns-clause-carried : goal.returns-clause-carried
 returns-clause-carried g c =
     let points = cut_points (edges_in c.args.self.now) in
-    let leads : AreLedAlong (plain_edges g.I.IntNumber.whole g.C.EdgeCount.counts c.edges-2.result.now)
+    let leads : AreLedAlong (plain_edges g.I.IntNumber.whole g.C.EdgeCount.counts c.edges-3.result.now)
     (plain_meetings g.I.IntNumber.whole c.deref-2.result.now) points =
-    rw (c.deref-2.ensures.value, c.edges-2.ensures.plain)
-    (meetings_lead_along g.I.IntNumber.limit (edges_in c.args.self.now) c.edges-2.ensures.content.held
-    (plain_meetings g.I.IntNumber.whole c.args.meetings.items) c.requires.meetings) in
+    rw (c.deref-2.ensures.value, c.edges-3.ensures.plain)
+    (meetings_lead_along g.I.IntNumber.limit (edges_in c.args.self.now) c.edges-3.ensures.content.held
+    (plain_meetings g.I.IntNumber.whole c.sort_meetings.new.meetings.items)
+    (rw c.edges-2.ensures.plain at c.sort_meetings.ensures.meetings)) in
     subst (AreCutAlong g.C.EdgeCount.splits g.C.EdgeCount.reverses (computed_chain (edges_in c.args.self.now))
     c.args.self.now) (sym c.replace-before.ensures.after)
-    (rw c.edges-2.ensures.edges at (c.in_ok-pieces.ensures.carried points leads))
+    (rw c.edges-3.ensures.edges at (c.in_ok-pieces.ensures.carried points leads))
 
 pub returns-in_err-pieces-clause-too_many : goal.returns-in_err-pieces-clause-too_many
 returns-in_err-pieces-clause-too_many g c = λ same.
     let points = cut_points (edges_in c.args.self.now) in
-    let leads : AreLedAlong (plain_edges g.I.IntNumber.whole g.C.EdgeCount.counts c.edges-2.result.now)
+    let leads : AreLedAlong (plain_edges g.I.IntNumber.whole g.C.EdgeCount.counts c.edges-3.result.now)
     (plain_meetings g.I.IntNumber.whole c.deref-2.result.now) points =
-    rw (c.deref-2.ensures.value, c.edges-2.ensures.plain)
-    (meetings_lead_along g.I.IntNumber.limit (edges_in c.args.self.now) c.edges-2.ensures.content.held
-    (plain_meetings g.I.IntNumber.whole c.args.meetings.items) c.requires.meetings) in
+    rw (c.deref-2.ensures.value, c.edges-3.ensures.plain)
+    (meetings_lead_along g.I.IntNumber.limit (edges_in c.args.self.now) c.edges-3.ensures.content.held
+    (plain_meetings g.I.IntNumber.whole c.sort_meetings.new.meetings.items)
+    (rw c.edges-2.ensures.plain at c.sort_meetings.ensures.meetings)) in
     let passed = err_from_is_err_and c.from_residual-in_err-pieces.result c.from_residual-in_err-pieces.ensures.1 in
     subst (λ (es : List CountedEdge). 2147483648 ≤ weight es)
-    (ap (flat_map (pieces_through points)) c.edges-2.ensures.plain)
+    (ap (flat_map (pieces_through points)) c.edges-3.ensures.plain)
     (c.in_err-pieces.ensures.too_many (cc) points leads)
 
 pub cut_edges-requires-clause-order : goal.cut_edges-requires-clause-order
-cut_edges-requires-clause-order g c = rw c.deref-2.ensures.value c.requires.order
+cut_edges-requires-clause-order g c = rw c.deref-2.ensures.value c.in_ok-sort_meetings.ensures.order
 
 -- the negation of whole is rounded
 not_false : (b : Bool) → not b ≡ false → b ≡ true
