@@ -44,7 +44,7 @@ pub(crate) fn find_near_behind<I: IntNumber, C: EdgeCount, A: Allocator>(
 {
     near.clear();
     let to = place_right_of(edges, from, e.b.x);
-    if to - from <= FEW {
+    if strips.width == 0 || to - from <= FEW {
         return take_by_heights(near, edges, e, from, to);
     }
     let end = run_end(edges, e.b.x, from);

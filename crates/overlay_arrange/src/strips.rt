@@ -7,7 +7,7 @@ ghost use Rattle.overlay_arrange.specs.Content.{plain_edges, IsAscending, IsHeld
 ghost use Rattle.overlay_arrange.specs.Extents.{extents_of, extents_of_points, plain_extents, AreBlocks, AreByHeights};
 ghost use Rattle.overlay_arrange.specs.Extents.{AreAtPlaces, AreInStrips};
 ghost use Rattle.overlay_arrange.specs.HotPoints.{points_of, AreStripsOf};
-ghost use Rattle.overlay_arrange.specs.Strips.{AreHeldStripsOf};
+ghost use Rattle.overlay_arrange.specs.Strips.{AreHeldStripsOf, AreMadeStripsOf};
 ghost use Rattle.overlay_arrange.specs.declared.extents.Extent.{Extent};
 
 use crate::bundles::{Bundles, bundles_of};
@@ -26,6 +26,11 @@ const LEAST: usize = 64;
 const MOST: usize = 65536;
 // Size of the sample for the length of runs.
 pub(crate) const SAMPLES: usize = 64;
+// Number of edges up to which no strips are made where runs are short, and the length below which runs are short on
+// average.
+const SMALL: usize = 2048;
+
+const SHORT: usize = 64;
 // Number of boxes in a block.
 const BLOCK: usize = 8;
 
@@ -34,7 +39,7 @@ const BLOCK: usize = 8;
 /// block are close together.
 #[derive(Drop)]
 pub(crate) struct Strips<I: Copy, A: Allocator> {
-    /// Number of neighbours in a strip.
+    /// Number of neighbours in a strip, or 0 where no strips are made.
     pub width: usize,
     /// The boxes of the edges.
     pub edges: Vec<Extent<I>, A>,
@@ -53,7 +58,7 @@ pub(crate) struct Strips<I: Copy, A: Allocator> {
 }
 
 /// Makes the strips of the edges, with bundles where a search by boxes alone would find many edges that an edge does
-/// not meet.
+/// not meet. It makes none where the edges are not many and their runs are short.
 pub(crate) fn strips_of<I: IntNumber, C: EdgeCount, A: Allocator + Clone>(
     alloc: A,
     edges: &[CountedEdge<I, C>],
@@ -62,7 +67,11 @@ pub(crate) fn strips_of<I: IntNumber, C: EdgeCount, A: Allocator + Clone>(
     requires ascending { IsAscending (plain_edges I.whole C.counts edges.now) }
     ensures ok { IfOk result (AreHeldStripsOf I.whole I.limit (plain_edges I.whole C.counts edges.now)) }
 {
-    let strips = strips_of_boxes(alloc.clone()?, edges)?;
+    let runs = length_of_runs(edges, SAMPLES);
+    if edges.len() <= SMALL && runs < SHORT * SAMPLES {
+        return no_strips(alloc);
+    }
+    let strips = strips_of_boxes(alloc.clone()?, edges, runs)?;
     if !misses_many(alloc.clone()?, edges, &strips)? {
         return Ok(strips);
     }
@@ -73,16 +82,33 @@ pub(crate) fn strips_of<I: IntNumber, C: EdgeCount, A: Allocator + Clone>(
     })
 }
 
-/// Makes the strips of the edges, without bundles.
+/// Returns that no strips are made.
+fn no_strips<I: IntNumber, A: Allocator + Clone>(alloc: A) -> Result<Strips<I, A>, AllocError>
+    ensures none { IfOk result (λ strips. strips.width ≡ 0) }
+{
+    Ok(Strips {
+        width: 0,
+        edges: Vec::new(alloc.clone()?),
+        of_8: Vec::new(alloc.clone()?),
+        of_64: Vec::new(alloc.clone()?),
+        of_512: Vec::new(alloc.clone()?),
+        of_4096: Vec::new(alloc.clone()?),
+        of_32768: Vec::new(alloc),
+        bundles: None,
+    })
+}
+
+/// Makes the strips of the edges, without bundles. The runs of a sample of edges have the given length in all.
 fn strips_of_boxes<I: IntNumber, C: EdgeCount, A: Allocator + Clone>(
     alloc: A,
     edges: &[CountedEdge<I, C>],
+    runs: usize,
 ) -> Result<Strips<I, A>, AllocError>
     requires held { All (IsHeld I.limit) (plain_edges I.whole C.counts edges.now) }
     requires ascending { IsAscending (plain_edges I.whole C.counts edges.now) }
-    ensures ok { IfOk result (AreHeldStripsOf I.whole I.limit (plain_edges I.whole C.counts edges.now)) }
+    ensures ok { IfOk result (AreMadeStripsOf I.whole I.limit (plain_edges I.whole C.counts edges.now)) }
 {
-    let width = strip_width(length_of_runs(edges, SAMPLES));
+    let width = strip_width(runs);
     let extents = edges_by_strips(alloc.clone()?, edges, width)?;
     let of_8 = extents_of_blocks(alloc.clone()?, &extents)?;
     let of_64 = extents_of_blocks(alloc.clone()?, &of_8)?;

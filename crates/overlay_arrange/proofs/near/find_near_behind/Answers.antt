@@ -1,5 +1,5 @@
 -- The run is tested edge by edge, or searched.
-use Rattle.std.proofs.Common.{◌≡◌, IfSome, [], length, refl, sym, ap, subst, arith}
+use Rattle.std.proofs.Common.{◌≡◌, ◌⊎◌, inl, inr, ℕ, ◌<◌, IfSome, [], length, refl, sym, ap, subst, arith}
 use Rattle.std.proofs.lemmas.List.{length-map}
 use Rattle.std.proofs.lemmas.List.Sorted.{length_permutation}
 use Rattle.std.proofs.lemmas.Result.{on_ok_weaker}
@@ -12,6 +12,11 @@ use Rattle.overlay_arrange.proofs.NearEdges.{heights_near, searched_beside, sear
 use Rattle.overlay_arrange.proofs.PlacedExtents.{as_many_placed}
 use Rattle.overlay_arrange.proofs.Searches.{heights_none}
 use Rattle.overlay_arrange.proofs.near.find_near_behind.Goals as goal
+
+-- strips that are not missing are made
+made : {P : Type 0} (width : ℕ) → 0 < width → (width ≡ 0) ⊎ P → P
+made width some (inl none) = absurd (omega (arith, some, none))
+made width some (inr is) = is
 
 pub returns-then-end-from : goal.returns-then-end-from
 returns-then-end-from g c = record {
@@ -33,7 +38,8 @@ find_by_blocks-requires-clause-within g c =
     let extents = c.args.strips.now.edges.items in
     let last = ap (λ (s : Extent). s.last) c.run_of-in_default.ensures in
     let es = plain_edges whole g.C.EdgeCount.counts c.args.edges.now in
-    let moved = length_permutation (extents_of es) (plain_extents whole extents) c.requires.strips.permutation in
+    let moved = length_permutation (extents_of es) (plain_extents whole extents)
+    (made c.args.strips.now.width (let w = c.if-strips-eq0.false in omega (arith, w)) c.requires.strips).permutation in
     let count = as_many_placed extent_of es in
     let l = length-map extents (plain_extent whole) in
     let m = length-map c.args.edges.now plain in
@@ -53,7 +59,8 @@ returns-in_default g c = record {
       let js = c.find_by_blocks.new.near.items in
       on_ok_weaker c.find_by_blocks.result
       (λ searched. searched_near es c.args.from end e g.I.IntNumber.limit c.requires.held c.requires.one
-      c.requires.ascending c.run_end-end.ensures ss js c.requires.strips.permutation
+      c.requires.ascending c.run_end-end.ensures ss js
+      (made c.args.strips.now.width (let w = c.if-strips-eq0.false in omega (arith, w)) c.requires.strips).permutation
       (subst (λ n. IsSearchedTo ss (run_of e c.args.from end) n js) (sym (length-map extents (plain_extent whole)))
       (subst (λ s. IsSearchedTo ss s (length extents) js) c.run_of-in_default.ensures searched)))
       c.find_by_blocks.ensures.ok;
@@ -62,8 +69,11 @@ returns-in_default g c = record {
 pub find_in_bundles-requires-clause-bundles : goal.find_in_bundles-requires-clause-bundles
 find_in_bundles-requires-clause-bundles g c =
     let whole = g.I.IntNumber.whole in
-    let es = plain_edges whole g.C.EdgeCount.counts c.args.edges.now in
-    (es, subst (λ o. IfSome o (AreBundlesOf whole g.I.IntNumber.limit es)) c.in-Some.is c.requires.strips.bundles)
+    let es = plain_edges whole g.C.EdgeCount.counts c.args.edges.now in (
+      es,
+      subst (λ o. IfSome o (AreBundlesOf whole g.I.IntNumber.limit es)) c.in-Some.is
+          (made c.args.strips.now.width (let w = c.if-strips-eq0.false in omega (arith, w)) c.requires.strips).bundles,
+    )
 
 pub returns-in-Some : goal.returns-in-Some
 returns-in-Some g c = record {
@@ -77,7 +87,7 @@ returns-in-Some g c = record {
       let ss = plain_extents whole extents in
       let js = c.find_in_bundles.new.near.items in
       let bundles = subst (λ o. IfSome o (AreBundlesOf whole g.I.IntNumber.limit es)) c.in-Some.is
-      c.requires.strips.bundles in
+      (made c.args.strips.now.width (let w = c.if-strips-eq0.false in omega (arith, w)) c.requires.strips).bundles in
       on_ok_weaker c.find_in_bundles.result
       (λ searched. searched_beside es c.args.from end e g.I.IntNumber.limit c.requires.held c.requires.one
       c.requires.ascending c.run_end-end.ensures ss js bundles.permutation
@@ -85,3 +95,19 @@ returns-in-Some g c = record {
       (subst (λ s. IsSearchedBy (IsPassed es e s) ss s (length extents) js) c.run_of.ensures
       (searched es bundles)))) c.find_in_bundles.ensures.ok;
 }
+
+pub find_by_blocks-requires-clause-some : goal.find_by_blocks-requires-clause-some
+find_by_blocks-requires-clause-some g c =
+    (made c.args.strips.now.width (let w = c.if-strips-eq0.false in omega (arith, w)) c.requires.strips).some
+
+pub find_by_blocks-requires-clause-strips : goal.find_by_blocks-requires-clause-strips
+find_by_blocks-requires-clause-strips g c =
+    (made c.args.strips.now.width (let w = c.if-strips-eq0.false in omega (arith, w)) c.requires.strips).strips
+
+pub find_by_blocks-requires-clause-heights : goal.find_by_blocks-requires-clause-heights
+find_by_blocks-requires-clause-heights g c =
+    (made c.args.strips.now.width (let w = c.if-strips-eq0.false in omega (arith, w)) c.requires.strips).heights
+
+pub find_by_blocks-requires-clause-blocks : goal.find_by_blocks-requires-clause-blocks
+find_by_blocks-requires-clause-blocks g c =
+    (made c.args.strips.now.width (let w = c.if-strips-eq0.false in omega (arith, w)) c.requires.strips).blocks
