@@ -4,7 +4,7 @@
     assembly.py FILE.s [--processor x86_64|aarch64|wasm64] [--proved]
 
 It is made of the proved module, where `.ci/library` has left that and nothing is newer; else of one without a proof,
-which takes a minute more (unproved.py). With --proved the library is proved first if it is not, some 40 minutes. It
+which takes a minute more (unproved.py). With --proved the library is proved first if it is not, an hour or more. It
 says what it was made of on standard error, and in a line at the head of the file.
 """
 
