@@ -1,11 +1,12 @@
 -- The live edges of held edges, by parts of their list.
 use Rattle.std.proofs.Common.{◌≡◌, true, false, cond, ℕ, ◌+◌, ◌<◌, ℤ, int_lt, List, [], ◌∷◌, ◌++◌, length, take, drop}
-use Rattle.std.proofs.Common.{get_or, slice_set, sym, ap, ◌∙◌, subst, arith}
+use Rattle.std.proofs.Common.{get_or, slice_set, ◌≤◌, Bool, not, refl, sym, ap, ◌∙◌, subst, arith}
 use Rattle.std.proofs.lemmas.Int.{ints}
 use Rattle.std.specs.List.{All, filter, insert}
 use Rattle.std.proofs.lemmas.List.{map-append, append_assoc, take-append-drop, take_more, drop_more, take_more_set}
 use Rattle.std.proofs.lemmas.List.{drop-set-lt}
 use Rattle.std.proofs.lemmas.List.Elements.{All-head, filter-append}
+use Rattle.std.proofs.lemmas.List.Filters.{length-filter_both}
 use Rattle.overlay_geom.proofs.Mapped.{map-filter}
 use Rattle.overlay_plane.proofs.Entries.{All-rest}
 use Rattle.overlay_scan.specs.HeldEntries.{live_of}
@@ -13,6 +14,10 @@ use Rattle.overlay_scan.specs.Lists.{plain_entry, plain_entries}
 use Rattle.overlay_scan.specs.Scan.{Entry, live_at}
 use Rattle.overlay_scan.specs.declared.list.LiveEdge.{LiveEdge}
 use Rattle.overlay_scan.proofs.Found.{live_twice}
+
+-- no more items pass a test than there are
+pub no_more : {X : Type 0} (test : X → Bool) (xs : List X) → length (filter test xs) ≤ length xs
+no_more test xs = let parts = length-filter_both test (λ x. not (test x)) (λ x. refl) xs in omega arith
 
 module _ {I V : Type 0} (whole : I → ℤ) (x : ℤ) where
   pub live-append : (es fs : List (LiveEdge I V)) →

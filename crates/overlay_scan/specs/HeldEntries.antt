@@ -1,5 +1,6 @@
 -- Edges held from bottom to top, some of them perhaps ended, and the sweep that they stand for.
-use Rattle.std.specs.Prelude.{◌≡◌, Bool, true, false, not, ℤ, List, ◌++◌, All, Option, None, Some, option_map}
+use Rattle.std.specs.Prelude.{◌≡◌, Bool, true, false, not, ℕ, ℤ, List, ◌++◌, length, All, Option, None, Some}
+use Rattle.std.specs.Prelude.{option_map}
 use Rattle.std.specs.List.{last_or}
 use Rattle.std.specs.Ordering.{is_gt}
 use Rattle.std.specs.declared.cmp.Ordering.{Ordering}
@@ -28,6 +29,10 @@ sweep_of whole es reached = record {
 -- the sweep of a list
 abbrev pub plain_sweep : {I V A W U : Type 0} → (I → ℤ) → ScanList I V A W U → Sweep V
 plain_sweep whole s = sweep_of whole s.live s.reached
+
+-- the number of edges that a list holds
+abbrev pub held_count : {I V A W U : Type 0} → ScanList I V A W U → ℕ
+held_count s = length s.live
 
 -- the order's answers tell the entries that pass
 abbrev pub Tells : {I V : Type 0} → (I → ℤ) → (List (IntPoint I) → Ordering → Type 0) → (Entry V → Bool) → List

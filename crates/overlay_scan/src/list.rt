@@ -1,13 +1,14 @@
 //! Live edges in a list.
 
-ghost use Rattle.std.specs.Prelude.{◌≡◌, [], ◌∷◌, true, not, int_lt, Some, OnOk, OnErr, IsOkUnless};
+ghost use Rattle.std.specs.Prelude.{◌≡◌, ◌≤◌, ◌+◌, [], ◌∷◌, true, not, int_lt, filter, Some, OnOk, OnErr, IsOkUnless};
 ghost use Rattle.std.specs.Ordering.{is_gt};
 ghost use Rattle.overlay_geom.specs.Lines.{plain_line};
-ghost use Rattle.overlay_scan.specs.HeldEntries.{live_of, plain_sweep, IsLookedUp};
+ghost use Rattle.overlay_scan.specs.HeldEntries.{live_of, plain_sweep, held_count, IsLookedUp};
 ghost use Rattle.overlay_scan.specs.Lists.{plain_entry, IsInRange, IsComparable, is_lower_at_start, is_lower};
 ghost use Rattle.overlay_scan.specs.Scan.{empty_sweep, live_at, moved_to};
 ghost use Rattle.overlay_scan.specs.Scan.{MayMoveTo, IsOver, IsAsked, IsSweep, IsPutIn};
-ghost use Rattle.overlay_scan.specs.Scan.{MeetsOthers, IsNewAmong, value_below, IsCallableOn};
+ghost use Rattle.overlay_scan.specs.Scan.{MeetsOthers, IsNewAmong, value_below};
+ghost use Rattle.overlay_scan.specs.Scan.{IsCallableOn, IsAnsweredBy, AnswersRise, value_up_to};
 
 use crate::live::LiveEdges;
 use crate::scan::Scan;
@@ -52,10 +53,39 @@ impl<I: IntNumber, V: Copy, A: Allocator> ScanList<I, V, A> {
         }
     }
 
+    /// Returns the number of edges that the list holds, with those that have ended and are not yet dropped.
+    pub(crate) fn held_count(&self) -> usize
+        ensures { result ≡ held_count self.now }
+    {
+        self.live.len()
+    }
+
+    /// Moves to x, and drops the edges that have ended there.
+    pub(crate) fn drop_ended(&mut self, x: I)
+        ensures live { self.new.live ≡ filter (λ f. int_lt (I.whole x) (I.whole f.b.x)) self.old.live }
+        ensures reached { self.new.reached ≡ Some x }
+    {
+        self.live.drop_ended(x);
+        self.reached = Some(x);
+    }
+
+    /// Returns the edges that the list holds, from bottom to top.
+    pub(crate) fn held(&self) -> &[LiveEdge<I, V>]
+        ensures { result.now ≡ self.now.live }
+    {
+        self.live.as_slice()
+    }
+
+    /// Returns the allocator of the edges.
+    pub(crate) fn allocator(&self) -> &A {
+        self.live.allocator()
+    }
+
     // Looks up by an order at x.
     fn look_up<F: Fn(IntLine<I>) -> Ordering>(&mut self, x: I, order: &F) -> Option<V>
         requires { IsCallableOn I.whole (F.pre order.now) (live_of I.whole (I.whole x) self.old.live) }
         ensures found { IsLookedUp I.whole (F.post order.now) (I.whole x) self.old.live self.new.live [] result }
+        ensures no_more { held_count self.new ≤ held_count self.old }
         ensures reached { self.new.reached ≡ Some x }
     {
         let place = self.live.find(x, order);
@@ -72,6 +102,7 @@ impl<I: IntNumber, V: Copy, A: Allocator> ScanList<I, V, A> {
     ) -> Option<V>
         requires { IsCallableOn I.whole (F.pre order.now) (live_of I.whole (I.whole x) self.old.live) }
         ensures found { IsLookedUp I.whole (F.post order.now) (I.whole x) self.old.live self.new.live [] result }
+        ensures no_more { held_count self.new ≤ held_count self.old }
         ensures reached { self.new.reached ≡ Some x }
     {
         self.live.aim_at(v, x);
@@ -91,6 +122,8 @@ impl<I: IntNumber, V: Copy, A: Allocator> ScanList<I, V, A> {
             self.new.live (plain_entry I.whole entry ∷ []) v) }
         ensures err { OnErr result
             (live_of I.whole (I.whole x) self.new.live ≡ live_of I.whole (I.whole x) self.old.live) }
+        ensures one_more { OnOk result (held_count self.new ≤ held_count self.old + 1) }
+        ensures no_more { OnErr result (held_count self.new ≤ held_count self.old) }
         ensures reached { self.new.reached ≡ Some x }
     {
         let place = self.live.find(x, order);
@@ -119,6 +152,8 @@ impl<I: IntNumber, V: Copy, A: Allocator> Scan<I, V> for ScanList<I, V, A> {
         ensures reached { (plain_sweep I.whole self.new).reached ≡ Some (I.whole x) }
         ensures state { IsSweep I.limit (plain_sweep I.whole self.new) }
         ensures only { IsOkUnless result OverlayError.Memory }
+        ensures one_more { OnOk result (held_count self.new ≤ held_count self.old + 1) }
+        ensures no_more { OnErr result (held_count self.new ≤ held_count self.old) }
     {
         let entry = live_edge(edge, value);
         let asked = entry;
@@ -140,6 +175,7 @@ impl<I: IntNumber, V: Copy, A: Allocator> Scan<I, V> for ScanList<I, V, A> {
             (live_at (I.whole x) (plain_sweep I.whole self.old).entries) }
         ensures content { plain_sweep I.whole self.new ≡ moved_to (I.whole x) (plain_sweep I.whole self.old) }
         ensures state { IsSweep I.limit (plain_sweep I.whole self.new) }
+        ensures no_more { held_count self.new ≤ held_count self.old }
     {
         let asked = live_edge(edge, default);
         let order = |f: IntLine<I>| -> Ordering
@@ -155,7 +191,19 @@ impl<I: IntNumber, V: Copy, A: Allocator> Scan<I, V> for ScanList<I, V, A> {
         x: I,
         default: V,
         order: F,
-    ) -> V {
+    ) -> V
+        requires state { IsSweep I.limit (plain_sweep I.whole self.old) }
+        requires moves { MayMoveTo (I.whole x) (plain_sweep I.whole self.old) }
+        requires callable { IsCallableOn I.whole (F.pre order)
+            (live_at (I.whole x) (plain_sweep I.whole self.old).entries) }
+        ensures value { (answer : _) → IsAnsweredBy I.whole (F.post order) answer
+            (live_at (I.whole x) (plain_sweep I.whole self.old).entries)
+            → AnswersRise answer (live_at (I.whole x) (plain_sweep I.whole self.old).entries)
+            → result ≡ value_up_to default answer (live_at (I.whole x) (plain_sweep I.whole self.old).entries) }
+        ensures content { plain_sweep I.whole self.new ≡ moved_to (I.whole x) (plain_sweep I.whole self.old) }
+        ensures state { IsSweep I.limit (plain_sweep I.whole self.new) }
+        ensures no_more { held_count self.new ≤ held_count self.old }
+    {
         let value = self.look_up(x, &order);
         value.unwrap_or(default)
     }

@@ -1,6 +1,6 @@
 //! Live edges in a list that may still hold ended edges.
 
-ghost use Rattle.std.specs.Prelude.{◌≡◌, ◌≤◌, [], ◌∷◌, ◌++◌, true, take, drop, filter, int_lt, length};
+ghost use Rattle.std.specs.Prelude.{◌≡◌, ◌≤◌, ◌+◌, [], ◌∷◌, ◌++◌, true, take, drop, filter, int_lt, length};
 ghost use Rattle.std.specs.Prelude.{None, OnOk, OnErr, option_map};
 ghost use Rattle.std.specs.List.{last_or};
 ghost use Rattle.overlay_scan.specs.HeldEntries.{live_of};
@@ -62,6 +62,25 @@ impl<I: IntNumber, V: Copy, A: Allocator> LiveEdges<I, V, A> {
         }
     }
 
+    /// Returns the number of edges, ended ones too.
+    pub fn len(&self) -> usize
+        ensures { result ≡ length self.now }
+    {
+        self.entries.len()
+    }
+
+    /// Returns the edges from bottom to top, ended ones too.
+    pub fn as_slice(&self) -> &[LiveEdge<I, V>]
+        ensures { result.now ≡ self.now }
+    {
+        &self.entries
+    }
+
+    /// Returns the allocator of the edges.
+    pub fn allocator(&self) -> &A {
+        self.entries.allocator()
+    }
+
     /// Lets the next search, at x, begin at an edge that ends at the point, where the place of one is remembered.
     pub fn aim_at(&mut self, v: IntPoint<I>, x: I)
         ensures { self.new ≡ self.old }
@@ -78,6 +97,7 @@ impl<I: IntNumber, V: Copy, A: Allocator> LiveEdges<I, V, A> {
         requires { IsCallableOn I.whole (F.pre order.now) (live_of I.whole (I.whole x) self.old) }
         ensures kept { live_of I.whole (I.whole x) self.new ≡ live_of I.whole (I.whole x) self.old }
         ensures found { IsBetween I.whole (F.post order.now) (I.whole x) self.new result result }
+        ensures no_more { length self.new ≤ length self.old }
     {
         let place = match search(&self.entries, self.guess, MOST_ENDED, x, order) {
             Some(place) => place,
@@ -92,6 +112,7 @@ impl<I: IntNumber, V: Copy, A: Allocator> LiveEdges<I, V, A> {
         requires { IsCallableOn I.whole (F.pre order.now) (live_of I.whole (I.whole x) self.old) }
         ensures kept { live_of I.whole (I.whole x) self.new ≡ live_of I.whole (I.whole x) self.old }
         ensures found { IsBetween I.whole (F.post order.now) (I.whole x) self.new result result }
+        ensures no_more { length self.new ≤ length self.old }
     {
         self.drop_ended(x);
         match search(&self.entries, 0, self.entries.len(), x, order) {
@@ -119,6 +140,7 @@ impl<I: IntNumber, V: Copy, A: Allocator> LiveEdges<I, V, A> {
         requires live { int_lt (I.whole x) (I.whole edge.b.x) ≡ true }
         ensures ok { OnOk result (live_of I.whole (I.whole x) self.new ≡ live_of I.whole (I.whole x)
             (take place self.old) ++ plain_entry I.whole edge ∷ live_of I.whole (I.whole x) (drop place self.old)) }
+        ensures one_more { OnOk result (length self.new ≤ length self.old + 1) }
         ensures err { OnErr result (self.new ≡ self.old) }
     {
         self.guess = place.saturating_add(1);
@@ -136,6 +158,7 @@ impl<I: IntNumber, V: Copy, A: Allocator> LiveEdges<I, V, A> {
         requires live { int_lt (I.whole x) (I.whole edge.b.x) ≡ true }
         ensures ok { OnOk result (live_of I.whole (I.whole x) self.new ≡ live_of I.whole (I.whole x)
             (take place self.old) ++ plain_entry I.whole edge ∷ live_of I.whole (I.whole x) (drop place self.old)) }
+        ensures one_more { OnOk result (length self.new ≤ length self.old + 1) }
         ensures err { OnErr result (self.new ≡ self.old) }
     {
         self.entries.insert(place, edge)?;
@@ -148,8 +171,8 @@ impl<I: IntNumber, V: Copy, A: Allocator> LiveEdges<I, V, A> {
         Ok(())
     }
 
-    // Drops the edges that end at or before x.
-    fn drop_ended(&mut self, x: I)
+    /// Drops the edges that end at or before x.
+    pub fn drop_ended(&mut self, x: I)
         ensures { self.new ≡ filter (λ f. int_lt (I.whole x) (I.whole f.b.x)) self.old }
     {
         self.entries.retain(|f| x.compare(f.b.x).is_lt());
