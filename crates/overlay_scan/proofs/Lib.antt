@@ -8,6 +8,7 @@ mod Descending
 mod Distinct
 mod EdgesAside
 pub mod EntriesByStart
+mod Filling
 pub mod Found
 mod Freshness
 mod GoingDown

@@ -45,7 +45,7 @@ module _ {I V : Type 0} (whole : I → ℤ) (x : ℤ) where
       ∙ live_twice x x (omega (arith, ints)) (plain_entries whole es)
 
   module _ (es : List (LiveEdge I V)) (k : ℕ) (f : LiveEdge I V) (within : k < length es) (is : f ≡ get_or es k f) where
-    rest_is : drop k es ≡ f ∷ drop (k + 1) es
+    pub rest_is : drop k es ≡ f ∷ drop (k + 1) es
     rest_is = drop_more es k f within ∙ ap (λ g. g ∷ drop (k + 1) es) (sym is)
 
     -- from an entry on that has ended

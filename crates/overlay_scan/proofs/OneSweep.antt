@@ -10,14 +10,14 @@ use Rattle.overlay_scan.specs.Scan.{Entry, Sweep, live_at, IsPutIn}
 
 module _ {X : Type 0} (test : X → Bool) where
   -- where all pass, all are kept
-  all_kept : (xs : List X) → All (λ x. test x ≡ true) xs → filter test xs ≡ xs
+  pub all_kept : (xs : List X) → All (λ x. test x ≡ true) xs → filter test xs ≡ xs
   all_kept [] h = refl
   all_kept (x ∷ xs) h = ap (λ t. cond t (x ∷ filter test xs) (filter test xs))
       (All-head (λ x. test x ≡ true) x xs h)
       ∙ ap (λ ys. x ∷ ys) (all_kept xs (All-tail (λ x. test x ≡ true) x xs h))
 
   -- where none passes, none is kept
-  none_kept : (xs : List X) → All (λ x. test x ≡ false) xs → filter test xs ≡ []
+  pub none_kept : (xs : List X) → All (λ x. test x ≡ false) xs → filter test xs ≡ []
   none_kept [] h = refl
   none_kept (x ∷ xs) h = ap (λ t. cond t (x ∷ filter test xs) (filter test xs))
       (All-head (λ x. test x ≡ false) x xs h)

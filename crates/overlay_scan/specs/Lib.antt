@@ -13,3 +13,4 @@ pub mod Sides
 pub mod Store
 pub mod Sweeps
 pub mod Trees
+pub mod Turning

@@ -1,10 +1,11 @@
 //! Live edges in a list.
 
-ghost use Rattle.std.specs.Prelude.{◌≡◌, ◌≤◌, ◌+◌, [], ◌∷◌, true, not, int_lt, filter, Some, OnOk, OnErr, IsOkUnless};
+ghost use Rattle.std.specs.Prelude.{◌≡◌, ◌≤◌, ◌+◌, [], ◌∷◌, true, not, int_lt, Some, OnOk, OnErr, IsOkUnless};
 ghost use Rattle.std.specs.Ordering.{is_gt};
 ghost use Rattle.overlay_geom.specs.Lines.{plain_line};
 ghost use Rattle.overlay_scan.specs.HeldEntries.{live_of, plain_sweep, held_count, IsLookedUp};
-ghost use Rattle.overlay_scan.specs.Lists.{plain_entry, IsInRange, IsComparable, is_lower_at_start, is_lower};
+ghost use Rattle.overlay_scan.specs.Lists.{plain_entry, plain_entries, IsInRange, IsComparable};
+ghost use Rattle.overlay_scan.specs.Lists.{is_lower_at_start, is_lower};
 ghost use Rattle.overlay_scan.specs.Scan.{empty_sweep, live_at, moved_to};
 ghost use Rattle.overlay_scan.specs.Scan.{MayMoveTo, IsOver, IsAsked, IsSweep, IsPutIn};
 ghost use Rattle.overlay_scan.specs.Scan.{MeetsOthers, IsNewAmong, value_below};
@@ -62,8 +63,10 @@ impl<I: IntNumber, V: Copy, A: Allocator> ScanList<I, V, A> {
 
     /// Moves to x, and drops the edges that have ended there.
     pub(crate) fn drop_ended(&mut self, x: I)
-        ensures live { self.new.live ≡ filter (λ f. int_lt (I.whole x) (I.whole f.b.x)) self.old.live }
-        ensures reached { self.new.reached ≡ Some x }
+        requires { MayMoveTo (I.whole x) (plain_sweep I.whole self.old) }
+        ensures content { plain_sweep I.whole self.new ≡ moved_to (I.whole x) (plain_sweep I.whole self.old) }
+        ensures entries { (plain_sweep I.whole self.new).entries ≡ plain_entries I.whole self.new.live }
+        ensures no_more { held_count self.new ≤ held_count self.old }
     {
         self.live.drop_ended(x);
         self.reached = Some(x);

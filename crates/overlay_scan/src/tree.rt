@@ -31,6 +31,7 @@ mod nodes;
 mod rebalance;
 mod settle;
 mod take;
+mod turning;
 mod visits;
 
 /// A [`Scan`] that keeps its edges in a balanced tree. A look-up or an insert drops an ended edge when it meets it on

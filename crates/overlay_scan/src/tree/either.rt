@@ -1,48 +1,116 @@
-//! Live edges in a list or in a tree.
+//! Live edges in a list that turns into a tree.
 
-ghost use Rattle.std.specs.Prelude.{◌≡◌, ◌≤◌, ◌↔◌, true, Some, OnOk, OnErr, IsOkUnless};
+ghost use Rattle.std.specs.Prelude.{◌≡◌, true, false, Some, OnOk, OnErr, IsOkUnless};
 ghost use Rattle.overlay_geom.specs.Lines.{plain_line};
 ghost use Rattle.overlay_scan.specs.Scan.{empty_sweep, live_at, moved_to};
 ghost use Rattle.overlay_scan.specs.Scan.{MayMoveTo, IsOver, IsAsked, IsSweep, IsPutIn};
 ghost use Rattle.overlay_scan.specs.Scan.{MeetsOthers, IsNewAmong, value_below};
 ghost use Rattle.overlay_scan.specs.Scan.{IsCallableOn, IsAnsweredBy, AnswersRise, value_up_to};
-ghost use Rattle.overlay_scan.specs.EitherScans.{either_sweep, is_tree, tree_visits, IsQuickAsTree};
+ghost use Rattle.overlay_scan.specs.EitherScans.{either_sweep, begins_as_list, HoldsManyAsTree, IsQuickInEither};
+ghost use Rattle.overlay_scan.specs.Turning.{IsReady, HasRoom};
 
 use crate::list::ScanList;
 use crate::scan::Scan;
 use crate::tree::ScanTree;
+use crate::tree::turning::tree_if_many;
 use overlay_geom::error::OverlayError;
 use overlay_geom::number::IntNumber;
 use overlay_geom::path::IntLine;
 use std::alloc::Allocator;
 use std::cmp::Ordering;
+use std::marker::Model;
 
-/// A [`Scan`] in a list or in a tree. Both give equal answers; a tree visits few edges for each answer.
+// Greatest number of edges that a list holds. It is quicker than a tree up to some 1,000 live edges, and slower from
+// some 2,000 to 4,000 on.
+const MOST_LISTED: usize = 2000;
+
+/// A [`Scan`] that begins as a list, and turns into a tree when the list would hold more than a number of edges. Edges
+/// that have ended count until they are dropped. A full list drops them, and stays a list where less than half of the
+/// number are left. Both give equal answers; a tree visits few edges for each answer. A tree stays a tree, also after
+/// `clear`.
 #[derive(Drop)]
-pub enum EitherScan<I: IntNumber, V: Copy, A: Allocator> {
-    /// A list.
+pub struct EitherScan<I: IntNumber, V: Copy, A: Allocator> {
+    kept: Kept<I, V, A>,
+    // the greatest number of edges that a list holds
+    most: usize,
+}
+
+// What keeps the edges.
+#[derive(Drop)]
+enum Kept<I: IntNumber, V: Copy, A: Allocator> {
     List(ScanList<I, V, A>),
-    /// A tree.
     Tree(ScanTree<I, V, A>),
 }
 
+impl<I: IntNumber, V: Copy, A: Allocator> Model for EitherScan<I, V, A> {
+    ghost use Rattle.overlay_scan.specs.EitherScans.{EitherEdges, kept_edges, is_kept_in_tree, HoldsManyAsTree};
+
+    ghost Value = { EitherEdges I V };
+
+    ghost view = { λ s. record {
+      held = kept_edges s.kept;
+      is_tree = is_kept_in_tree s.kept;
+      most = s.most;
+    } };
+
+    ghost invariant = { λ s. HoldsManyAsTree (record {
+      held = kept_edges s.kept;
+      is_tree = is_kept_in_tree s.kept;
+      most = s.most;
+    }) };
+}
+
 impl<I: IntNumber, V: Copy, A: Allocator> EitherScan<I, V, A> {
-    /// Makes a scan without edges: a tree where `count` reaches `tree_from`, else a list. It will take its memory from
-    /// the allocator, and takes none yet.
-    pub fn for_count(alloc: A, count: usize, tree_from: usize) -> Self
+    /// Makes a scan without edges, which turns into a tree when it would hold more than 2,000. It will take its memory
+    /// from the allocator, and takes none yet.
+    pub fn default(alloc: A) -> Self
         ensures empty { either_sweep I.whole result ≡ empty_sweep }
-        ensures tree { (is_tree result ≡ true) ↔ (tree_from ≤ count) }
-        ensures visits { tree_visits result ≡ 0 }
+        ensures list { result ≡ begins_as_list 2000 }
     {
-        if count < tree_from {
-            EitherScan::List(ScanList::default(alloc))
-        } else {
-            EitherScan::Tree(ScanTree::default(alloc))
+        EitherScan::turning_at(alloc, MOST_LISTED)
+    }
+
+    /// Makes a scan without edges, which turns into a tree when it would hold more than `count`. Where `count` is 0, it
+    /// is a tree from the first edge on. It will take its memory from the allocator, and takes none yet.
+    pub fn turning_at(alloc: A, count: usize) -> Self
+        ensures empty { either_sweep I.whole result ≡ empty_sweep }
+        ensures list { result ≡ begins_as_list count }
+    {
+        EitherScan {
+            kept: Kept::List(ScanList::default(alloc)),
+            most: count,
         }
+    }
+
+    // Makes room for an edge at x. A full list drops the edges that have ended there, and turns into a tree where many
+    // are left.
+    fn make_room(&mut self, x: I) -> Result<(), OverlayError>
+    where
+        A: Clone,
+        requires state { IsSweep I.limit (either_sweep I.whole self.old) }
+        requires moves { MayMoveTo (I.whole x) (either_sweep I.whole self.old) }
+        ensures ok { OnOk result (HasRoom self.old self.new) }
+        ensures ready { OnOk result (IsReady I.limit (I.whole x) (either_sweep I.whole self.old)
+            (either_sweep I.whole self.new)) }
+        ensures err { OnErr result
+            (either_sweep I.whole self.new ≡ moved_to (I.whole x) (either_sweep I.whole self.old)) }
+        ensures quick_err { OnErr result (IsQuickInEither self.old self.new 0) }
+        ensures only { IsOkUnless result OverlayError.Memory }
+    {
+        let Kept::List(list) = &mut self.kept else {
+            return Ok(());
+        };
+        if list.held_count() < self.most {
+            return Ok(());
+        }
+        if let Some(tree) = tree_if_many(list, self.most, x)? {
+            self.kept = Kept::Tree(tree);
+        }
+        Ok(())
     }
 }
 
-impl<I: IntNumber, V: Copy, A: Allocator> Scan<I, V> for EitherScan<I, V, A> {
+impl<I: IntNumber, V: Copy, A: Allocator + Clone> Scan<I, V> for EitherScan<I, V, A> {
     ghost use Rattle.overlay_scan.specs.EitherScans.{either_sweep};
 
     ghost content = { either_sweep I.whole };
@@ -62,13 +130,13 @@ impl<I: IntNumber, V: Copy, A: Allocator> Scan<I, V> for EitherScan<I, V, A> {
         ensures reached { (either_sweep I.whole self.new).reached ≡ Some (I.whole x) }
         ensures state { IsSweep I.limit (either_sweep I.whole self.new) }
         ensures only { IsOkUnless result OverlayError.Memory }
-        ensures kind { is_tree self.new ≡ is_tree self.old }
-        ensures quick { OnOk result (IsQuickAsTree self.old self.new 1) }
-        ensures quick_err { OnErr result (IsQuickAsTree self.old self.new 0) }
+        ensures quick { OnOk result (IsQuickInEither self.old self.new 1) }
+        ensures quick_err { OnErr result (IsQuickInEither self.old self.new 0) }
     {
-        match self {
-            EitherScan::List(list) => list.insert(edge, value, x),
-            EitherScan::Tree(tree) => tree.insert(edge, value, x),
+        self.make_room(x)?;
+        match &mut self.kept {
+            Kept::List(list) => list.insert(edge, value, x),
+            Kept::Tree(tree) => tree.insert(edge, value, x),
         }
     }
 
@@ -82,11 +150,12 @@ impl<I: IntNumber, V: Copy, A: Allocator> Scan<I, V> for EitherScan<I, V, A> {
             (live_at (I.whole x) (either_sweep I.whole self.old).entries) }
         ensures content { either_sweep I.whole self.new ≡ moved_to (I.whole x) (either_sweep I.whole self.old) }
         ensures state { IsSweep I.limit (either_sweep I.whole self.new) }
-        ensures quick { IsQuickAsTree self.old self.new 0 }
+        ensures kind { self.new.is_tree ≡ self.old.is_tree }
+        ensures quick { IsQuickInEither self.old self.new 0 }
     {
-        match self {
-            EitherScan::List(list) => list.first_less(x, default, edge),
-            EitherScan::Tree(tree) => tree.first_less(x, default, edge),
+        match &mut self.kept {
+            Kept::List(list) => list.first_less(x, default, edge),
+            Kept::Tree(tree) => tree.first_less(x, default, edge),
         }
     }
 
@@ -106,22 +175,24 @@ impl<I: IntNumber, V: Copy, A: Allocator> Scan<I, V> for EitherScan<I, V, A> {
             → result ≡ value_up_to default answer (live_at (I.whole x) (either_sweep I.whole self.old).entries) }
         ensures content { either_sweep I.whole self.new ≡ moved_to (I.whole x) (either_sweep I.whole self.old) }
         ensures state { IsSweep I.limit (either_sweep I.whole self.new) }
-        ensures quick { IsQuickAsTree self.old self.new 0 }
+        ensures kind { self.new.is_tree ≡ self.old.is_tree }
+        ensures quick { IsQuickInEither self.old self.new 0 }
     {
-        match self {
-            EitherScan::List(list) => list.first_less_or_equal_by(x, default, order),
-            EitherScan::Tree(tree) => tree.first_less_or_equal_by(x, default, order),
+        match &mut self.kept {
+            Kept::List(list) => list.first_less_or_equal_by(x, default, order),
+            Kept::Tree(tree) => tree.first_less_or_equal_by(x, default, order),
         }
     }
 
     fn clear(&mut self)
         ensures empty { either_sweep I.whole self.new ≡ empty_sweep }
-        ensures kind { is_tree self.new ≡ is_tree self.old }
-        ensures visits { tree_visits self.new ≡ tree_visits self.old }
+        ensures kind { self.new.is_tree ≡ self.old.is_tree }
+        ensures number { self.new.most ≡ self.old.most }
+        ensures visits { self.new.held.visits ≡ self.old.held.visits }
     {
-        match self {
-            EitherScan::List(list) => list.clear(),
-            EitherScan::Tree(tree) => tree.clear(),
+        match &mut self.kept {
+            Kept::List(list) => list.clear(),
+            Kept::Tree(tree) => tree.clear(),
         }
     }
 }
