@@ -170,10 +170,3 @@ module _ {I V : Type 0} (whole : I → ℤ) (limit : ℕ) (x : ℤ) (es : List (
             (filled.few digits (omega (arith, one_more)))
             (quick.visited.few digits (let was = filled.count in omega (arith, one_more))));
       }
-
--- an empty tree holds none of the edges
-pub filled_none : {I V : Type 0} (whole : I → ℤ) (limit : ℕ) (x : ℤ) (t : HeldEdges I V) → t.entries ≡ [] →
-    t.reached ≡ None → t.visits ≡ 0 → IsTreeOf whole limit x [] t
-filled_none whole limit x t empty begun none = subst (IsTreeOf whole limit x [])
-    (sym (λ j. record { entries = empty j; reached = begun j; visits = none j }))
-    (record { entries = refl; state = refl; moves = tt; count = refl; few = λ digits low. omega arith })

@@ -30,6 +30,7 @@ pub mod Searching
 mod Settling
 mod Standing
 pub mod SweptEntries
+mod Turned
 mod Walks
 pub mod WindingsBelow
 pub mod WindingsLookedUp

@@ -1,9 +1,11 @@
 -- The model of a scan that begins as a list and turns into a tree.
-use Rattle.std.specs.Prelude.{◌≡◌, ℕ, ◌+◌, ◌*◌, ◌^◌, ◌<◌, ◌≤◌, ℤ, Bool, true, false, [], length, None}
+use Rattle.std.specs.Prelude.{◌≡◌, ℕ, ◌+◌, ◌*◌, ◌^◌, ◌<◌, ◌≤◌, ℤ, Bool, true, false, List, length}
+use Rattle.std.specs.Prelude.{Option}
 use Rattle.overlay_scan.specs.Scan.{Sweep}
 use Rattle.overlay_scan.specs.HeldEdges.{HeldEdges, held_sweep, IsQuick}
+use Rattle.overlay_scan.specs.declared.list.LiveEdge.{LiveEdge}
 use Rattle.overlay_scan.specs.declared.tree.either.Kept.{Kept}
-use Rattle.overlay_scan.specs.declared.tree.either.Kept.TheVariants.{List, Tree}
+use Rattle.overlay_scan.specs.declared.tree.either.Kept.TheVariants.{Listed, Treed}
 
 -- the held edges, in a list or in a tree, and the greatest number of edges that a list holds
 pub record EitherEdges (I V : Type 0) : Type 0 where
@@ -13,21 +15,25 @@ pub record EitherEdges (I V : Type 0) : Type 0 where
 
 -- the edges that a list or a tree holds. A list counts no visits
 abbrev pub kept_edges : {I V A W U : Type 0} → Kept I V A W U → HeldEdges I V
-kept_edges (List s) = record { entries = s.live; reached = s.reached; visits = 0 }
-kept_edges (Tree s) = s
+kept_edges (Listed s) = record { entries = s.live; reached = s.reached; visits = 0 }
+kept_edges (Treed s) = s
 
 -- a tree keeps them
 abbrev pub is_kept_in_tree : {I V A W U : Type 0} → Kept I V A W U → Bool
-is_kept_in_tree (List s) = false
-is_kept_in_tree (Tree s) = true
+is_kept_in_tree (Listed s) = false
+is_kept_in_tree (Treed s) = true
 
--- a list without edges, before the sweep begins
-abbrev pub begins_as_list : {I V : Type 0} → ℕ → EitherEdges I V
-begins_as_list most = record {
-  held = record { entries = []; reached = None; visits = 0 };
+-- a list of edges, which has come to an x
+abbrev pub in_list : {I V : Type 0} → List (LiveEdge I V) → Option I → ℕ → EitherEdges I V
+in_list es reached most = record {
+  held = record { entries = es; reached = reached; visits = 0 };
   is_tree = false;
   most = most;
 }
+
+-- a tree of edges
+abbrev pub in_tree : {I V : Type 0} → HeldEdges I V → ℕ → EitherEdges I V
+in_tree t most = record { held = t; is_tree = true; most = most }
 
 -- the sweep that a scan stands for
 abbrev pub either_sweep : {I V : Type 0} → (I → ℤ) → EitherEdges I V → Sweep V

@@ -1,12 +1,12 @@
 //! Live edges in a list that turns into a tree.
 
-ghost use Rattle.std.specs.Prelude.{◌≡◌, true, false, Some, OnOk, OnErr, IsOkUnless};
+ghost use Rattle.std.specs.Prelude.{◌≡◌, [], None, Some, OnOk, OnErr, IsOkUnless};
 ghost use Rattle.overlay_geom.specs.Lines.{plain_line};
 ghost use Rattle.overlay_scan.specs.Scan.{empty_sweep, live_at, moved_to};
 ghost use Rattle.overlay_scan.specs.Scan.{MayMoveTo, IsOver, IsAsked, IsSweep, IsPutIn};
 ghost use Rattle.overlay_scan.specs.Scan.{MeetsOthers, IsNewAmong, value_below};
 ghost use Rattle.overlay_scan.specs.Scan.{IsCallableOn, IsAnsweredBy, AnswersRise, value_up_to};
-ghost use Rattle.overlay_scan.specs.EitherScans.{either_sweep, begins_as_list, HoldsManyAsTree, IsQuickInEither};
+ghost use Rattle.overlay_scan.specs.EitherScans.{either_sweep, in_list, in_tree, IsQuickInEither};
 ghost use Rattle.overlay_scan.specs.Turning.{IsReady, HasRoom};
 
 use crate::list::ScanList;
@@ -38,8 +38,8 @@ pub struct EitherScan<I: IntNumber, V: Copy, A: Allocator> {
 // What keeps the edges.
 #[derive(Drop)]
 enum Kept<I: IntNumber, V: Copy, A: Allocator> {
-    List(ScanList<I, V, A>),
-    Tree(ScanTree<I, V, A>),
+    Listed(ScanList<I, V, A>),
+    Treed(ScanTree<I, V, A>),
 }
 
 impl<I: IntNumber, V: Copy, A: Allocator> Model for EitherScan<I, V, A> {
@@ -65,7 +65,7 @@ impl<I: IntNumber, V: Copy, A: Allocator> EitherScan<I, V, A> {
     /// from the allocator, and takes none yet.
     pub fn default(alloc: A) -> Self
         ensures empty { either_sweep I.whole result ≡ empty_sweep }
-        ensures list { result ≡ begins_as_list 2000 }
+        ensures list { result ≡ in_list [] None 2000 }
     {
         EitherScan::turning_at(alloc, MOST_LISTED)
     }
@@ -74,10 +74,10 @@ impl<I: IntNumber, V: Copy, A: Allocator> EitherScan<I, V, A> {
     /// is a tree from the first edge on. It will take its memory from the allocator, and takes none yet.
     pub fn turning_at(alloc: A, count: usize) -> Self
         ensures empty { either_sweep I.whole result ≡ empty_sweep }
-        ensures list { result ≡ begins_as_list count }
+        ensures list { result ≡ in_list [] None count }
     {
         EitherScan {
-            kept: Kept::List(ScanList::default(alloc)),
+            kept: Kept::Listed(ScanList::default(alloc)),
             most: count,
         }
     }
@@ -97,16 +97,23 @@ impl<I: IntNumber, V: Copy, A: Allocator> EitherScan<I, V, A> {
         ensures quick_err { OnErr result (IsQuickInEither self.old self.new 0) }
         ensures only { IsOkUnless result OverlayError.Memory }
     {
-        let Kept::List(list) = &mut self.kept else {
+        let Kept::Listed(list) = &mut self.kept else {
             return Ok(());
         };
         if list.held_count() < self.most {
             return Ok(());
         }
         if let Some(tree) = tree_if_many(list, self.most, x)? {
-            self.kept = Kept::Tree(tree);
+            self.turn_into(tree);
         }
         Ok(())
+    }
+
+    // Becomes a tree.
+    fn turn_into(&mut self, tree: ScanTree<I, V, A>)
+        ensures { self.new ≡ in_tree tree self.old.most }
+    {
+        self.kept = Kept::Treed(tree);
     }
 }
 
@@ -135,8 +142,8 @@ impl<I: IntNumber, V: Copy, A: Allocator + Clone> Scan<I, V> for EitherScan<I, V
     {
         self.make_room(x)?;
         match &mut self.kept {
-            Kept::List(list) => list.insert(edge, value, x),
-            Kept::Tree(tree) => tree.insert(edge, value, x),
+            Kept::Listed(list) => list.insert(edge, value, x),
+            Kept::Treed(tree) => tree.insert(edge, value, x),
         }
     }
 
@@ -154,8 +161,8 @@ impl<I: IntNumber, V: Copy, A: Allocator + Clone> Scan<I, V> for EitherScan<I, V
         ensures quick { IsQuickInEither self.old self.new 0 }
     {
         match &mut self.kept {
-            Kept::List(list) => list.first_less(x, default, edge),
-            Kept::Tree(tree) => tree.first_less(x, default, edge),
+            Kept::Listed(list) => list.first_less(x, default, edge),
+            Kept::Treed(tree) => tree.first_less(x, default, edge),
         }
     }
 
@@ -179,8 +186,8 @@ impl<I: IntNumber, V: Copy, A: Allocator + Clone> Scan<I, V> for EitherScan<I, V
         ensures quick { IsQuickInEither self.old self.new 0 }
     {
         match &mut self.kept {
-            Kept::List(list) => list.first_less_or_equal_by(x, default, order),
-            Kept::Tree(tree) => tree.first_less_or_equal_by(x, default, order),
+            Kept::Listed(list) => list.first_less_or_equal_by(x, default, order),
+            Kept::Treed(tree) => tree.first_less_or_equal_by(x, default, order),
         }
     }
 
@@ -191,8 +198,8 @@ impl<I: IntNumber, V: Copy, A: Allocator + Clone> Scan<I, V> for EitherScan<I, V
         ensures visits { self.new.held.visits ≡ self.old.held.visits }
     {
         match &mut self.kept {
-            Kept::List(list) => list.clear(),
-            Kept::Tree(tree) => tree.clear(),
+            Kept::Listed(list) => list.clear(),
+            Kept::Treed(tree) => tree.clear(),
         }
     }
 }

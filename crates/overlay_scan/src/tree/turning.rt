@@ -24,6 +24,7 @@ pub(crate) fn tree_if_many<I: IntNumber, V: Copy, A: Allocator + Clone>(
     requires moves { MayMoveTo (I.whole x) (plain_sweep I.whole list.old) }
     ensures ok { IfOk result (HasRoomOrTree I.whole I.limit (I.whole x) most list.new.live) }
     ensures list { plain_sweep I.whole list.new ≡ moved_to (I.whole x) (plain_sweep I.whole list.old) }
+    ensures entries { (plain_sweep I.whole list.new).entries ≡ plain_entries I.whole list.new.live }
     ensures no_more { held_count list.new ≤ held_count list.old }
     ensures only { IsOkUnless result OverlayError.Memory }
 {

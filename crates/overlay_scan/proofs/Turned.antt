@@ -1,0 +1,50 @@
+-- A list that makes room for an edge, and a call after that.
+use Rattle.std.proofs.Common.{◌≡◌, true, false, ℕ, ◌+◌, ◌*◌, ◌^◌, ◌<◌, ◌≤◌, ℤ, ◌≤ℤ◌, List, length, Option, None, Some}
+use Rattle.std.proofs.Common.{refl, sym, ap, subst, ◌∙◌, arith}
+use Rattle.std.proofs.lemmas.Int.{ints}
+use Rattle.std.proofs.lemmas.Bool.{false≢true}
+use Rattle.std.specs.Option.{IfSome}
+use Rattle.overlay_scan.specs.EitherScans.{in_list, in_tree}
+use Rattle.overlay_scan.specs.HeldEdges.{HeldEdges, held_sweep}
+use Rattle.overlay_scan.specs.Lists.{plain_entries}
+use Rattle.overlay_scan.specs.Scan.{Sweep, live_at, moved_to, MayMoveTo, IsSweep}
+use Rattle.overlay_scan.specs.Turning.{IsReady, IsTreeOf, HasRoomOrTree, HasRoom}
+use Rattle.overlay_scan.specs.declared.list.LiveEdge.{LiveEdge}
+use Rattle.overlay_scan.proofs.Found.{live_twice}
+use Rattle.overlay_scan.proofs.Moving.{sweep_moved}
+
+-- a sweep that has moved to x is ready there
+pub ready_moved : {V : Type 0} (limit : ℕ) (x : ℤ) (old new : Sweep V) → IsSweep limit old → MayMoveTo x old →
+    new ≡ moved_to x old → IsReady limit x old new
+ready_moved limit x old new state moves is = record {
+  live = ap (λ s. live_at x s.entries) is ∙ live_twice x x (omega (arith, ints)) old.entries;
+  state = sweep_moved limit x old new state moves is;
+  moves = subst (MayMoveTo x) (sym is) (omega (arith, ints));
+}
+
+module _ {I V : Type 0} (whole : I → ℤ) (limit : ℕ) (x : ℤ) (most : ℕ) (es : List (LiveEdge I V)) (t : HeldEdges I V)
+    (made : HasRoomOrTree whole limit x most es (Some t)) where
+  -- a tree of the live edges too
+  pub ready_in_tree : (old : Sweep V) → plain_entries whole es ≡ live_at x old.entries →
+      IsReady limit x old (held_sweep whole t)
+  ready_in_tree old are = record {
+    live = ap (live_at x) (made.0.entries ∙ are) ∙ live_twice x x (omega (arith, ints)) old.entries;
+    state = made.0.state;
+    moves = made.0.moves;
+  }
+
+  -- a full list turns into it
+  pub has_turned : (old : List (LiveEdge I V)) (reached : Option I) → most ≤ length old → length es ≤ length old →
+      HasRoom (in_list old reached most) (in_tree t most)
+  has_turned old reached full fewer = record {
+    same = refl;
+    tree = λ is. absurd (false≢true is);
+    list = λ was is. absurd (false≢true (sym is));
+    turns = λ was is. record {
+      full = full;
+      half = let half = made.1 in let count = made.0.count in omega arith;
+      no_more = let count = made.0.count in omega arith;
+      few = subst (λ n. (digits : ℕ) → n < 2 ^ digits → t.visits ≤ 0 + 2 * n * digits) (sym made.0.count)
+          (λ digits low. let visits = made.0.few digits low in omega arith);
+    };
+  }
