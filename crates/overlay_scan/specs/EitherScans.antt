@@ -23,6 +23,10 @@ abbrev pub is_kept_in_tree : {I V A W U : Type 0} → Kept I V A W U → Bool
 is_kept_in_tree (Listed s) = false
 is_kept_in_tree (Treed s) = true
 
+-- what a scan with this number holds
+abbrev pub either_edges : {I V A W U : Type 0} → Kept I V A W U → ℕ → EitherEdges I V
+either_edges kept most = record { held = kept_edges kept; is_tree = is_kept_in_tree kept; most = most }
+
 -- a list of edges, which has come to an x
 abbrev pub in_list : {I V : Type 0} → List (LiveEdge I V) → Option I → ℕ → EitherEdges I V
 in_list es reached most = record {

@@ -43,21 +43,13 @@ enum Kept<I: IntNumber, V: Copy, A: Allocator> {
 }
 
 impl<I: IntNumber, V: Copy, A: Allocator> Model for EitherScan<I, V, A> {
-    ghost use Rattle.overlay_scan.specs.EitherScans.{EitherEdges, kept_edges, is_kept_in_tree, HoldsManyAsTree};
+    ghost use Rattle.overlay_scan.specs.EitherScans.{EitherEdges, either_edges, HoldsManyAsTree};
 
     ghost Value = { EitherEdges I V };
 
-    ghost view = { λ s. record {
-      held = kept_edges s.kept;
-      is_tree = is_kept_in_tree s.kept;
-      most = s.most;
-    } };
+    ghost view = { λ s. either_edges s.kept s.most };
 
-    ghost invariant = { λ s. HoldsManyAsTree (record {
-      held = kept_edges s.kept;
-      is_tree = is_kept_in_tree s.kept;
-      most = s.most;
-    }) };
+    ghost invariant = { λ s. HoldsManyAsTree (either_edges s.kept s.most) };
 }
 
 impl<I: IntNumber, V: Copy, A: Allocator> EitherScan<I, V, A> {
