@@ -31,6 +31,7 @@ mod Settling
 mod Standing
 pub mod SweptEntries
 mod Turned
+mod TurningCalls
 mod Walks
 pub mod WindingsBelow
 pub mod WindingsLookedUp

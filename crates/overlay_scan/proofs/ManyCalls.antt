@@ -10,7 +10,7 @@ use Rattle.overlay_scan.specs.HeldEdges.{HeldEdges, held_sweep}
 use Rattle.overlay_scan.specs.Runs.{Call, AreQuick, after_all, put_in_all, RunsAreQuick}
 
 -- one call, and those after it
-one_more : (old now next held left dropped put calls rest digits : ℕ) → left + dropped ≡ held + put →
+pub one_more : (old now next held left dropped put calls rest digits : ℕ) → left + dropped ≡ held + put →
     now ≤ old + 2 * (dropped + 1) * digits → next ≤ now + 2 * (calls + rest + left) * digits →
     next ≤ old + 2 * (calls + 1 + (put + rest) + held) * digits
 one_more old now next held left dropped put calls rest digits count first others =
@@ -43,7 +43,7 @@ module _ {I V : Type 0} (whole : I → ℤ) where
   nothing_where None (e ∷ es) none empty = let long = ap length empty in absurd (omega arith)
   nothing_where (Some x) es none empty = absurd (subst (λ o. MatchOption o ⊥ (λ _. Unit {0})) none tt)
 
-  nothing_held : (s : HeldEdges I V) → held_sweep whole s ≡ empty_sweep → length s.entries ≡ 0
+  pub nothing_held : (s : HeldEdges I V) → held_sweep whole s ≡ empty_sweep → length s.entries ≡ 0
   nothing_held s empty = nothing_where s.reached s.entries (ap (λ w. w.reached) empty) (ap (λ w. w.entries) empty)
 
 pub runs_are_quick : {I : Type 0} (whole : I → ℤ) (V : Type 0) → RunsAreQuick whole V

@@ -1,5 +1,6 @@
 pub mod Descents
 pub mod Determined
+pub mod EitherRuns
 pub mod EitherScans
 pub mod Forests
 pub mod HeldEdges
