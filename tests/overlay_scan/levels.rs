@@ -207,7 +207,7 @@ fn check_cleared<I: SmallNumber, S: Scan<I, u16>>(
 }
 
 // Two edges, a third between them that ends before them, and a new beginning.
-fn check_sweep<I: SmallNumber, S: Scan<I, u16> + Drop>(
+pub(crate) fn check_sweep<I: SmallNumber, S: Scan<I, u16> + Drop>(
     rt: &impl Abort,
     scan: S,
 ) -> Result<(), OverlayError> {

@@ -1,7 +1,9 @@
-//! Tests of `overlay_scan`: sweeps that keep their live edges in a list or in a tree.
+//! Tests of `overlay_scan`: sweeps that keep their live edges in a list, in a tree, or in a list that turns into
+//! a tree.
 
 mod held;
 mod levels;
 mod list;
 mod many;
 mod orders;
+mod turning;

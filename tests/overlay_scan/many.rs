@@ -6,6 +6,7 @@ use overlay_geom::error::OverlayError;
 use overlay_scan::list::ScanList;
 use overlay_scan::scan::Scan;
 use overlay_scan::tree::ScanTree;
+use overlay_scan::tree::either::EitherScan;
 use refusing_alloc::refusing::Refusing;
 use std::alloc::Global;
 use std::process::Abort;
@@ -16,6 +17,9 @@ const LATER: u16 = 100;
 // Number of edges at coordinate types beside the first.
 const FEWER: u16 = 1000;
 
+// Number of edges at which a list turns into a tree whose growths are refused.
+const TURNING_AT: usize = 300;
+
 // Start and end of the n-th edge. Ends differ, so that some edges have ended later on.
 fn span_at(n: u16) -> (u16, u16) {
     let x = n / 100;
@@ -23,7 +27,7 @@ fn span_at(n: u16) -> (u16, u16) {
 }
 
 // The n-th height, or a height that no edge has.
-fn height_at(heights: &[u16], n: u16) -> u16 {
+pub(crate) fn height_at(heights: &[u16], n: u16) -> u16 {
     match heights.get(usize::from(n)) {
         Some(height) => *height,
         None => NONE,
@@ -62,7 +66,7 @@ fn put_and_ask<I: SmallNumber, S: Scan<I, u16>, T: Scan<I, u16>>(
 }
 
 // Inserts the edges of a range into both, and asks both after each.
-fn check_order<I: SmallNumber, S: Scan<I, u16>, T: Scan<I, u16>>(
+pub(crate) fn check_order<I: SmallNumber, S: Scan<I, u16>, T: Scan<I, u16>>(
     rt: &impl Abort,
     list: &mut Levels<S>,
     tree: &mut Levels<T>,
@@ -129,32 +133,70 @@ fn check_refused<I: SmallNumber, S: Scan<I, u16>, T: Scan<I, u16>>(
     Ok(false)
 }
 
-// Makes that check with this number of requests of the tree granted, and returns whether one was refused.
-fn is_refused_after<I: SmallNumber>(
+// Makes that check of an empty scan with this number of requests granted, and returns whether one was refused.
+fn is_refused_after<I: SmallNumber, T: Scan<I, u16> + Drop>(
+    rt: &impl Abort,
+    alloc: Global,
+    memory: &Refusing<Global>,
+    tree: T,
+) -> Result<bool, OverlayError> {
+    let heights = heights_in(alloc, Order::Random)?;
+    let list: ScanList<I, u16, _> = ScanList::default(alloc);
+    let mut list = Levels::new(list);
+    let mut tree = Levels::new(tree);
+    check_refused(rt, &mut list, &mut tree, memory, &heights)
+}
+
+// Makes the check of a tree.
+fn is_tree_refused_after<I: SmallNumber>(
     rt: &impl Abort,
     alloc: Global,
     granted: u64,
 ) -> Result<bool, OverlayError> {
-    let heights = heights_in(alloc, Order::Random)?;
     let memory = Refusing::new(alloc, granted);
-    let list: ScanList<I, u16, _> = ScanList::default(alloc);
     let tree: ScanTree<I, u16, _> = ScanTree::default(&memory);
-    let mut list = Levels::new(list);
-    let mut tree = Levels::new(tree);
-    check_refused(rt, &mut list, &mut tree, &memory, &heights)
+    is_refused_after::<I, _>(rt, alloc, &memory, tree)
 }
 
-// Refuses each growth in turn, until none is left.
+// Makes the check of a list that turns into a tree.
+fn is_turning_refused_after<I: SmallNumber>(
+    rt: &impl Abort,
+    alloc: Global,
+    granted: u64,
+) -> Result<bool, OverlayError> {
+    let memory = Refusing::new(alloc, granted);
+    let turning: EitherScan<I, u16, _> = EitherScan::turning_at(&memory, TURNING_AT);
+    is_refused_after::<I, _>(rt, alloc, &memory, turning)
+}
+
+// Refuses each growth of a tree in turn, until none is left.
 fn check_growths<I: SmallNumber>(rt: &impl Abort, alloc: Global) -> Result<(), OverlayError> {
     let mut last = 0;
     for granted in 0..64 {
-        if !is_refused_after::<I>(rt, alloc, granted)? {
+        if !is_tree_refused_after::<I>(rt, alloc, granted)? {
             break;
         }
         last = granted;
     }
     // the nodes grow to twice their number, again and again
     assert!(rt; 4 < last && last < 63);
+    Ok(())
+}
+
+// Refuses each growth of a list that turns in turn, until none is left.
+fn check_turning_growths<I: SmallNumber>(
+    rt: &impl Abort,
+    alloc: Global,
+) -> Result<(), OverlayError> {
+    let mut last = 0;
+    for granted in 0..64 {
+        if !is_turning_refused_after::<I>(rt, alloc, granted)? {
+            break;
+        }
+        last = granted;
+    }
+    // the list grows, and then the nodes from the first on
+    assert!(rt; 8 < last && last < 63);
     Ok(())
 }
 
@@ -170,6 +212,13 @@ fn each_growth_refused_in_turn(rt: HostRuntime) -> Result<(), OverlayError> {
     check_growths::<i16>(&rt, rt.alloc())?;
     check_growths::<i32>(&rt, rt.alloc())?;
     check_growths::<i64>(&rt, rt.alloc())
+}
+
+#[test]
+fn each_growth_of_a_turning_list_refused_in_turn(rt: HostRuntime) -> Result<(), OverlayError> {
+    check_turning_growths::<i16>(&rt, rt.alloc())?;
+    check_turning_growths::<i32>(&rt, rt.alloc())?;
+    check_turning_growths::<i64>(&rt, rt.alloc())
 }
 
 #[test]
