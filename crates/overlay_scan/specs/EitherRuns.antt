@@ -23,8 +23,8 @@ abbrev pub put_in_each : {I V : Type 0} → List (EitherCall I V) → ℕ
 put_in_each [] = 0
 put_in_each (c ∷ cs) = c.put + put_in_each cs
 
--- let calls from an empty scan on insert k edges. They make at most 2 visits for each call and 4 for each inserted edge,
--- for each binary digit of k + 1, also where the list turns into a tree
+-- let calls from an empty scan on insert k edges. For each binary digit of k + 1 they make at most 2 visits for each
+-- call and 4 for each inserted edge, also where the list turns into a tree
 abbrev pub EitherRunsAreQuick : {I : Type 0} → (I → ℤ) → Type 0 → Type 0
 EitherRunsAreQuick {I = I} whole V = (s : EitherEdges I V) (cs : List (EitherCall I V)) →
     either_sweep whole s ≡ empty_sweep → AreQuickInEither s cs → (digits : ℕ) → put_in_each cs + 1 < 2 ^ digits →

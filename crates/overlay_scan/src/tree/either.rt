@@ -76,6 +76,7 @@ impl<I: IntNumber, V: Copy, A: Allocator> EitherScan<I, V, A> {
 
     // Makes room for an edge at x. A full list drops the edges that have ended there, and turns into a tree where many
     // are left.
+    #[inline(always)]
     fn make_room(&mut self, x: I) -> Result<(), OverlayError>
     where
         A: Clone,
@@ -102,6 +103,7 @@ impl<I: IntNumber, V: Copy, A: Allocator> EitherScan<I, V, A> {
     }
 
     // Becomes a tree.
+    #[cold]
     fn turn_into(&mut self, tree: ScanTree<I, V, A>)
         ensures { self.new ≡ in_tree tree self.old.most }
     {

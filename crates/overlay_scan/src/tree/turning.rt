@@ -15,6 +15,7 @@ use std::alloc::Allocator;
 
 /// Drops the edges of a list that have ended at x. Where half of the number `most` or more are left, it returns a tree
 /// of them; the list still holds them. Else it returns `None`.
+#[cold]
 pub(crate) fn tree_if_many<I: IntNumber, V: Copy, A: Allocator + Clone>(
     list: &mut ScanList<I, V, A>,
     most: usize,
