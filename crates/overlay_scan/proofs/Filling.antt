@@ -1,5 +1,5 @@
 -- Edges that are live at x are put into a tree one by one, from bottom to top.
-use Rattle.std.proofs.Common.{◌≡◌, Bool, true, false, not, ℕ, ◌+◌, ◌*◌, ◌^◌, ◌<◌, ◌≤◌, ℤ, pos, ◌≤ℤ◌, int_lt, List, []}
+use Rattle.std.proofs.Common.{◌≡◌, Bool, true, false, not, ℕ, ◌+◌, ◌*◌, ◌<◌, ◌≤◌, ℤ, pos, ◌≤ℤ◌, int_lt, List, []}
 use Rattle.std.proofs.Common.{◌∷◌, ◌++◌, length, take, drop, get_or, Option, None, Some, refl, sym, ap, ap₂, ◌∙◌}
 use Rattle.std.proofs.Common.{subst, arith}
 use Rattle.std.proofs.lemmas.Int.{ints}
@@ -21,7 +21,7 @@ use Rattle.overlay_plane.proofs.Under.{covers_to, under_irreflexive}
 use Rattle.overlay_scan.specs.HeldEdges.{HeldEdges, held_sweep, IsQuick}
 use Rattle.overlay_scan.specs.HeldEntries.{live_where}
 use Rattle.overlay_scan.specs.Lists.{plain_entry, plain_entries}
-use Rattle.overlay_scan.specs.Scan.{Entry, live_at, MayMoveTo, IsOver, AreLive, IsSweep, IsPutIn, MeetsOthers}
+use Rattle.overlay_scan.specs.Scan.{Entry, live_at, IsOver, AreLive, IsSweep, IsPutIn, MeetsOthers}
 use Rattle.overlay_scan.specs.Scan.{IsNewAmong}
 use Rattle.overlay_scan.specs.Turning.{IsTreeOf}
 use Rattle.overlay_scan.specs.declared.list.LiveEdge.{LiveEdge}

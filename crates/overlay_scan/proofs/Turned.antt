@@ -1,14 +1,13 @@
 -- A list that makes room for an edge, and a call after that.
-use Rattle.std.proofs.Common.{◌≡◌, Bool, true, false, ℕ, ◌+◌, ◌*◌, ◌^◌, ◌<◌, ◌≤◌, ℤ, ◌≤ℤ◌, List}
-use Rattle.std.proofs.Common.{length, Option, None, Some, refl, sym, ap, subst, ◌∙◌, arith}
+use Rattle.std.proofs.Common.{◌≡◌, Bool, true, false, ℕ, ◌+◌, ◌*◌, ◌^◌, ◌<◌, ◌≤◌, ℤ, List}
+use Rattle.std.proofs.Common.{length, Option, Some, refl, sym, ap, subst, ◌∙◌, arith}
 use Rattle.std.proofs.lemmas.Int.{ints}
 use Rattle.std.proofs.lemmas.Bool.{false≢true}
-use Rattle.std.specs.Option.{IfSome}
 use Rattle.overlay_scan.specs.EitherScans.{EitherEdges, in_list, in_tree, HasTurnedInto, IsQuickInEither}
 use Rattle.overlay_scan.specs.HeldEdges.{HeldEdges, held_sweep, IsQuick}
 use Rattle.overlay_scan.specs.Lists.{plain_entries}
 use Rattle.overlay_scan.specs.Scan.{Sweep, live_at, moved_to, MayMoveTo, IsSweep}
-use Rattle.overlay_scan.specs.Turning.{IsReady, IsTreeOf, HasRoomOrTree, HasRoom}
+use Rattle.overlay_scan.specs.Turning.{IsReady, HasRoomOrTree, HasRoom}
 use Rattle.overlay_scan.specs.declared.list.LiveEdge.{LiveEdge}
 use Rattle.overlay_scan.proofs.Found.{live_twice}
 use Rattle.overlay_scan.proofs.Moving.{sweep_moved}

@@ -1,5 +1,5 @@
 -- Calls of a list make no visits, until one moves its edges into a tree.
-use Rattle.std.proofs.Common.{◌≡◌, Bool, true, false, ℕ, ◌+◌, ◌*◌, ◌^◌, ◌<◌, ◌≤◌, ℤ, List, [], ◌∷◌, length, refl, ap}
+use Rattle.std.proofs.Common.{◌≡◌, Bool, true, false, ℕ, ◌+◌, ◌*◌, ◌^◌, ◌<◌, ◌≤◌, ℤ, List, [], ◌∷◌, length, refl}
 use Rattle.std.proofs.Common.{subst, arith}
 use Rattle.std.proofs.lemmas.Nat.{mul-le}
 use Rattle.overlay_scan.specs.EitherRuns.{EitherCall, AreQuickInEither, after_each, put_in_each, EitherRunsAreQuick}

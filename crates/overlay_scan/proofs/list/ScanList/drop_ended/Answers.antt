@@ -3,7 +3,7 @@ use Rattle.std.proofs.Common.{Some, ◌≤◌, int_lt, length, refl, sym, ap, su
 use Rattle.overlay_geom.proofs.Mapped.{map-filter}
 use Rattle.overlay_scan.specs.HeldEntries.{live_of}
 use Rattle.overlay_scan.specs.Lists.{plain_entry, plain_entries}
-use Rattle.overlay_scan.proofs.Asked.{now_is, only_moved}
+use Rattle.overlay_scan.proofs.Asked.{only_moved}
 use Rattle.overlay_scan.proofs.LiveParts.{live_kept, no_more}
 use Rattle.overlay_scan.proofs.list.ScanList.drop_ended.Goals as goal
 

@@ -1,5 +1,5 @@
 -- The list has dropped the edges that had ended, and perhaps turned.
-use Rattle.std.proofs.Common.{rules, ◌≡◌, ◌≤◌, Some, length, sym, ap, subst, ◌∙◌, arith}
+use Rattle.std.proofs.Common.{rules, ◌≡◌, ◌≤◌, Some, length, sym, ap, subst, ◌∙◌}
 use Rattle.overlay_scan.specs.EitherScans.{EitherEdges, either_sweep, in_list, in_tree}
 use Rattle.overlay_scan.specs.HeldEntries.{plain_sweep}
 use Rattle.overlay_scan.specs.Scan.{moved_to}

@@ -4,7 +4,6 @@ use Rattle.std.specs.Prelude.{OnOk, OnErr}
 use Rattle.std.proofs.lemmas.Result.{on_ok_weaker, on_err_weaker}
 use Rattle.overlay_geom.specs.Lines.{plain_line}
 use Rattle.overlay_scan.specs.EitherScans.{either_sweep, either_edges, in_list, in_tree, IsQuickInEither}
-use Rattle.overlay_scan.specs.HeldEntries.{plain_sweep}
 use Rattle.overlay_scan.specs.Scan.{live_at, MayMoveTo, IsSweep, MeetsOthers, IsNewAmong}
 use Rattle.overlay_scan.proofs.LinesFit.{line_fits}
 use Rattle.overlay_scan.proofs.Moving.{sweep_moved}
