@@ -1,4 +1,4 @@
-//! The live edges of a sweep from bottom to top, in a list or in a balanced tree.
+//! The live edges of a sweep from bottom to top, in a list, in a balanced tree, or in a list that turns into a tree.
 #![tactic(auto)]
 
 mod ends;
