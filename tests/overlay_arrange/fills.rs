@@ -1,18 +1,21 @@
-//! The filled sides of edges, with live edges in trees alone and in lists alone.
+//! The filled sides of edges, also with live edges in trees alone and in lists alone.
 
 use crate::edges::{Held, edge, with_edges};
-use overlay_arrange::fill::{fills_of_balanced, fills_with_trees_from};
+use overlay_arrange::fill::{fills, fills_of_balanced};
 use overlay_arrange::fill_rule::FillRule;
+use overlay_arrange::fill_sweep::fills_by_sweep;
 use overlay_arrange::vector::{SUBJ_LEFT, SUBJ_RIGHT, SideFill};
 use overlay_geom::error::OverlayError;
 use overlay_geom::number::IntNumber;
 use overlay_geom::solver::Solver;
+use overlay_scan::list::ScanList;
+use overlay_scan::tree::ScanTree;
 use std::alloc::Global;
 use std::process::Abort;
 use std::test::Fail;
 
 // Tests whether the edges of an arrangement have these filled sides, in order. Balanced edges must have them also by
-// the call that does not test the balance.
+// the call that does not test the balance, by trees alone and by lists alone.
 fn check<I: IntNumber>(
     rt: &impl Abort,
     alloc: Global,
@@ -21,13 +24,13 @@ fn check<I: IntNumber>(
     wanted: &[SideFill],
 ) -> Result<(), OverlayError> {
     content.arrange(Solver::Rounds, &mut ())?;
-    for tree_from in [0, usize::MAX] {
-        let fills = fills_with_trees_from(alloc, content.edges(), FillRule::NonZero, tree_from)?;
-        assert!(rt; &fills[..] == wanted);
-        if is_balanced {
-            let fills = fills_of_balanced(alloc, content.edges(), FillRule::NonZero, tree_from)?;
-            assert!(rt; &fills[..] == wanted);
-        }
+    let (edges, rule) = (content.edges(), FillRule::NonZero);
+    assert!(rt; &fills(alloc, edges, rule)?[..] == wanted);
+    if is_balanced {
+        assert!(rt; &fills_of_balanced(alloc, edges, rule)?[..] == wanted);
+        let by_trees = fills_by_sweep(alloc, &mut ScanTree::default(alloc), edges, rule)?;
+        let by_lists = fills_by_sweep(alloc, &mut ScanList::default(alloc), edges, rule)?;
+        assert!(rt; &by_trees[..] == wanted && &by_lists[..] == wanted);
     }
     Ok(())
 }

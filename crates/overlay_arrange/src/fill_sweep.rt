@@ -25,12 +25,7 @@ use std::alloc::{AllocError, Allocator};
 
 /// Returns the filled sides of every edge, in the order of the edges. The scan is empty at first; its content
 /// afterwards is left open.
-pub(crate) fn fills_by_sweep<
-    I: IntNumber,
-    C: EdgeCount,
-    A: Allocator + Clone,
-    S: Scan<I, Windings>,
->(
+pub fn fills_by_sweep<I: IntNumber, C: EdgeCount, A: Allocator + Clone, S: Scan<I, Windings>>(
     alloc: A,
     scan: &mut S,
     edges: &[CountedEdge<I, C>],

@@ -11,7 +11,7 @@ ghost use Rattle.overlay_arrange.specs.Vectors.{plain_vector, vector_of};
 
 use crate::count::EdgeCount;
 use crate::edge::CountedEdge;
-use crate::fill::{fills_of_balanced, fills_of_balanced_unless, fills_with_trees_from, tree_from};
+use crate::fill::{fills, fills_of_balanced, fills_of_balanced_unless};
 use crate::fill_rule::FillRule;
 use crate::fill_test::FillTest;
 use crate::vector::{DataVectorEdge, SideFill};
@@ -57,7 +57,7 @@ impl<I: IntNumber, C: EdgeCount, A: Allocator + Clone> Graph<I, C, A> {
         ensures ok { IfOk result (λ g.
             g ≡ record { fill_rule = fill_rule; edges = carried_edges I.whole C.counts edges.now }) }
     {
-        let fills = fills_with_trees_from(alloc.clone()?, edges, fill_rule, tree_from(edges))?;
+        let fills = fills(alloc.clone()?, edges, fill_rule)?;
         Graph::filled(alloc, edges, fill_rule, &fills)
     }
 
@@ -74,7 +74,7 @@ impl<I: IntNumber, C: EdgeCount, A: Allocator + Clone> Graph<I, C, A> {
         ensures ok { IfOk result (λ g.
             g ≡ record { fill_rule = fill_rule; edges = carried_edges I.whole C.counts edges.now }) }
     {
-        let fills = fills_of_balanced(alloc.clone()?, edges, fill_rule, tree_from(edges))?;
+        let fills = fills_of_balanced(alloc.clone()?, edges, fill_rule)?;
         Graph::filled(alloc, edges, fill_rule, &fills)
     }
 

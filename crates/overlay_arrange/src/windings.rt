@@ -11,8 +11,10 @@ use crate::vector::{CLIP_LEFT, CLIP_RIGHT, SUBJ_LEFT, SUBJ_RIGHT, SideFill};
 
 /// The windings of the subject and of the clip round a point.
 #[derive(Debug, Clone, Copy)]
-pub(crate) struct Windings {
+pub struct Windings {
+    /// The winding of the subject.
     pub subj: i64,
+    /// The winding of the clip.
     pub clip: i64,
 }
 
