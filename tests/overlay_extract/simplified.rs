@@ -1,6 +1,7 @@
-//! The shapes of contours that are simplified, extracted with trees alone and with lists alone, at each coordinate
-//! type.
+//! The shapes of contours that are simplified, extracted also with trees alone and with lists alone, at each
+//! coordinate type.
 
+use crate::by_scan::shapes_by;
 use overlay_arrange::balance::is_balanced;
 use overlay_arrange::content::Content;
 use overlay_arrange::count::ShapeCountBoolean;
@@ -10,18 +11,17 @@ use overlay_arrange::options::{IntOverlayOptions, ShapeType};
 use overlay_arrange::overlay_rule::OverlayRule;
 use overlay_builder::boolean::passing;
 use overlay_builder::path::{PathKind, add_path};
-use overlay_extract::extract::extract_shapes_with_trees_from;
+use overlay_extract::extract::extract_shapes;
 use overlay_geom::error::OverlayError;
 use overlay_geom::integer::OverlayInt;
 use overlay_geom::solver::Solver;
+use overlay_scan::list::ScanList;
+use overlay_scan::tree::ScanTree;
 use overlay_walk::buffer::BooleanExtractionBuffer;
 use small_points::contours::{Points, assert_in_range, contour_of, shapes_of};
 use std::alloc::Global;
 use std::process::Abort;
 use std::test::Fail;
-
-// The limits at which a tree, and a list, is taken whatever the number of shapes.
-const LIMITS: [usize; 2] = [0, usize::MAX];
 
 // A square that runs clockwise, and as it is walked.
 const CLOCKWISE: Points<'static> = &[(0, 0), (0, 10), (10, 10), (10, 0)];
@@ -64,7 +64,7 @@ fn graph_of<I: OverlayInt + From<i16>>(
     Ok(content.graph(fill_rule)?)
 }
 
-// Checks the contour's shape, if it has one, with trees alone and with lists alone.
+// Checks the contour's shape, if it has one, also with trees alone and with lists alone.
 fn check<I: OverlayInt + PartialEq + From<i16>>(
     rt: &impl Abort,
     alloc: Global,
@@ -82,15 +82,15 @@ fn check<I: OverlayInt + PartialEq + From<i16>>(
     };
     let graph = graph_of::<I>(rt, alloc, points, fill_rule)?;
     let mut buffer = BooleanExtractionBuffer::default(alloc);
-    for tree_from in LIMITS {
-        let shapes = extract_shapes_with_trees_from(
-            &graph,
-            OverlayRule::Subject,
-            options,
-            &mut buffer,
-            tree_from,
-        )?;
-        assert!(rt; shapes == wanted);
+    let rule = OverlayRule::Subject;
+    let (mut tree, mut list) = (ScanTree::default(alloc), ScanList::default(alloc));
+    let found = [
+        extract_shapes(&graph, rule, options, &mut buffer)?,
+        shapes_by(&graph, rule, options, &mut buffer, &mut tree)?,
+        shapes_by(&graph, rule, options, &mut buffer, &mut list)?,
+    ];
+    for shapes in &found {
+        assert!(rt; *shapes == wanted);
     }
     Ok(())
 }

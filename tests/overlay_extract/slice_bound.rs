@@ -1,12 +1,13 @@
 //! The contours of slices that reach a minimum area, and the shapes of the holes among them, at each coordinate type.
 
+use crate::by_scan::slice_contours_by;
 use crate::slice_graphs::{INNER, OUTER_AND_INNER, SQUARE, graph_of};
 use overlay_arrange::options::ContourDirection;
 use overlay_extract::slicing::sliced_shapes::sliced_shapes;
-use overlay_extract::slicing::slices::{
-    SliceContours, slice_contours, slice_contours_with_trees_from,
-};
+use overlay_extract::slicing::slices::{SliceContours, slice_contours};
 use overlay_geom::number::IntNumber;
+use overlay_scan::list::ScanList;
+use overlay_scan::tree::ScanTree;
 use overlay_walk::contour::Role;
 use small_points::contours::{Points, shapes_of};
 use std::alloc::Global;
@@ -33,7 +34,7 @@ fn are<I: IntNumber>(slices: &SliceContours<I, Global>, wanted: &[(Role, Option<
     true
 }
 
-// Each hole stands in the shape round it, in a list and in a tree.
+// Each hole stands in the shape round it, also with trees alone and with lists alone.
 fn holes<I: IntNumber + From<i16>>(
     rt: &impl Abort,
     alloc: Global,
@@ -48,14 +49,9 @@ fn holes<I: IntNumber + From<i16>>(
         (Role::Outline(2), None),
     ];
     assert!(rt; are(&slice_contours(&graph, zero)?, &wanted));
-    for tree_from in [0, usize::MAX] {
-        assert!(rt;
-            are(
-                &slice_contours_with_trees_from(&graph, zero, tree_from)?,
-                &wanted
-            )
-        );
-    }
+    let by_trees = slice_contours_by(&graph, zero, &mut ScanTree::default(alloc))?;
+    let by_lists = slice_contours_by(&graph, zero, &mut ScanList::default(alloc))?;
+    assert!(rt; are(&by_trees, &wanted) && are(&by_lists, &wanted));
     Ok(())
 }
 

@@ -1,9 +1,12 @@
 //! Shapes sliced along strings, on worked rows, at each coordinate type.
 
+use crate::by_scan::sliced_shapes_by;
 use crate::slice_graphs::{INNER, OUTER_AND_INNER, SQUARE, graph_of};
 use overlay_arrange::options::ContourDirection;
-use overlay_extract::slicing::sliced_shapes::{sliced_shapes, sliced_shapes_with_trees_from};
+use overlay_extract::slicing::sliced_shapes::sliced_shapes;
 use overlay_geom::number::{IntNumber, UIntNumber};
+use overlay_scan::list::ScanList;
+use overlay_scan::tree::ScanTree;
 use small_points::contours::{Points, shapes_of};
 use std::alloc::Global;
 use std::process::Abort;
@@ -17,8 +20,7 @@ const LOWER: Points<'static> = &[(10, -10), (10, 0), (-10, 0), (-10, -10)];
 
 const UPPER: Points<'static> = &[(10, 0), (10, 10), (-10, 10), (-10, 0)];
 
-// The shapes into which the contours are sliced, as they are to be: with the limit for trees as it is, with trees
-// alone, and with lists alone.
+// The shapes into which the contours are sliced, as they are to be, also with trees alone and with lists alone.
 fn check<I: IntNumber + PartialEq + From<i16>>(
     rt: &impl Abort,
     alloc: Global,
@@ -31,10 +33,9 @@ fn check<I: IntNumber + PartialEq + From<i16>>(
     let direction = ContourDirection::CounterClockwise;
     let wanted = shapes_of::<I>(alloc, wanted)?;
     assert!(rt; sliced_shapes(&graph, direction, all)? == wanted);
-    for tree_from in [0, usize::MAX] {
-        let again = sliced_shapes_with_trees_from(&graph, direction, all, tree_from)?;
-        assert!(rt; again == wanted);
-    }
+    let by_trees = sliced_shapes_by(&graph, direction, all, &mut ScanTree::default(alloc))?;
+    let by_lists = sliced_shapes_by(&graph, direction, all, &mut ScanList::default(alloc))?;
+    assert!(rt; by_trees == wanted && by_lists == wanted);
     Ok(())
 }
 

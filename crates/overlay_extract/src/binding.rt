@@ -8,6 +8,5 @@ pub mod islands;
 mod known_shapes;
 pub mod placed;
 pub mod places;
-pub mod scans;
 mod side;
 mod sweep;

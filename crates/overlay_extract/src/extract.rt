@@ -16,7 +16,6 @@ ghost use Rattle.overlay_extract.specs.Results.{asked, AreKeptWalks, IsResult, I
 
 use crate::assemble::{assembled, contour};
 use crate::binding::placed::{placed_contours, placed_contours_of};
-use crate::binding::scans::TREE_FROM_PARENTS;
 use crate::flat_shapes::flat_assembled;
 use overlay_arrange::count::EdgeCount;
 use overlay_arrange::graph::Graph;
@@ -49,24 +48,7 @@ pub fn extract_shapes<I: IntNumber, C: EdgeCount, A: Allocator + Clone>(
         (asked I.Wide.width I.WideUInt.natural graph.now.fill_rule overlay_rule options)
         (graph_edges graph.now) (plain_shapes I.whole v.items)) }
 {
-    extract_shapes_with_trees_from(graph, overlay_rule, options, buffer, TREE_FROM_PARENTS)
-}
-
-/// Returns the shapes that [`extract_shapes`] gives, with a limit given by the caller. With `tree_from` or more shapes
-/// the live edges are kept in a tree, else in a list.
-pub fn extract_shapes_with_trees_from<I: IntNumber, C: EdgeCount, A: Allocator + Clone>(
-    graph: &Graph<I, C, A>,
-    overlay_rule: OverlayRule,
-    options: IntOverlayOptions<I::WideUInt>,
-    buffer: &mut BooleanExtractionBuffer<I, A>,
-    tree_from: usize,
-) -> Result<IntShapes<I, A>, AllocError>
-    requires { HasBalancedCounts (graph_edges graph.now) }
-    ensures result { IfOk result (λ v. IsResult
-        (asked I.Wide.width I.WideUInt.natural graph.now.fill_rule overlay_rule options)
-        (graph_edges graph.now) (plain_shapes I.whole v.items)) }
-{
-    let placed = placed_contours(graph, overlay_rule, options, buffer, tree_from)?;
+    let placed = placed_contours(graph, overlay_rule, options, buffer)?;
     let alloc = graph.allocator().clone()?;
     let keeps_points = options.preserve_output_collinear;
     assembled(alloc, &placed.contours, &placed.places, keeps_points)
@@ -85,7 +67,7 @@ pub fn extract_shapes_of<I: IntNumber, C: EdgeCount, A: Allocator + Clone>(
         (graph_edges graph) (plain_shapes I.whole v.items)) }
 {
     let alloc = graph.allocator().clone()?;
-    let placed = placed_contours_of(graph, overlay_rule, options, buffer, TREE_FROM_PARENTS)?;
+    let placed = placed_contours_of(graph, overlay_rule, options, buffer)?;
     let keeps_points = options.preserve_output_collinear;
     assembled(alloc, &placed.contours, &placed.places, keeps_points)
 }
@@ -106,7 +88,7 @@ pub fn extract_flat_shapes_of<I: IntNumber, C: EdgeCount, A: Allocator + Clone>(
         (λ b. AreShapesPacked b.points.items b.contour_ranges.items b.shape_ranges.items) }
 {
     let alloc = graph.allocator().clone()?;
-    let placed = placed_contours_of(graph, overlay_rule, options, &mut buffer, TREE_FROM_PARENTS)?;
+    let placed = placed_contours_of(graph, overlay_rule, options, &mut buffer)?;
     drop(buffer);
     let keeps_points = options.preserve_output_collinear;
     flat_assembled(alloc, &placed.contours, &placed.places, keeps_points)

@@ -11,7 +11,6 @@ ghost use Rattle.overlay_extract.specs.Results.{asked};
 
 use crate::assemble::assembled;
 use crate::binding::placed::placed_contours;
-use crate::binding::scans::TREE_FROM_PARENTS;
 use crate::child_link::ChildLink;
 use crate::in_shapes::in_shapes;
 use crate::links::links;
@@ -22,6 +21,7 @@ use overlay_arrange::overlay_rule::OverlayRule;
 use overlay_geom::error::OverlayError;
 use overlay_geom::flat::shapes::FlatShapesBuffer;
 use overlay_geom::number::IntNumber;
+use overlay_scan::tree::either::EitherScan;
 use overlay_walk::buffer::BooleanExtractionBuffer;
 use std::alloc::Allocator;
 
@@ -89,28 +89,7 @@ pub fn extract_shape_hierarchy<I: IntNumber, C: EdgeCount, A: Allocator + Clone>
         (λ h. AreShapesPacked h.shapes.points.items h.shapes.contour_ranges.items h.shapes.shape_ranges.items) }
     ensures err { IsOkUnless result OverlayError.Memory }
 {
-    extract_shape_hierarchy_with_trees_from(graph, overlay_rule, options, buffer, TREE_FROM_PARENTS)
-}
-
-/// Returns the hierarchy that [`extract_shape_hierarchy`] gives, with a limit given by the caller. With `tree_from` or
-/// more shapes, or holes, their live edges are kept in a tree, else in a list. The only refusal is `Memory`.
-pub fn extract_shape_hierarchy_with_trees_from<I: IntNumber, C: EdgeCount, A: Allocator + Clone>(
-    graph: &Graph<I, C, A>,
-    overlay_rule: OverlayRule,
-    options: IntOverlayOptions<I::WideUInt>,
-    buffer: &mut BooleanExtractionBuffer<I, A>,
-    tree_from: usize,
-) -> Result<FlatShapeHierarchy<I, A>, OverlayError>
-    requires { HasBalancedCounts (graph_edges graph.now) }
-    ensures hierarchy { IfOk result (λ h. IsHierarchy
-        (asked I.Wide.width I.WideUInt.natural graph.now.fill_rule overlay_rule options) (graph_edges graph.now)
-        (shapes_in I.whole h.shapes.points.items h.shapes.contour_ranges.items h.shapes.shape_ranges.items)
-        (map plain_link h.links.items)) }
-    ensures packed { IfOk result
-        (λ h. AreShapesPacked h.shapes.points.items h.shapes.contour_ranges.items h.shapes.shape_ranges.items) }
-    ensures err { IsOkUnless result OverlayError.Memory }
-{
-    let placed = placed_contours(graph, overlay_rule, options, buffer, tree_from)?;
+    let placed = placed_contours(graph, overlay_rule, options, buffer)?;
     let alloc = graph.allocator();
     let keeps_points = options.preserve_output_collinear;
     let shapes = assembled(
@@ -120,11 +99,12 @@ pub fn extract_shape_hierarchy_with_trees_from<I: IntNumber, C: EdgeCount, A: Al
         keeps_points,
     )?;
     let ordered = in_shapes(alloc.clone()?, &placed.contours, &placed.places)?;
+    let mut scan = EitherScan::default(alloc.clone()?);
     let links = links(
         alloc.clone()?,
+        &mut scan,
         &ordered,
         options.output_direction,
-        tree_from,
     )?;
     let shapes = FlatShapesBuffer::from_shapes(alloc.clone()?, &shapes)?;
     Ok(FlatShapeHierarchy { shapes, links })

@@ -14,7 +14,7 @@ use std::alloc::{AllocError, Allocator};
 
 /// Returns the contours at these places, shape by shape. The first contour of each shape is its outline, and the others
 /// are holes of the outline's group.
-pub(crate) fn in_shapes<I: IntNumber, A: Allocator + Clone>(
+pub fn in_shapes<I: IntNumber, A: Allocator + Clone>(
     alloc: A,
     contours: &[Contour<I, A>],
     places: &[ShapePlaces<A>],

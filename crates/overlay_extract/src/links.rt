@@ -4,37 +4,38 @@ ghost use Rattle.std.specs.Prelude.{◌≡◌, ◌<◌, length, map, option_map,
 ghost use Rattle.overlay_plane.specs.BoundContours.{walks_in};
 ghost use Rattle.overlay_plane.specs.Islands.{AreInShapes, AreLinks};
 ghost use Rattle.overlay_plane.specs.KeptContours.{CanBeBound};
+ghost use Rattle.overlay_scan.specs.Scan.{empty_sweep};
 ghost use Rattle.overlay_walk.specs.GroupedContours.{plain_contours};
 ghost use Rattle.overlay_walk.specs.Steps.{filled_hand, IsLong};
 ghost use Rattle.overlay_extract.specs.ChildLinks.{plain_link, HaveOtherChildren};
 ghost use Rattle.overlay_extract.specs.Links.{link_at, links_from};
 
 use crate::binding::islands::holes_round;
-use crate::binding::scans::scan_for_islands;
 use crate::child_link::{ChildLink, sort_links};
 use overlay_arrange::options::ContourDirection;
 use overlay_geom::number::IntNumber;
+use overlay_scan::scan::Scan;
 use overlay_walk::contour::Contour;
 use std::alloc::{AllocError, Allocator};
 
 /// Returns the links of contours that all stand in shapes, shape by shape, in order. Each shape in a hole of another
-/// shape has a link: the other shape, the place of the hole among the contours, and the shape. With `tree_from` or more
-/// holes the live edges are kept in a tree, else in a list; the answer does not depend on it.
-pub(crate) fn links<I: IntNumber, A: Allocator + Clone>(
+/// shape has a link: the other shape, the place of the hole among the contours, and the shape. The scan is empty at
+/// first; its content afterwards is left open.
+pub fn links<I: IntNumber, A: Allocator + Clone, S: Scan<I, usize>>(
     alloc: A,
+    scan: &mut S,
     contours: &[Contour<I, A>],
     direction: ContourDirection,
-    tree_from: usize,
 ) -> Result<Vec<ChildLink, A>, AllocError>
     requires long { All (All (IsLong I.limit)) (walks_in (plain_contours I.whole contours.now)) }
     requires bindable { CanBeBound (filled_hand direction) (walks_in (plain_contours I.whole contours.now)) }
     requires in_shapes { AreInShapes (plain_contours I.whole contours.now) }
+    requires empty { S.content scan.old ≡ empty_sweep }
     ensures links { IfOk result (λ v. AreLinks (filled_hand direction) (plain_contours I.whole contours.now)
         (map plain_link v.items)) }
     ensures children { IfOk result (λ v. HaveOtherChildren (map plain_link v.items)) }
 {
-    let mut scan = scan_for_islands(alloc.clone()?, contours, tree_from);
-    let holes = holes_round(alloc.clone()?, &mut scan, contours, direction)?;
+    let holes = holes_round(alloc.clone()?, scan, contours, direction)?;
     let mut links = links_by(alloc, contours, &holes)?;
     sort_links(&mut links)?;
     Ok(links)

@@ -14,12 +14,12 @@ ghost use Rattle.overlay_walk.specs.Asked.{asked};
 
 use crate::binding::bind::bind_contours;
 use crate::binding::places::{ShapePlaces, shape_places};
-use crate::binding::scans::scan_for_holes;
 use overlay_arrange::count::EdgeCount;
 use overlay_arrange::graph::Graph;
 use overlay_arrange::options::{ContourDirection, IntOverlayOptions};
 use overlay_arrange::overlay_rule::OverlayRule;
 use overlay_geom::number::IntNumber;
+use overlay_scan::tree::either::EitherScan;
 use overlay_walk::buffer::BooleanExtractionBuffer;
 use overlay_walk::contour::Contour;
 use overlay_walk::kept_contours::{kept_contours, kept_contours_of};
@@ -34,14 +34,12 @@ pub struct PlacedContours<I, A: Allocator> {
     pub places: Vec<ShapePlaces<A>, A>,
 }
 
-/// Returns the contours round the region where the rules hold, and their places in the shapes found for them. With
-/// `tree_from` or more shapes the live edges are kept in a tree, else in a list; the answer does not depend on it.
+/// Returns the contours round the region where the rules hold, and their places in the shapes found for them.
 pub fn placed_contours<I: IntNumber, C: EdgeCount, A: Allocator + Clone>(
     graph: &Graph<I, C, A>,
     overlay_rule: OverlayRule,
     options: IntOverlayOptions<I::WideUInt>,
     buffer: &mut BooleanExtractionBuffer<I, A>,
-    tree_from: usize,
 ) -> Result<PlacedContours<I, A>, AllocError>
     requires { HasBalancedCounts (graph_edges graph.now) }
     ensures placed { IfOk result (λ p. ArePlacedResults
@@ -51,7 +49,7 @@ pub fn placed_contours<I: IntNumber, C: EdgeCount, A: Allocator + Clone>(
         (λ p. All (All (IsLong I.limit)) (walks_in (plain_contours I.whole p.contours.items))) }
 {
     let contours = kept_contours(graph, overlay_rule, options, buffer)?;
-    let places = bound_places(graph, &contours, options.output_direction, tree_from)?;
+    let places = bound_places(graph, &contours, options.output_direction)?;
     Ok(PlacedContours { contours, places })
 }
 
@@ -61,7 +59,6 @@ pub fn placed_contours_of<I: IntNumber, C: EdgeCount, A: Allocator + Clone>(
     overlay_rule: OverlayRule,
     options: IntOverlayOptions<I::WideUInt>,
     buffer: &mut BooleanExtractionBuffer<I, A>,
-    tree_from: usize,
 ) -> Result<PlacedContours<I, A>, AllocError>
     requires { HasBalancedCounts (graph_edges graph) }
     ensures placed { IfOk result (λ p. ArePlacedResults
@@ -72,17 +69,15 @@ pub fn placed_contours_of<I: IntNumber, C: EdgeCount, A: Allocator + Clone>(
 {
     let alloc = graph.allocator().clone()?;
     let contours = kept_contours_of(graph, overlay_rule, options, buffer)?;
-    let places = places_found(alloc, &contours, options.output_direction, tree_from)?;
+    let places = places_found(alloc, &contours, options.output_direction)?;
     Ok(PlacedContours { contours, places })
 }
 
-/// Returns the places of the contours in the shapes found for them. With `tree_from` or more shapes the live edges are
-/// kept in a tree, else in a list; the answer does not depend on it.
+/// Returns the places of the contours in the shapes found for them.
 pub fn bound_places<I: IntNumber, C: EdgeCount, A: Allocator + Clone>(
     graph: &Graph<I, C, A>,
     contours: &[Contour<I, A>],
     direction: ContourDirection,
-    tree_from: usize,
 ) -> Result<Vec<ShapePlaces<A>, A>, AllocError>
     requires long { All (All (IsLong I.limit)) (walks_in (plain_contours I.whole contours.now)) }
     requires bindable { CanBeBound (filled_hand direction) (walks_in (plain_contours I.whole contours.now)) }
@@ -92,7 +87,7 @@ pub fn bound_places<I: IntNumber, C: EdgeCount, A: Allocator + Clone>(
     ensures placed { IfOk result (λ v.
         ArePlacedSomehow (filled_hand direction) (plain_contours I.whole contours.now) (place_lists v.items)) }
 {
-    places_found(graph.allocator().clone()?, contours, direction, tree_from)
+    places_found(graph.allocator().clone()?, contours, direction)
 }
 
 // Returns the places that [`bound_places`] gives.
@@ -100,7 +95,6 @@ fn places_found<I: IntNumber, A: Allocator + Clone>(
     alloc: A,
     contours: &[Contour<I, A>],
     direction: ContourDirection,
-    tree_from: usize,
 ) -> Result<Vec<ShapePlaces<A>, A>, AllocError>
     requires long { All (All (IsLong I.limit)) (walks_in (plain_contours I.whole contours.now)) }
     requires bindable { CanBeBound (filled_hand direction) (walks_in (plain_contours I.whole contours.now)) }
@@ -110,7 +104,7 @@ fn places_found<I: IntNumber, A: Allocator + Clone>(
     ensures placed { IfOk result (λ v.
         ArePlacedSomehow (filled_hand direction) (plain_contours I.whole contours.now) (place_lists v.items)) }
 {
-    let mut scan = scan_for_holes(alloc.clone()?, contours, tree_from);
+    let mut scan = EitherScan::default(alloc.clone()?);
     let found = bind_contours(alloc.clone()?, &mut scan, contours, direction)?;
     shape_places(alloc, contours, &found)
 }

@@ -8,9 +8,8 @@ ghost use Rattle.overlay_extract.specs.Sliced.{IsSliced};
 
 use crate::assemble::assembled;
 use crate::binding::places::shape_places;
-use crate::binding::scans::TREE_FROM_PARENTS;
 use crate::slicing::direction::bring_in_direction;
-use crate::slicing::slices::slice_contours_with_trees_from;
+use crate::slicing::slices::slice_contours;
 use overlay_arrange::count::EdgeCount;
 use overlay_arrange::graph::Graph;
 use overlay_arrange::options::ContourDirection;
@@ -31,23 +30,8 @@ pub fn sliced_shapes<I: IntNumber, C: EdgeCount, A: Allocator + Clone>(
     ensures sliced { IfOk result (λ v. IsSliced I.Wide.width (I.WideUInt.natural min_output_area) graph.now.fill_rule
         direction (graph_edges graph.now) (plain_shapes I.whole v.items)) }
 {
-    sliced_shapes_with_trees_from(graph, direction, min_output_area, TREE_FROM_PARENTS)
-}
-
-/// The shapes that [`sliced_shapes`] gives, for a limit of the caller's: where there are `tree_from` shapes or more
-/// their live edges are kept in a tree, and else in a list.
-pub fn sliced_shapes_with_trees_from<I: IntNumber, C: EdgeCount, A: Allocator + Clone>(
-    graph: &Graph<I, C, A>,
-    direction: ContourDirection,
-    min_output_area: I::WideUInt,
-    tree_from: usize,
-) -> Result<IntShapes<I, A>, AllocError>
-    requires { HasBalancedCounts (graph_edges graph.now) }
-    ensures sliced { IfOk result (λ v. IsSliced I.Wide.width (I.WideUInt.natural min_output_area) graph.now.fill_rule
-        direction (graph_edges graph.now) (plain_shapes I.whole v.items)) }
-{
     graph.note_arrangement();
-    let slices = slice_contours_with_trees_from(graph, min_output_area, tree_from)?;
+    let slices = slice_contours(graph, min_output_area)?;
     let alloc = graph.allocator().clone()?;
     let places = shape_places(alloc.clone()?, &slices.contours, &slices.shapes)?;
     let mut shapes = assembled(alloc, &slices.contours, &places, true)?;

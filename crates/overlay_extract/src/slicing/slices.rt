@@ -9,13 +9,13 @@ ghost use Rattle.overlay_walk.specs.GroupedContours.{plain_contours};
 ghost use Rattle.overlay_walk.specs.Steps.{IsLong};
 
 use crate::binding::bind::bind_contours;
-use crate::binding::scans::{TREE_FROM_PARENTS, scan_for_holes};
 use crate::slicing::loops::filled_loops;
 use crate::slicing::roles::contours_of_loops;
 use overlay_arrange::count::EdgeCount;
 use overlay_arrange::graph::Graph;
 use overlay_arrange::options::ContourDirection;
 use overlay_geom::number::{IntNumber, UIntNumber, WideIntNumber};
+use overlay_scan::tree::either::EitherScan;
 use overlay_walk::area::large_walks;
 use overlay_walk::contour::Contour;
 use std::alloc::{AllocError, Allocator};
@@ -42,26 +42,10 @@ pub fn slice_contours<I: IntNumber, C: EdgeCount, A: Allocator + Clone>(
     ensures long { IfOk result
         (λ s. All (All (IsLong I.limit)) (walks_in (plain_contours I.whole s.contours.items))) }
 {
-    slice_contours_with_trees_from(graph, min_output_area, TREE_FROM_PARENTS)
-}
-
-/// The contours that [`slice_contours`] gives, for a limit of the caller's: where there are `tree_from` shapes or more
-/// their live edges are kept in a tree, and else in a list.
-pub fn slice_contours_with_trees_from<I: IntNumber, C: EdgeCount, A: Allocator + Clone>(
-    graph: &Graph<I, C, A>,
-    min_output_area: I::WideUInt,
-    tree_from: usize,
-) -> Result<SliceContours<I, A>, AllocError>
-    requires { HasBalancedCounts (graph_edges graph.now) }
-    ensures slices { IfOk result (λ s. AreSlices I.Wide.width (I.WideUInt.natural min_output_area)
-        graph.now.fill_rule (graph_edges graph.now) (plain_contours I.whole s.contours.items) s.shapes.items) }
-    ensures long { IfOk result
-        (λ s. All (All (IsLong I.limit)) (walks_in (plain_contours I.whole s.contours.items))) }
-{
     graph.note_arrangement();
     let contours = kept_loops(graph, min_output_area)?;
     let alloc = graph.allocator().clone()?;
-    let mut scan = scan_for_holes(alloc.clone()?, &contours, tree_from);
+    let mut scan = EitherScan::default(alloc.clone()?);
     let shapes = bind_contours(
         alloc,
         &mut scan,

@@ -12,7 +12,7 @@ use Rattle.overlay_walk.specs.Steps.{IsLong}
 use Rattle.overlay_extract.specs.Places.{place_lists, AreInside}
 use Rattle.overlay_extract.specs.Results.{asked}
 use Rattle.overlay_extract.proofs.Results.{result_shown}
-use Rattle.overlay_extract.proofs.extract.extract_shapes_with_trees_from.Goals as goal
+use Rattle.overlay_extract.proofs.extract.extract_shapes.Goals as goal
 
 pub assembled-requires-clause-long : goal.assembled-requires-clause-long
 assembled-requires-clause-long g c =

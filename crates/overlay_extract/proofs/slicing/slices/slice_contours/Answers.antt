@@ -2,12 +2,12 @@
 use Rattle.overlay_arrange.specs.Graphs.{graph_edges}
 use Rattle.overlay_extract.proofs.KeptLoops.{slices_can_be_bound}
 use Rattle.overlay_walk.specs.GroupedContours.{plain_contours}
-use Rattle.overlay_extract.proofs.slicing.slices.slice_contours_with_trees_from.Goals as goal
+use Rattle.overlay_extract.proofs.slicing.slices.slice_contours.Goals as goal
 
 pub bind_contours-requires-clause-bindable : goal.bind_contours-requires-clause-bindable
 bind_contours-requires-clause-bindable g c =
     let graph = c.args.graph.now in
-    rw c.deref-2.ensures.value (slices_can_be_bound g.I.IntNumber.limit g.I.Wide.WideIntNumber.width
+    rw c.deref.ensures.value (slices_can_be_bound g.I.IntNumber.limit g.I.Wide.WideIntNumber.width
     (g.I.WideUInt.UIntNumber.natural c.args.min_output_area) graph.fill_rule (graph_edges graph)
     c.note_arrangement.ensures c.requires
     (plain_contours g.I.IntNumber.whole c.in_ok-contours.contours.items) c.in_ok-contours.ensures.contours)
@@ -15,5 +15,5 @@ bind_contours-requires-clause-bindable g c =
 pub returns-clause-slices : goal.returns-clause-slices
 returns-clause-slices g c = record {
   contours_are = c.in_ok-contours.ensures.contours;
-  bound = rw c.deref-2.ensures.value at c.in_ok-shapes.ensures.found;
+  bound = rw c.deref.ensures.value at c.in_ok-shapes.ensures.found;
 }

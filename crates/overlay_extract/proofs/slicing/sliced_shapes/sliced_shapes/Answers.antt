@@ -14,7 +14,7 @@ use Rattle.overlay_extract.specs.Sliced.{in_direction, IsSliced}
 use Rattle.overlay_extract.proofs.RoledLoops.{roles_can_be_placed}
 use Rattle.overlay_extract.proofs.SidesByBits.{balanced_arrangement}
 use Rattle.overlay_extract.proofs.SlicesShown.{sliced}
-use Rattle.overlay_extract.proofs.slicing.sliced_shapes.sliced_shapes_with_trees_from.Goals as goal
+use Rattle.overlay_extract.proofs.slicing.sliced_shapes.sliced_shapes.Goals as goal
 
 pub shape_places-requires : goal.shape_places-requires
 shape_places-requires g c =

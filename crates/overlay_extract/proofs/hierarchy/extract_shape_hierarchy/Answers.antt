@@ -18,7 +18,7 @@ use Rattle.overlay_extract.specs.Results.{asked}
 use Rattle.overlay_extract.proofs.GroupsInShapes.{groups_in_shapes}
 use Rattle.overlay_extract.proofs.Hierarchies.{places_begun, ordered, ordered_have, ordered_bindable}
 use Rattle.overlay_extract.proofs.Hierarchies.{hierarchy_shown}
-use Rattle.overlay_extract.proofs.hierarchy.extract_shape_hierarchy_with_trees_from.Goals as goal
+use Rattle.overlay_extract.proofs.hierarchy.extract_shape_hierarchy.Goals as goal
 
 pub assembled-requires-clause-long : goal.assembled-requires-clause-long
 assembled-requires-clause-long g c =
