@@ -7,9 +7,11 @@ use overlay_geom::point::{IntPoint, in_range};
 use overlay_geom::resolved::is_resolved;
 use overlay_geom::resource::borrowed::{BorrowedContours, BorrowedShapes};
 use overlay_relate::containment::IntPointContainment;
-use overlay_relate::in_contour::locate_in_contour;
-use overlay_relate::in_shapes::{locate_in_shape, locate_in_shapes};
+use overlay_relate::in_contour::locate_by;
 use overlay_relate::location::PointLocation;
+use overlay_scan::list::ScanList;
+use overlay_scan::scan::Scan;
+use overlay_scan::tree::ScanTree;
 use std::alloc::{Allocator, Global};
 use std::process::Abort;
 use std::test::Fail;
@@ -47,6 +49,70 @@ pub(crate) fn assert_shapes<I: OverlayInt, A: Allocator>(
     }
 }
 
+// Where a point lies in contours, joined by exclusive or, that lies so in some of them and in the others.
+fn in_either(l: PointLocation, m: PointLocation) -> PointLocation {
+    match (l, m) {
+        (PointLocation::Boundary, _) | (_, PointLocation::Boundary) => PointLocation::Boundary,
+        (PointLocation::Inside, PointLocation::Outside)
+        | (PointLocation::Outside, PointLocation::Inside) => PointLocation::Inside,
+        _ => PointLocation::Outside,
+    }
+}
+
+// Where a point lies among shapes, joined by or, that lies so among some of them and among the others.
+fn in_any(l: PointLocation, m: PointLocation) -> PointLocation {
+    match (l, m) {
+        (PointLocation::Inside, _) | (_, PointLocation::Inside) => PointLocation::Inside,
+        (PointLocation::Boundary, _) | (_, PointLocation::Boundary) => PointLocation::Boundary,
+        _ => PointLocation::Outside,
+    }
+}
+
+// `Outside` for each point.
+fn outside<I: OverlayInt>(
+    alloc: Global,
+    points: &[IntPoint<I>],
+) -> Result<Vec<PointLocation, Global>, Fail> {
+    let mut locations = Vec::new(alloc);
+    locations.resize(points.len(), PointLocation::Outside)?;
+    Ok(locations)
+}
+
+// Where the points lie in the shape, by one scan for each contour in turn.
+fn in_shape_by<I: OverlayInt, S: Scan<I, usize>>(
+    alloc: Global,
+    scan: &mut S,
+    contours: &[IntContour<I, Global>],
+    points: &[IntPoint<I>],
+) -> Result<Vec<PointLocation, Global>, Fail> {
+    let mut locations = outside(alloc, points)?;
+    for contour in contours {
+        scan.clear();
+        let here = locate_by(alloc, scan, contour, points)?;
+        for i in 0..points.len() {
+            locations[i] = in_either(locations[i], here[i]);
+        }
+    }
+    Ok(locations)
+}
+
+// Where they lie among the shapes.
+fn in_shapes_by<I: OverlayInt, S: Scan<I, usize>>(
+    alloc: Global,
+    scan: &mut S,
+    shapes: &[IntShape<I, Global>],
+    points: &[IntPoint<I>],
+) -> Result<Vec<PointLocation, Global>, Fail> {
+    let mut locations = outside(alloc, points)?;
+    for shape in shapes {
+        let here = in_shape_by(alloc, scan, shape, points)?;
+        for i in 0..points.len() {
+            locations[i] = in_any(locations[i], here[i]);
+        }
+    }
+    Ok(locations)
+}
+
 // Tests whether the points lie so in the contour, by trees alone and by lists alone.
 fn are_in_contour<I: OverlayInt>(
     alloc: Global,
@@ -54,8 +120,8 @@ fn are_in_contour<I: OverlayInt>(
     points: &[IntPoint<I>],
     locations: &[PointLocation],
 ) -> Result<bool, Fail> {
-    let by_trees = locate_in_contour(alloc, contour, points, 0)?;
-    let by_lists = locate_in_contour(alloc, contour, points, usize::MAX)?;
+    let by_trees = locate_by(alloc, &mut ScanTree::default(alloc), contour, points)?;
+    let by_lists = locate_by(alloc, &mut ScanList::default(alloc), contour, points)?;
     Ok(by_trees.as_slice() == locations && by_lists.as_slice() == locations)
 }
 
@@ -66,8 +132,8 @@ fn are_in_shape<I: OverlayInt>(
     points: &[IntPoint<I>],
     locations: &[PointLocation],
 ) -> Result<bool, Fail> {
-    let by_trees = locate_in_shape(alloc, contours, points, 0)?;
-    let by_lists = locate_in_shape(alloc, contours, points, usize::MAX)?;
+    let by_trees = in_shape_by(alloc, &mut ScanTree::default(alloc), contours, points)?;
+    let by_lists = in_shape_by(alloc, &mut ScanList::default(alloc), contours, points)?;
     Ok(by_trees.as_slice() == locations && by_lists.as_slice() == locations)
 }
 
@@ -78,8 +144,8 @@ fn are_in_shapes<I: OverlayInt>(
     points: &[IntPoint<I>],
     locations: &[PointLocation],
 ) -> Result<bool, Fail> {
-    let by_trees = locate_in_shapes(alloc, shapes, points, 0)?;
-    let by_lists = locate_in_shapes(alloc, shapes, points, usize::MAX)?;
+    let by_trees = in_shapes_by(alloc, &mut ScanTree::default(alloc), shapes, points)?;
+    let by_lists = in_shapes_by(alloc, &mut ScanList::default(alloc), shapes, points)?;
     Ok(by_trees.as_slice() == locations && by_lists.as_slice() == locations)
 }
 

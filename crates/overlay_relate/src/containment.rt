@@ -21,10 +21,6 @@ use std::alloc::{AllocError, Allocator};
 
 mod borrowed;
 
-/// The number of edges of a contour from which on the live ones are kept in a tree. Of fewer edges a list and a tree
-/// take as long.
-const TREE_FROM_EDGES: usize = 8_000;
-
 /// Where points lie: in a contour, in a shape, whose contours are joined by exclusive or, or in several
 /// shapes, joined by or.
 ///
@@ -79,7 +75,7 @@ impl<I: OverlayInt, B: Allocator> IntPointContainment<I> for IntContour<I, B> {
         alloc: A,
         points: &[IntPoint<I>],
     ) -> Result<Vec<PointLocation, A>, OverlayError> {
-        let locations = locate_in_contour(alloc, self, points, TREE_FROM_EDGES)?;
+        let locations = locate_in_contour(alloc, self, points)?;
         Ok(locations)
     }
 }
@@ -93,7 +89,7 @@ impl<I: OverlayInt, B: Allocator> IntPointContainment<I> for IntShape<I, B> {
         alloc: A,
         points: &[IntPoint<I>],
     ) -> Result<Vec<PointLocation, A>, OverlayError> {
-        let locations = locate_in_shape(alloc, self, points, TREE_FROM_EDGES)?;
+        let locations = locate_in_shape(alloc, self, points)?;
         Ok(locations)
     }
 }
@@ -107,7 +103,7 @@ impl<I: OverlayInt, B: Allocator> IntPointContainment<I> for IntShapes<I, B> {
         alloc: A,
         points: &[IntPoint<I>],
     ) -> Result<Vec<PointLocation, A>, OverlayError> {
-        let locations = locate_in_shapes(alloc, self, points, TREE_FROM_EDGES)?;
+        let locations = locate_in_shapes(alloc, self, points)?;
         Ok(locations)
     }
 }

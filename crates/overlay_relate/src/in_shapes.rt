@@ -18,12 +18,11 @@ use overlay_geom::path::{IntContour, IntShape};
 use overlay_geom::point::IntPoint;
 use std::alloc::{AllocError, Allocator};
 
-/// Returns where each point lies in the shape, in order, with trees for contours of `tree_from` edges or more.
+/// Returns where each point lies in the shape, in order.
 pub fn locate_in_shape<I: IntNumber, A: Allocator, B: Allocator + Clone>(
     alloc: B,
     contours: &[IntContour<I, A>],
     points: &[IntPoint<I>],
-    tree_from: usize,
 ) -> Result<Vec<PointLocation, B>, AllocError>
     requires contours { All (AllInRange I.limit) (paths_of_shape I.whole contours.now) }
     requires resolved { All IsResolved (paths_of_shape I.whole contours.now) }
@@ -33,16 +32,15 @@ pub fn locate_in_shape<I: IntNumber, A: Allocator, B: Allocator + Clone>(
 {
     let queries = queries_by_x(alloc.clone()?, points)?;
     let asked = points_asked(alloc.clone()?, &queries)?;
-    let located = located_in_shape(alloc.clone()?, contours, &asked, tree_from)?;
+    let located = located_in_shape(alloc.clone()?, contours, &asked)?;
     in_given_order(alloc, points, &queries, &located)
 }
 
-/// Returns where each point lies among the shapes, in order, with trees for contours of `tree_from` edges or more.
+/// Returns where each point lies among the shapes, in order.
 pub fn locate_in_shapes<I: IntNumber, A: Allocator, B: Allocator + Clone>(
     alloc: B,
     shapes: &[IntShape<I, A>],
     points: &[IntPoint<I>],
-    tree_from: usize,
 ) -> Result<Vec<PointLocation, B>, AllocError>
     requires shapes { All (All (AllInRange I.limit)) (plain_shapes I.whole shapes.now) }
     requires resolved { All (All IsResolved) (plain_shapes I.whole shapes.now) }
@@ -52,7 +50,7 @@ pub fn locate_in_shapes<I: IntNumber, A: Allocator, B: Allocator + Clone>(
 {
     let queries = queries_by_x(alloc.clone()?, points)?;
     let asked = points_asked(alloc.clone()?, &queries)?;
-    let located = located_in_shapes(alloc.clone()?, shapes, &asked, tree_from)?;
+    let located = located_in_shapes(alloc.clone()?, shapes, &asked)?;
     in_given_order(alloc, points, &queries, &located)
 }
 
@@ -61,7 +59,6 @@ fn located_in_shapes<I: IntNumber, A: Allocator, B: Allocator + Clone>(
     alloc: B,
     shapes: &[IntShape<I, A>],
     points: &[IntPoint<I>],
-    tree_from: usize,
 ) -> Result<Vec<PointLocation, B>, AllocError>
     requires shapes { All (All (AllInRange I.limit)) (plain_shapes I.whole shapes.now) }
     requires resolved { All (All IsResolved) (plain_shapes I.whole shapes.now) }
@@ -72,7 +69,7 @@ fn located_in_shapes<I: IntNumber, A: Allocator, B: Allocator + Clone>(
 {
     let mut located = outside(alloc.clone()?, points)?;
     for shape in shapes {
-        join_shape(alloc.clone()?, &mut located, shape, points, tree_from)?;
+        join_shape(alloc.clone()?, &mut located, shape, points)?;
     }
     Ok(located)
 }
@@ -84,7 +81,6 @@ fn join_shape<I: IntNumber, A: Allocator, B: Allocator + Clone>(
     located: &mut Vec<PointLocation, B>,
     shape: &[IntContour<I, A>],
     points: &[IntPoint<I>],
-    tree_from: usize,
 ) -> Result<(), AllocError>
     requires contours { All (AllInRange I.limit) (paths_of_shape I.whole shape.now) }
     requires resolved { All IsResolved (paths_of_shape I.whole shape.now) }
@@ -101,7 +97,7 @@ fn join_shape<I: IntNumber, A: Allocator, B: Allocator + Clone>(
     if start == end {
         return Ok(());
     }
-    let here = located_in_shape(alloc, shape, &points[start..end], tree_from)?;
+    let here = located_in_shape(alloc, shape, &points[start..end])?;
     join_from(Parts::Shapes, located, start, &here);
     Ok(())
 }
@@ -111,7 +107,6 @@ fn located_in_shape<I: IntNumber, A: Allocator, B: Allocator + Clone>(
     alloc: B,
     contours: &[IntContour<I, A>],
     points: &[IntPoint<I>],
-    tree_from: usize,
 ) -> Result<Vec<PointLocation, B>, AllocError>
     requires contours { All (AllInRange I.limit) (paths_of_shape I.whole contours.now) }
     requires resolved { All IsResolved (paths_of_shape I.whole contours.now) }
@@ -122,7 +117,7 @@ fn located_in_shape<I: IntNumber, A: Allocator, B: Allocator + Clone>(
 {
     let mut located = outside(alloc.clone()?, points)?;
     for contour in contours {
-        join_contour(alloc.clone()?, &mut located, contour, points, tree_from)?;
+        join_contour(alloc.clone()?, &mut located, contour, points)?;
     }
     Ok(located)
 }
@@ -134,7 +129,6 @@ fn join_contour<I: IntNumber, B: Allocator + Clone>(
     located: &mut Vec<PointLocation, B>,
     contour: &[IntPoint<I>],
     points: &[IntPoint<I>],
-    tree_from: usize,
 ) -> Result<(), AllocError>
     requires contour { AllInRange I.limit (plain_points I.whole contour.now) }
     requires resolved { IsResolved (plain_points I.whole contour.now) }
@@ -151,7 +145,7 @@ fn join_contour<I: IntNumber, B: Allocator + Clone>(
     if start == end {
         return Ok(());
     }
-    let here = locate_in_contour(alloc, contour, &points[start..end], tree_from)?;
+    let here = locate_in_contour(alloc, contour, &points[start..end])?;
     join_from(Parts::Contours, located, start, &here);
     Ok(())
 }

@@ -4,7 +4,7 @@ ghost use Rattle.std.specs.Prelude.{[], ◌∷◌};
 ghost use Rattle.overlay_geom.specs.Points.{plain_points};
 ghost use Rattle.overlay_geom.specs.Paths.{paths_of_shape, plain_shapes};
 
-use crate::containment::{IntPointContainment, TREE_FROM_EDGES};
+use crate::containment::IntPointContainment;
 use crate::in_contour::locate_in_contour;
 use crate::in_shapes::{locate_in_shape, locate_in_shapes};
 use crate::location::PointLocation;
@@ -24,7 +24,7 @@ impl<'a, I: OverlayInt> IntPointContainment<I> for PathRef<'a, I> {
         alloc: A,
         points: &[IntPoint<I>],
     ) -> Result<Vec<PointLocation, A>, OverlayError> {
-        let locations = locate_in_contour(alloc, self.points, points, TREE_FROM_EDGES)?;
+        let locations = locate_in_contour(alloc, self.points, points)?;
         Ok(locations)
     }
 }
@@ -38,7 +38,7 @@ impl<'a, I: OverlayInt, B: Allocator> IntPointContainment<I> for BorrowedContour
         alloc: A,
         points: &[IntPoint<I>],
     ) -> Result<Vec<PointLocation, A>, OverlayError> {
-        let locations = locate_in_shape(alloc, self.contours, points, TREE_FROM_EDGES)?;
+        let locations = locate_in_shape(alloc, self.contours, points)?;
         Ok(locations)
     }
 }
@@ -52,7 +52,7 @@ impl<'a, I: OverlayInt, B: Allocator> IntPointContainment<I> for BorrowedShapes<
         alloc: A,
         points: &[IntPoint<I>],
     ) -> Result<Vec<PointLocation, A>, OverlayError> {
-        let locations = locate_in_shapes(alloc, self.shapes, points, TREE_FROM_EDGES)?;
+        let locations = locate_in_shapes(alloc, self.shapes, points)?;
         Ok(locations)
     }
 }
