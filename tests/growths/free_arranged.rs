@@ -14,7 +14,9 @@ use i_overlay::solver::Solver;
 use overlay_arrange::balance::is_balanced;
 use overlay_arrange::content::Content;
 use overlay_arrange::data::CountWithData;
-use overlay_arrange::fill::{fills_of_balanced, fills_with_trees_from};
+use overlay_arrange::edge::CountedEdge;
+use overlay_arrange::fill::{fills, fills_of_balanced};
+use overlay_arrange::fill_sweep::fills_by_sweep;
 use overlay_arrange::settle::is_settled;
 use overlay_arrange::sort_numbers::order_by_numbers;
 use overlay_arrange::sort_points::order_by_points;
@@ -25,9 +27,11 @@ use overlay_builder::points::gathered;
 use overlay_geom::error::OverlayError;
 use overlay_geom::flat::copied;
 use overlay_geom::thin::{push_thinned, thinned};
-use overlay_relate::in_contour::locate_in_contour;
+use overlay_relate::in_contour::{locate_by, locate_in_contour};
 use overlay_relate::in_shapes::{locate_in_shape, locate_in_shapes};
 use overlay_relate::resolved::is_resolved_in;
+use overlay_scan::list::ScanList;
+use overlay_scan::tree::ScanTree;
 use std::process::Abort;
 use std::test::Fail;
 
@@ -73,6 +77,37 @@ fn points_down<I: Width>(memory: Memory<'_>) -> Answer<Vec<IntPoint<I>, Memory<'
     Ok(points)
 }
 
+// The filled sides of the squares' edges, also with live edges in a tree and in a list.
+fn check_fills<'m, I: Width>(
+    trial: &Trial<'m, impl Abort>,
+    edges: &[CountedEdge<I, ShapeCountBoolean>],
+) -> Result<(), Fail> {
+    let memory = trial.memory;
+    let wanted = trial.refuse_call("overlay_arrange::fills", || fills(memory, edges, RULE))?;
+    assert!(trial.rt; &wanted[..4] == &[2, 1, 2, 1][..] && wanted.len() == 4 * PATHS);
+    let found = [
+        trial.refuse_call("overlay_arrange::fills_of_balanced", || {
+            fills_of_balanced(memory, edges, RULE)
+        })?,
+        trial.refuse_each(
+            "overlay_arrange::fills_by_sweep",
+            || Ok(ScanTree::default(memory)),
+            |it| fills_by_sweep(memory, it, edges, RULE),
+            |_| Ok(true),
+        )?,
+        trial.refuse_each(
+            "overlay_arrange::fills_by_sweep",
+            || Ok(ScanList::default(memory)),
+            |it| fills_by_sweep(memory, it, edges, RULE),
+            |_| Ok(true),
+        )?,
+    ];
+    for fills in &found {
+        assert!(trial.rt; *fills == wanted);
+    }
+    Ok(())
+}
+
 fn check_edges<I: Width>(trial: &Trial<'_, impl Abort>) -> Result<(), Fail> {
     let memory = trial.memory;
     let mut held = content::<I>(memory)?;
@@ -86,16 +121,7 @@ fn check_edges<I: Width>(trial: &Trial<'_, impl Abort>) -> Result<(), Fail> {
         trial.refuse_call("overlay_arrange::is_settled", || is_settled(memory, edges))?,
     ];
     assert!(trial.rt; told == [true, true]);
-    for tree_from in [0, usize::MAX] {
-        let fills = trial.refuse_call("overlay_arrange::fills_with_trees_from", || {
-            fills_with_trees_from(memory, edges, RULE, tree_from)
-        })?;
-        assert!(trial.rt; &fills[..4] == &[2, 1, 2, 1][..] && fills.len() == 4 * PATHS);
-        let again = trial.refuse_call("overlay_arrange::fills_of_balanced", || {
-            fills_of_balanced(memory, edges, RULE, tree_from)
-        })?;
-        assert!(trial.rt; again == fills);
-    }
+    check_fills(trial, edges)?;
     trial.refuse_each(
         "overlay_arrange::order_by_numbers",
         || places_down(memory),
@@ -169,21 +195,31 @@ fn check_points<I: Width>(trial: &Trial<'_, impl Abort>) -> Result<(), Fail> {
         is_resolved_in(memory, &contour)
     })?;
     assert!(trial.rt; is_resolved);
-    for tree_from in [0, usize::MAX] {
-        let located = [
-            trial.refuse_call("overlay_relate::locate_in_contour", || {
-                locate_in_contour(memory, &contour, &points, tree_from)
-            })?,
-            trial.refuse_call("overlay_relate::locate_in_shape", || {
-                locate_in_shape(memory, &shape, &points, tree_from)
-            })?,
-            trial.refuse_call("overlay_relate::locate_in_shapes", || {
-                locate_in_shapes(memory, &shapes, &points, tree_from)
-            })?,
-        ];
-        for each in &located {
-            assert!(trial.rt; &each[..] == &wanted[..]);
-        }
+    let located = [
+        trial.refuse_call("overlay_relate::locate_in_contour", || {
+            locate_in_contour(memory, &contour, &points)
+        })?,
+        trial.refuse_call("overlay_relate::locate_in_shape", || {
+            locate_in_shape(memory, &shape, &points)
+        })?,
+        trial.refuse_call("overlay_relate::locate_in_shapes", || {
+            locate_in_shapes(memory, &shapes, &points)
+        })?,
+        trial.refuse_each(
+            "overlay_relate::locate_by",
+            || Ok(ScanTree::default(memory)),
+            |it| locate_by(memory, it, &contour, &points),
+            |_| Ok(true),
+        )?,
+        trial.refuse_each(
+            "overlay_relate::locate_by",
+            || Ok(ScanList::default(memory)),
+            |it| locate_by(memory, it, &contour, &points),
+            |_| Ok(true),
+        )?,
+    ];
+    for each in &located {
+        assert!(trial.rt; &each[..] == &wanted[..]);
     }
     Ok(())
 }

@@ -22,27 +22,29 @@ use overlay_extract::binding::bind::bind_contours;
 use overlay_extract::binding::islands::{hole_places, holes_round};
 use overlay_extract::binding::placed::{bound_places, placed_contours, placed_contours_of};
 use overlay_extract::binding::places::shape_places;
-use overlay_extract::binding::scans::{scan_for_holes, scan_for_islands};
 use overlay_extract::extract::{
     extract_contours, extract_flat_shapes_of, extract_shapes, extract_shapes_of,
-    extract_shapes_with_trees_from,
 };
 use overlay_extract::flat_shapes::flat_assembled;
-use overlay_extract::hierarchy::{
-    extract_shape_hierarchy, extract_shape_hierarchy_with_trees_from,
-};
+use overlay_extract::hierarchy::extract_shape_hierarchy;
+use overlay_extract::in_shapes::in_shapes;
+use overlay_extract::links::links;
 use overlay_extract::slicing::cutter::cut_loops;
 use overlay_extract::slicing::loops::filled_loops;
 use overlay_extract::slicing::orbits::side_orbits;
 use overlay_extract::slicing::roles::contours_of_loops;
-use overlay_extract::slicing::sliced_shapes::{sliced_shapes, sliced_shapes_with_trees_from};
-use overlay_extract::slicing::slices::{slice_contours, slice_contours_with_trees_from};
+use overlay_extract::slicing::sliced_shapes::sliced_shapes;
+use overlay_extract::slicing::slices::slice_contours;
 use overlay_extract::slicing::tours::tours;
 use overlay_geom::error::OverlayError;
 use overlay_geom::number::UIntNumber;
+use overlay_scan::list::ScanList;
+use overlay_scan::scan::Scan;
+use overlay_scan::tree::ScanTree;
 use overlay_vector::graph_vectors::graph_vectors;
 use overlay_vector::selected_vectors::selected_vectors;
-use overlay_vector::vector_shapes::{vector_shapes, vector_shapes_with_trees_from};
+use overlay_vector::vector_contours;
+use overlay_vector::vector_shapes::vector_shapes;
 use overlay_walk::area::large_walks;
 use overlay_walk::contour::{Contour, Role};
 use overlay_walk::contour_cut::cut_into_contours;
@@ -63,9 +65,6 @@ use std::test::Fail;
 const SUBJECT: OverlayRule = OverlayRule::Subject;
 
 const DIRECTION: ContourDirection = ContourDirection::CounterClockwise;
-
-// The limits at which a tree, and a list, is taken whatever the number of shapes.
-const LIMITS: [usize; 2] = [0, usize::MAX];
 
 // A square with a hole and an island in it, and a small square: three shapes of four contours.
 const SQUARES: [(i16, i16); 4] = [(0, 20), (2, 18), (4, 16), (30, 34)];
@@ -251,6 +250,58 @@ fn known<'m, I: Width>(
     Ok(known)
 }
 
+// The shapes found for contours, by scans of a kind.
+fn binds<'m, I: Width, S: Scan<I, usize> + Drop, N: Fn() -> S + Drop>(
+    trial: &Trial<'m, impl Abort>,
+    contours: &[Contour<I, Memory<'m>>],
+    new: N,
+) -> Result<Vec<Option<usize>, Memory<'m>>, Fail> {
+    let memory = trial.memory;
+    trial.refuse_each(
+        "overlay_extract::bind_contours",
+        || Ok(new()),
+        |it| bind_contours(memory, it, contours, DIRECTION),
+        |_| Ok(true),
+    )
+}
+
+// The hole finds its shape, and the island the hole, by scans of a kind.
+fn check_scans<'m, I: Width, S: Scan<I, usize> + Drop, N: Fn() -> S + Drop>(
+    trial: &Trial<'m, impl Abort>,
+    contours: &[Contour<I, Memory<'m>>],
+    new: N,
+) -> Result<(), Fail> {
+    let memory = trial.memory;
+    let found = binds(trial, contours, &new)?;
+    assert!(trial.rt; found.len() == 4);
+    for (at, contour) in contours.iter().enumerate() {
+        let is_hole = contour.role == Role::FreeHole;
+        assert!(trial.rt; !is_hole || found[at] == Some(0));
+    }
+    let round = trial.refuse_each(
+        "overlay_extract::holes_round",
+        || Ok(new()),
+        |it| holes_round(memory, it, contours, DIRECTION),
+        |_| Ok(true),
+    )?;
+    assert!(trial.rt; round.len() == 3);
+    let places = trial.refuse_call("overlay_extract::shape_places", || {
+        shape_places(memory, contours, &found)
+    })?;
+    assert!(trial.rt; places.len() == 3 && places[0].count() == 2);
+    let ordered = trial.refuse_call("overlay_extract::in_shapes", || {
+        in_shapes(memory, contours, &places)
+    })?;
+    let links = trial.refuse_each(
+        "overlay_extract::links",
+        || Ok(new()),
+        |it| links(memory, it, &ordered, DIRECTION),
+        |_| Ok(true),
+    )?;
+    assert!(trial.rt; ordered.len() == 4 && links.len() == 1);
+    Ok(())
+}
+
 fn check_binding<I: Width>(trial: &Trial<'_, impl Abort>) -> Result<(), Fail> {
     let memory = trial.memory;
     let graph = plain_graph::<I>(memory)?;
@@ -263,32 +314,8 @@ fn check_binding<I: Width>(trial: &Trial<'_, impl Abort>) -> Result<(), Fail> {
         hole_places(memory, &contours)
     })?;
     assert!(trial.rt; anchors.len() == 1 && places.len() == 4);
-    for tree_from in LIMITS {
-        let new = || Ok(scan_for_holes(memory, &contours, tree_from));
-        let found = trial.refuse_each(
-            "overlay_extract::bind_contours",
-            new,
-            |it| bind_contours(memory, it, &contours, DIRECTION),
-            |_| Ok(true),
-        )?;
-        assert!(trial.rt; found.len() == 4);
-        for (at, contour) in contours.iter().enumerate() {
-            let is_hole = contour.role == Role::FreeHole;
-            assert!(trial.rt; !is_hole || found[at] == Some(0));
-        }
-        let round = trial.refuse_each(
-            "overlay_extract::holes_round",
-            || Ok(scan_for_islands(memory, &contours, tree_from)),
-            |it| holes_round(memory, it, &contours, DIRECTION),
-            |_| Ok(true),
-        )?;
-        assert!(trial.rt; round.len() == 3);
-        let places = trial.refuse_call("overlay_extract::shape_places", || {
-            shape_places(memory, &contours, &found)
-        })?;
-        assert!(trial.rt; places.len() == 3 && places[0].count() == 2);
-    }
-    Ok(())
+    check_scans(trial, &contours, || ScanTree::default(memory))?;
+    check_scans(trial, &contours, || ScanList::default(memory))
 }
 
 #[test]
@@ -301,35 +328,20 @@ fn check_shapes<I: Width>(trial: &Trial<'_, impl Abort>) -> Result<(), Fail> {
     let (graph, options) = (plain_graph::<I>(memory)?, IntOverlayOptions::default());
     let new_graph = || plain_graph::<I>(memory);
     let contours = kept(&graph)?;
-    for tree_from in LIMITS {
-        let placed = lends(trial, "overlay_extract::placed_contours", |it| {
-            placed_contours(&graph, SUBJECT, options, it, tree_from)
-        })?;
-        let places = trial.refuse_call("overlay_extract::bound_places", || {
-            bound_places(&graph, &contours, DIRECTION, tree_from)
-        })?;
-        assert!(trial.rt; placed.places.len() == 3 && places.len() == 3);
-        let placed = gives(
-            trial,
-            "overlay_extract::placed_contours_of",
-            &new_graph,
-            |graph, it| placed_contours_of(graph, SUBJECT, options, it, tree_from),
-        )?;
-        assert!(trial.rt; placed.places.len() == 3);
-        let shapes = lends(
-            trial,
-            "overlay_extract::extract_shapes_with_trees_from",
-            |it| extract_shapes_with_trees_from(&graph, SUBJECT, options, it, tree_from),
-        )?;
-        let linked = lends(
-            trial,
-            "overlay_extract::extract_shape_hierarchy_with_trees_from",
-            |it| {
-                extract_shape_hierarchy_with_trees_from(&graph, SUBJECT, options, it, tree_from)
-            },
-        )?;
-        assert!(trial.rt; shapes.len() == 3 && linked.links.len() == 1);
-    }
+    let placed = lends(trial, "overlay_extract::placed_contours", |it| {
+        placed_contours(&graph, SUBJECT, options, it)
+    })?;
+    let places = trial.refuse_call("overlay_extract::bound_places", || {
+        bound_places(&graph, &contours, DIRECTION)
+    })?;
+    assert!(trial.rt; placed.places.len() == 3 && places.len() == 3);
+    let placed = gives(
+        trial,
+        "overlay_extract::placed_contours_of",
+        &new_graph,
+        |graph, it| placed_contours_of(graph, SUBJECT, options, it),
+    )?;
+    assert!(trial.rt; placed.places.len() == 3);
     let shapes = lends(trial, "overlay_extract::extract_shapes", |it| {
         extract_shapes(&graph, SUBJECT, options, it)
     })?;
@@ -357,7 +369,6 @@ fn check_shapes<I: Width>(trial: &Trial<'_, impl Abort>) -> Result<(), Fail> {
         extract_shape_hierarchy(&graph, SUBJECT, options, it)
     })?;
     assert!(trial.rt; shapes.len() == 3 && linked.links.len() == 1);
-    let places = bound_places(&graph, &contours, DIRECTION, 0)?;
     for keeps_points in [false, true] {
         let again = trial.refuse_call("overlay_extract::assembled", || {
             assembled(memory, &contours, &places, keeps_points)
@@ -433,14 +444,13 @@ fn check_slices<I: Width>(trial: &Trial<'_, impl Abort>) -> Result<(), Fail> {
         sliced_shapes(&graph, DIRECTION, least)
     })?;
     assert!(trial.rt; contours.len() == 4 && found.contours.len() == 4 && shapes.len() == 3);
-    for tree_from in LIMITS {
-        let found = trial.refuse_call("overlay_extract::slice_contours_with_trees_from", || {
-            slice_contours_with_trees_from(&graph, least, tree_from)
-        })?;
-        let again = trial.refuse_call("overlay_extract::sliced_shapes_with_trees_from", || {
-            sliced_shapes_with_trees_from(&graph, DIRECTION, least, tree_from)
-        })?;
-        assert!(trial.rt; found.contours.len() == 4 && again == shapes);
+    for found in [
+        binds(trial, &contours, || ScanTree::default(memory))?,
+        binds(trial, &contours, || ScanList::default(memory))?,
+    ] {
+        let places = shape_places(memory, &contours, &found)?;
+        let again = assembled(memory, &contours, &places, true)?;
+        assert!(trial.rt; found.len() == 4 && again == shapes);
     }
     Ok(())
 }
@@ -470,13 +480,21 @@ fn check_vectors<I: Width>(trial: &Trial<'_, impl Abort>) -> Result<(), Fail> {
         vector_shapes(&graph, SUBJECT, options, it, &mut ())
     })?;
     assert!(trial.rt; shapes.len() == 3);
-    for tree_from in LIMITS {
-        let shapes = lends(
-            trial,
-            "overlay_vector::vector_shapes_with_trees_from",
-            |it| vector_shapes_with_trees_from(&graph, SUBJECT, options, it, &mut (), tree_from),
-        )?;
-        assert!(trial.rt; shapes.len() == 3);
+    let contours = kept_contours(
+        &graph,
+        SUBJECT,
+        options,
+        &mut BooleanExtractionBuffer::default(memory),
+    )?;
+    for found in [
+        binds(trial, &contours, || ScanTree::default(memory))?,
+        binds(trial, &contours, || ScanList::default(memory))?,
+    ] {
+        let places = shape_places(memory, &contours, &found)?;
+        let again = trial.refuse_call("overlay_vector::assembled", || {
+            vector_contours::assembled(&graph, &contours, &places, false, &mut ())
+        })?;
+        assert!(trial.rt; again == shapes);
     }
     Ok(())
 }

@@ -9,11 +9,18 @@ use overlay_arrange::content::Content;
 use overlay_arrange::count::ShapeCountBoolean;
 use overlay_arrange::data::CountWithData;
 use overlay_arrange::edge::{CountedEdge, compare_points};
+use overlay_arrange::options::IntOverlayOptions;
+use overlay_extract::binding::bind::bind_contours;
+use overlay_extract::binding::places::shape_places;
 use overlay_geom::error::OverlayError;
 use overlay_geom::integer::OverlayInt;
 use overlay_geom::solver::Solver;
+use overlay_scan::list::ScanList;
+use overlay_scan::scan::Scan;
+use overlay_scan::tree::ScanTree;
 use overlay_vector::edge_overlay::{EdgeOverlay, ShapeType};
-use overlay_vector::vector_shapes::vector_shapes_with_trees_from;
+use overlay_vector::vector_contours::assembled;
+use overlay_walk::kept_contours::kept_contours;
 use std::alloc::Global;
 use std::process::Abort;
 use std::test::Fail;
@@ -104,13 +111,13 @@ fn answered<I: OverlayInt + From<i16>>(
     Ok(overlay)
 }
 
-// Tests whether the graph of the row's edges, with the buffer of another builder, gives the row's shapes, with a tree
-// from this number of shapes on.
-fn gives<I: OverlayInt + PartialEq + From<i16>>(
+// Tests whether the graph of the row's edges, with the buffer of another builder, gives the row's shapes, with live
+// edges in the scan. The contours are cut without groups.
+fn gives<I: OverlayInt + PartialEq + From<i16>, S: Scan<I, usize>>(
     rt: &impl Abort,
     alloc: Global,
     row: &Row<'_>,
-    tree_from: usize,
+    scan: &mut S,
 ) -> Result<bool, Fail> {
     let mut overlay = answered::<I>(rt, alloc)?;
     let Some(mut buffer) = overlay.boolean_buffer.take() else {
@@ -121,44 +128,47 @@ fn gives<I: OverlayInt + PartialEq + From<i16>>(
     content.arrange(Solver::ABSOLUTE, &mut store)?;
     assert!(rt; is_balanced(alloc, content.edges())?);
     let graph = content.graph(row.fill)?;
-    let shapes = vector_shapes_with_trees_from(
-        &graph,
-        row.rule,
-        options_of::<I>(row),
-        &mut buffer,
-        &mut store,
-        tree_from,
-    )?;
+    let options = IntOverlayOptions {
+        ogc: false,
+        ..options_of::<I>(row)
+    };
+    let contours = kept_contours(&graph, row.rule, options, &mut buffer)?;
+    let found = bind_contours(alloc, scan, &contours, options.output_direction)?;
+    let places = shape_places(alloc, &contours, &found)?;
+    let keeps_edges = options.preserve_output_collinear;
+    let shapes = assembled(&graph, &contours, &places, keeps_edges, &mut store)?;
     Ok(are_shapes::<I>(alloc, &shapes, row.wanted)?)
 }
 
-// All rows with trees alone, or with lists alone, at a coordinate type.
-fn rows<I: OverlayInt + PartialEq + From<i16>>(
+// All rows at a coordinate type, each with live edges in a scan of its own.
+fn rows<I: OverlayInt + PartialEq + From<i16>, S: Scan<I, usize> + Drop, N: Fn() -> S + Drop>(
     rt: &impl Abort,
     alloc: Global,
-    tree_from: usize,
+    new: N,
 ) -> Result<(), Fail> {
-    assert!(rt; gives::<I>(rt, alloc, &OVERLAPPING, tree_from)?);
-    assert!(rt; gives::<I>(rt, alloc, &TWO_COLOURS, tree_from)?);
-    assert!(rt; gives::<I>(rt, alloc, &ONE_COLOUR, tree_from)?);
-    assert!(rt; gives::<I>(rt, alloc, &TOUCHING, tree_from)?);
-    assert!(rt; gives::<I>(rt, alloc, &JOINED, tree_from)?);
-    assert!(rt; gives::<I>(rt, alloc, &KEPT, tree_from)?);
-    assert!(rt; gives::<I>(rt, alloc, &CUT_OUT, tree_from)?);
-    assert!(rt; gives::<I>(rt, alloc, &HOLES, tree_from)?);
+    assert!(rt; gives::<I, S>(rt, alloc, &OVERLAPPING, &mut new())?);
+    assert!(rt; gives::<I, S>(rt, alloc, &TWO_COLOURS, &mut new())?);
+    assert!(rt; gives::<I, S>(rt, alloc, &ONE_COLOUR, &mut new())?);
+    assert!(rt; gives::<I, S>(rt, alloc, &TOUCHING, &mut new())?);
+    assert!(rt; gives::<I, S>(rt, alloc, &JOINED, &mut new())?);
+    assert!(rt; gives::<I, S>(rt, alloc, &KEPT, &mut new())?);
+    assert!(rt; gives::<I, S>(rt, alloc, &CUT_OUT, &mut new())?);
+    assert!(rt; gives::<I, S>(rt, alloc, &HOLES, &mut new())?);
     Ok(())
 }
 
 #[test]
 fn contours_traced_with_trees_alone(rt: HostRuntime) -> Result<(), Fail> {
-    rows::<i16>(&rt, rt.alloc(), 0)?;
-    rows::<i32>(&rt, rt.alloc(), 0)?;
-    rows::<i64>(&rt, rt.alloc(), 0)
+    let alloc = rt.alloc();
+    rows::<i16, _, _>(&rt, alloc, || ScanTree::default(alloc))?;
+    rows::<i32, _, _>(&rt, alloc, || ScanTree::default(alloc))?;
+    rows::<i64, _, _>(&rt, alloc, || ScanTree::default(alloc))
 }
 
 #[test]
 fn contours_traced_with_lists_alone(rt: HostRuntime) -> Result<(), Fail> {
-    rows::<i16>(&rt, rt.alloc(), usize::MAX)?;
-    rows::<i32>(&rt, rt.alloc(), usize::MAX)?;
-    rows::<i64>(&rt, rt.alloc(), usize::MAX)
+    let alloc = rt.alloc();
+    rows::<i16, _, _>(&rt, alloc, || ScanList::default(alloc))?;
+    rows::<i32, _, _>(&rt, alloc, || ScanList::default(alloc))?;
+    rows::<i64, _, _>(&rt, alloc, || ScanList::default(alloc))
 }

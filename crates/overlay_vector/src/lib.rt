@@ -11,5 +11,5 @@ pub mod laws;
 pub mod path;
 pub mod selected_vectors;
 pub mod side_fill;
-mod vector_contours;
+pub mod vector_contours;
 pub mod vector_shapes;

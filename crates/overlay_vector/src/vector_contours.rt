@@ -32,7 +32,7 @@ use std::alloc::{AllocError, Allocator};
 /// and the data of its edge, both turned round where it leads from the larger end; unless edges are to be kept,
 /// neighbours are joined.
 #[tactic(auto, using(overlay_arrange::proofs::ReachedStores::never_written))]
-pub(crate) fn assembled<I: IntNumber, D: OverlayEdgeData, A: Allocator + Clone>(
+pub fn assembled<I: IntNumber, D: OverlayEdgeData, A: Allocator + Clone>(
     graph: &Graph<I, CountWithData<D>, A>,
     contours: &[Contour<I, A>],
     places: &[ShapePlaces<A>],

@@ -14,7 +14,6 @@ use overlay_arrange::graph::Graph;
 use overlay_arrange::options::IntOverlayOptions;
 use overlay_arrange::overlay_rule::OverlayRule;
 use overlay_extract::binding::placed::bound_places;
-use overlay_extract::binding::scans::TREE_FROM_PARENTS;
 use overlay_geom::number::IntNumber;
 use overlay_walk::buffer::BooleanExtractionBuffer;
 use overlay_walk::kept_contours::kept_contours;
@@ -32,6 +31,7 @@ use std::alloc::{AllocError, Allocator};
 /// has the data of the first of them. The contours may begin anywhere.
 ///
 /// The graph's counts are balanced. The buffer lends its room. The store is handed to `reversed`.
+#[tactic(auto, using(overlay_arrange::proofs::ReachedStores::never_written))]
 pub fn vector_shapes<I: IntNumber, D: OverlayEdgeData, A: Allocator + Clone>(
     graph: &Graph<I, CountWithData<D>, A>,
     overlay_rule: OverlayRule,
@@ -45,40 +45,13 @@ pub fn vector_shapes<I: IntNumber, D: OverlayEdgeData, A: Allocator + Clone>(
         graph.now.edges (plain_vector_shapes I.whole v.items)) }
     ensures store { IsStoreReached D.writes store.old store.new }
 {
-    vector_shapes_with_trees_from(
-        graph,
-        overlay_rule,
-        options,
-        buffer,
-        store,
-        TREE_FROM_PARENTS,
-    )
-}
-
-/// The shapes that [`vector_shapes`] gives, for a limit of the caller's: where there are `tree_from` shapes or more
-/// their live edges are kept in a tree, and else in a list.
-#[tactic(auto, using(overlay_arrange::proofs::ReachedStores::never_written))]
-pub fn vector_shapes_with_trees_from<I: IntNumber, D: OverlayEdgeData, A: Allocator + Clone>(
-    graph: &Graph<I, CountWithData<D>, A>,
-    overlay_rule: OverlayRule,
-    options: IntOverlayOptions<I::WideUInt>,
-    buffer: &mut BooleanExtractionBuffer<I, A>,
-    store: &mut D::Store,
-    tree_from: usize,
-) -> Result<Vec<DataVectorShape<I, D, A>, A>, AllocError>
-    requires { HasBalancedCounts (graph_edges graph.now) }
-    ensures shapes { IfOk result (λ v. AreVectorShapes D.reverses D.eq
-        (asked I.Wide.width I.WideUInt.natural graph.now.fill_rule overlay_rule options)
-        graph.now.edges (plain_vector_shapes I.whole v.items)) }
-    ensures store { IsStoreReached D.writes store.old store.new }
-{
     graph.note_arrangement();
     let without_groups = IntOverlayOptions {
         ogc: false,
         ..options
     };
     let contours = kept_contours(graph, overlay_rule, without_groups, buffer)?;
-    let places = bound_places(graph, &contours, options.output_direction, tree_from)?;
+    let places = bound_places(graph, &contours, options.output_direction)?;
     assembled(
         graph,
         &contours,

@@ -14,7 +14,7 @@ use Rattle.overlay_extract.proofs.PlacedShapes.{can_be_placed}
 use Rattle.overlay_extract.specs.Placed.{ArePlacedSomehow}
 use Rattle.overlay_vector.specs.VectorShapes.{plain_vector_shapes, AreVectorContours, AreVectorShapes}
 use Rattle.overlay_vector.proofs.VectorShapes.{vector_shapes_shown, without_groups}
-use Rattle.overlay_vector.proofs.vector_shapes.vector_shapes_with_trees_from.Goals as goal
+use Rattle.overlay_vector.proofs.vector_shapes.vector_shapes.Goals as goal
 
 pub bound_places-requires-clause-long : goal.bound_places-requires-clause-long
 bound_places-requires-clause-long g c =
