@@ -5,10 +5,10 @@
 
     holes    holes are bound to shapes (`bind_contours`): rectangles one below another, each a step further right
              than the one above it, with a hole each; a quarter of the edges are live at once
-    points   three points are located in a contour (`locate_in_contour`, without the test that it is resolved):
-             a zigzag between a slanted and an upright line; nearly all edges are live at once
-    fills    the filled sides of edges (`fills_with_trees_from`, with the test of balance): those of the rectangles
-             and holes; half are live at once
+    points   three points are located in a contour (`locate_by`, without the test that it is resolved): a zigzag
+             between a slanted and an upright line; nearly all edges are live at once
+    fills    the filled sides of edges (`fills_by_sweep`, behind the test of balance): those of the rectangles and
+             holes; half are live at once
     apart    the same of rectangles none of which lies under another; a few edges are live at once
 
 In the first three every new edge goes in below all live ones, or above the lowest one or two. Coordinates have 64 bits.
@@ -31,30 +31,33 @@ KINDS = {
     "fills": "Filled sides",
     "apart": "Filled sides, few edges live",
 }
-LIMITS = {"list": 2**64 - 1, "tree": 0}
+SCANS = ("list", "tree")
 COLUMNS = ("Edges", "List, ms", "Tree, ms")
 EDGES_OF_A_RUN = 100_000
-SMALL = [str(word) for kind in KINDS for limit in LIMITS.values() for word in (kind, 80, limit, 1)]
+SMALL = [str(word) for kind in KINDS for scan in SCANS for word in (kind, 80, scan, 1)]
 
 NAME = "timed_scans"
 USES = [
     "overlay_geom", "overlay_scan", "overlay_arrange", "overlay_walk", "overlay_extract", "overlay_relate", "anyhow",
 ]
 DRIVER = """\
-//! Times sweeps: KIND EDGES TREE_FROM ROUNDS, as often as is wanted.
+//! Times sweeps: KIND EDGES SCAN ROUNDS, as often as is wanted. SCAN is `list` or `tree`.
 #![tactic(auto)]
 
 use anyhow::{Result, bail};
+use overlay_arrange::balance::is_balanced;
 use overlay_arrange::count::ShapeCountBoolean;
 use overlay_arrange::edge::{CountedEdge, compare_edges, compare_points};
-use overlay_arrange::fill::fills_with_trees_from;
 use overlay_arrange::fill_rule::FillRule;
+use overlay_arrange::fill_sweep::fills_by_sweep;
 use overlay_arrange::options::ContourDirection;
+use overlay_arrange::vector::SideFill;
 use overlay_extract::binding::bind::bind_contours;
 use overlay_geom::point::IntPoint;
-use overlay_relate::in_contour::locate_in_contour;
+use overlay_relate::in_contour::locate_by;
 use overlay_relate::location::PointLocation;
-use overlay_scan::tree::either::EitherScan;
+use overlay_scan::list::ScanList;
+use overlay_scan::tree::ScanTree;
 use overlay_walk::contour::{Contour, Role};
 use overlay_walk::step::Step;
 use std::alloc::Global;
@@ -127,12 +130,48 @@ fn time(rt: &impl CpuClock) -> Result<u128> {
     Ok(rt.process_cpu_time()?.as_nanos())
 }
 
-fn holes(rt: &(impl CpuClock + Print), alloc: Global, [edges, tree_from, rounds]: [usize; 3]) -> Result<()> {
-    let contours = rectangles(alloc, edges, edges / 8)?;
-    for _ in 0..rounds {
+// What is asked of a sweep.
+#[derive(Clone, Copy)]
+struct Asked {
+    edges: usize,
+    is_tree: bool,
+    rounds: usize,
+}
+
+fn bound(alloc: Global, contours: &[Contour<i64, Global>], is_tree: bool) -> Result<Vec<Option<usize>>> {
+    let direction = ContourDirection::CounterClockwise;
+    Ok(if is_tree {
+        bind_contours(alloc, &mut ScanTree::default(alloc), contours, direction)?
+    } else {
+        bind_contours(alloc, &mut ScanList::default(alloc), contours, direction)?
+    })
+}
+
+fn located(alloc: Global, contour: &[Point], points: &[Point], is_tree: bool) -> Result<Vec<PointLocation>> {
+    Ok(if is_tree {
+        locate_by(alloc, &mut ScanTree::default(alloc), contour, points)?
+    } else {
+        locate_by(alloc, &mut ScanList::default(alloc), contour, points)?
+    })
+}
+
+fn filled(alloc: Global, edges: &Edges, is_tree: bool) -> Result<Vec<SideFill>> {
+    if !is_balanced(alloc, edges)? {
+        bail!("not balanced");
+    }
+    let rule = FillRule::NonZero;
+    Ok(if is_tree {
+        fills_by_sweep(alloc, &mut ScanTree::default(alloc), edges, rule)?
+    } else {
+        fills_by_sweep(alloc, &mut ScanList::default(alloc), edges, rule)?
+    })
+}
+
+fn holes(rt: &(impl CpuClock + Print), alloc: Global, asked: Asked) -> Result<()> {
+    let contours = rectangles(alloc, asked.edges, asked.edges / 8)?;
+    for _ in 0..asked.rounds {
         let start = time(rt)?;
-        let mut scan = EitherScan::for_count(alloc, contours.len() / 2, tree_from);
-        let found = bind_contours(alloc, &mut scan, &contours, ContourDirection::CounterClockwise)?;
+        let found = bound(alloc, &contours, asked.is_tree)?;
         let took = time(rt)? - start;
         let sum = found.iter().enumerate().map(|(i, n)| i * n.unwrap_or(0)).sum::<usize>();
         println!(rt; "{took} {sum}")?;
@@ -140,29 +179,24 @@ fn holes(rt: &(impl CpuClock + Print), alloc: Global, [edges, tree_from, rounds]
     Ok(())
 }
 
-fn points(rt: &(impl CpuClock + Print), alloc: Global, [edges, tree_from, rounds]: [usize; 3]) -> Result<()> {
-    let contour = zigzag(alloc, edges)?;
-    let x = edges as i64 / 2 - 2;
+fn points(rt: &(impl CpuClock + Print), alloc: Global, asked: Asked) -> Result<()> {
+    let contour = zigzag(alloc, asked.edges)?;
+    let x = asked.edges as i64 / 2 - 2;
     let points = [IntPoint::new(x, 1), IntPoint::new(x, -1), contour[1]];
-    for _ in 0..rounds {
+    for _ in 0..asked.rounds {
         let start = time(rt)?;
-        let found = locate_in_contour(alloc, &contour, &points, tree_from)?;
+        let found = located(alloc, &contour, &points, asked.is_tree)?;
         let took = time(rt)? - start;
         println!(rt; "{took} {found:?}")?;
     }
     Ok(())
 }
 
-fn fills(
-    rt: &(impl CpuClock + Print),
-    alloc: Global,
-    [edges, tree_from, rounds]: [usize; 3],
-    width: usize,
-) -> Result<()> {
-    let all = edges_of(alloc, &rectangles(alloc, edges, width)?)?;
-    for _ in 0..rounds {
+fn fills(rt: &(impl CpuClock + Print), alloc: Global, asked: Asked, width: usize) -> Result<()> {
+    let all = edges_of(alloc, &rectangles(alloc, asked.edges, width)?)?;
+    for _ in 0..asked.rounds {
         let start = time(rt)?;
-        let found = fills_with_trees_from(alloc, &all, FillRule::NonZero, tree_from)?;
+        let found = filled(alloc, &all, asked.is_tree)?;
         let took = time(rt)? - start;
         let sum = found.iter().enumerate().map(|(i, n)| i * usize::from(*n)).sum::<usize>();
         println!(rt; "{took} {sum}")?;
@@ -170,21 +204,23 @@ fn fills(
     Ok(())
 }
 
-fn number(words: &mut impl Iterator<Item = String>) -> Result<usize> {
-    let Some(word) = words.next() else { bail!("KIND EDGES TREE_FROM ROUNDS") };
-    Ok(word.parse::<usize>()?)
+fn next(words: &mut impl Iterator<Item = String>) -> Result<String> {
+    let Some(word) = words.next() else { bail!("KIND EDGES SCAN ROUNDS") };
+    Ok(word)
 }
 
 fn main(rt: HostRuntime) -> Result<()> {
     let mut words = env::args(&rt)?;
     let _ = words.next();
     while let Some(kind) = words.next() {
-        let asked = [number(&mut words)?, number(&mut words)?, number(&mut words)?];
+        let edges = next(&mut words)?.parse::<usize>()?;
+        let is_tree = next(&mut words)?.as_str() == "tree";
+        let asked = Asked { edges, is_tree, rounds: next(&mut words)?.parse::<usize>()? };
         match kind.as_str() {
             "holes" => holes(&rt, rt.alloc(), asked)?,
             "points" => points(&rt, rt.alloc(), asked)?,
             "apart" => fills(&rt, rt.alloc(), asked, 1)?,
-            _ => fills(&rt, rt.alloc(), asked, asked[0] / 8)?,
+            _ => fills(&rt, rt.alloc(), asked, edges / 8)?,
         }
     }
     Ok(())
@@ -210,12 +246,12 @@ def build_scans(program):
 def least(program, kind, edges, runs):
     """The least time of each kind of live edges, in milliseconds; all runs must give one answer."""
     rounds = max(1, EDGES_OF_A_RUN // edges)
-    times, answers = {name: [] for name in LIMITS}, set()
+    times, answers = {scan: [] for scan in SCANS}, set()
     for _ in range(runs):
-        for name, limit in LIMITS.items():
-            for line in answer_of([program, kind, edges, limit, rounds]).splitlines():
+        for scan in SCANS:
+            for line in answer_of([program, kind, edges, scan, rounds]).splitlines():
                 took, answer = line.split(" ", 1)
-                times[name].append(int(took) / 1e6)
+                times[scan].append(int(took) / 1e6)
                 answers.add(answer)
     if len(answers) != 1:
         raise SystemExit(f"{kind} of {edges} edges: a list and a tree differ: {answers}")
