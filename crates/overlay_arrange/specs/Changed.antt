@@ -1,5 +1,6 @@
 -- The edges of a list that may meet other edges elsewhere than in ends, and those of the next list.
 use Rattle.std.specs.Prelude.{◌≡◌, ◌⊎◌, ℕ, ◌<◌, ◌≤◌, ℤ, Bool, true, false, List, length, All, AllPairs, Contains}
+use Rattle.std.specs.Prelude.{IfSome}
 use Rattle.overlay_geom.specs.Counts.{Counts}
 use Rattle.overlay_geom.specs.Edges.{CountedEdge, ends_of}
 use Rattle.overlay_arrange.specs.Content.{plain_edges}
@@ -60,7 +61,7 @@ pub record AreChangesOf (es : List CountedEdge) (places : List ℕ) (cs : List C
 pub record AreHeldChangesOf {I C A : Type 0} (whole : I → ℤ) (counts : C → Counts) (limit : ℕ)
     (es : List CountedEdge) (changed : Changed I C A) : Type 0 where
   pub changes : AreChangesOf es changed.places.items (plain_edges whole counts changed.edges.items)
-  pub strips : AreHeldStripsOf whole limit (plain_edges whole counts changed.edges.items) changed.strips
+  pub strips : IfSome changed.strips (AreHeldStripsOf whole limit (plain_edges whole counts changed.edges.items))
 
 -- ---- places
 

@@ -1,5 +1,5 @@
--- The strips of a list of edges, with bundles or without, if they are made.
-use Rattle.std.specs.Prelude.{◌≡◌, ◌⊎◌, ℕ, ◌<◌, ℤ, List, IfSome}
+-- The strips of a list of edges, with bundles or without.
+use Rattle.std.specs.Prelude.{ℕ, ◌<◌, ℤ, List, IfSome}
 use Rattle.std.specs.List.Sorted.{IsPermutation}
 use Rattle.overlay_geom.specs.Edges.{CountedEdge}
 use Rattle.overlay_arrange.specs.Bundles.{AreBundlesOf}
@@ -7,7 +7,7 @@ use Rattle.overlay_arrange.specs.Extents.{extents_of, plain_extents, AreByHeight
 use Rattle.overlay_arrange.specs.declared.strips.Strips.{Strips}
 
 -- the program's strips have the boxes of the edges, and its bundles, if there are some, the edges
-pub record AreMadeStripsOf {I A : Type 0} (whole : I → ℤ) (limit : ℕ) (es : List CountedEdge) (held : Strips I A) :
+pub record AreHeldStripsOf {I A : Type 0} (whole : I → ℤ) (limit : ℕ) (es : List CountedEdge) (held : Strips I A) :
     Type 0 where
   pub some : 0 < held.width
   pub permutation : IsPermutation (extents_of es) (plain_extents whole held.edges.items)
@@ -17,7 +17,3 @@ pub record AreMadeStripsOf {I A : Type 0} (whole : I → ℤ) (limit : ℕ) (es 
       (plain_extents whole held.of_64.items) (plain_extents whole held.of_512.items)
       (plain_extents whole held.of_4096.items) (plain_extents whole held.of_32768.items)
   pub bundles : IfSome held.bundles (AreBundlesOf whole limit es)
-
--- the strips are not made, or they are those of the edges
-abbrev pub AreHeldStripsOf : {I A : Type 0} → (I → ℤ) → ℕ → List CountedEdge → Strips I A → Type 0
-AreHeldStripsOf whole limit es held = (held.width ≡ 0) ⊎ AreMadeStripsOf whole limit es held

@@ -32,8 +32,8 @@ pub(crate) struct Changed<I: Copy, C: Copy, A: Allocator> {
     pub places: Vec<usize, A>,
     /// The edges at these places.
     pub edges: Vec<CountedEdge<I, C>, A>,
-    /// The strips of these edges.
-    pub strips: Strips<I, A>,
+    /// The strips of these edges, if some are made.
+    pub strips: Option<Strips<I, A>>,
 }
 
 /// Returns the edges of a list that may meet other edges elsewhere than in ends. It leaves out each edge with the ends
@@ -146,13 +146,13 @@ fn edges_at<I: IntNumber, C: EdgeCount, A: Allocator>(
 pub(crate) fn find_open<I: IntNumber, C: EdgeCount, A: Allocator>(
     near: &mut Vec<usize, A>,
     edges: &[CountedEdge<I, C>],
-    strips: &Strips<I, A>,
+    strips: &Option<Strips<I, A>>,
     changed: &Option<Changed<I, C, A>>,
     i: usize,
 ) -> Result<(), AllocError>
     requires held { All (IsHeld I.limit) (plain_edges I.whole C.counts edges.now) }
     requires ascending { IsAscending (plain_edges I.whole C.counts edges.now) }
-    requires strips { AreHeldStripsOf I.whole I.limit (plain_edges I.whole C.counts edges.now) strips.now }
+    requires strips { IfSome strips.now (AreHeldStripsOf I.whole I.limit (plain_edges I.whole C.counts edges.now)) }
     requires changed { IfSome changed.now
         (AreHeldChangesOf I.whole C.counts I.limit (plain_edges I.whole C.counts edges.now)) }
     requires within { i < length edges.now }

@@ -38,13 +38,13 @@ pub(crate) struct Meeting<I> {
 pub(crate) fn gather<I: IntNumber, C: EdgeCount, A: Allocator + Clone>(
     alloc: A,
     edges: &[CountedEdge<I, C>],
-    strips: &Strips<I, A>,
+    strips: &Option<Strips<I, A>>,
     changed: &Option<Changed<I, C, A>>,
     from: usize,
 ) -> Result<(Vec<Meeting<I>, A>, Vec<bool, A>), AllocError>
     requires held { All (IsHeld I.limit) (plain_edges I.whole C.counts edges.now) }
     requires ascending { IsAscending (plain_edges I.whole C.counts edges.now) }
-    requires strips { AreHeldStripsOf I.whole I.limit (plain_edges I.whole C.counts edges.now) strips.now }
+    requires strips { IfSome strips.now (AreHeldStripsOf I.whole I.limit (plain_edges I.whole C.counts edges.now)) }
     requires changed { IfSome changed.now
         (AreHeldChangesOf I.whole C.counts I.limit (plain_edges I.whole C.counts edges.now)) }
     requires settled { AreSettledBefore (plain_edges I.whole C.counts edges.now) from }

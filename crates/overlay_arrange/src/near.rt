@@ -1,7 +1,7 @@
 //! The later edges of a list that an edge may meet.
 
 ghost use Rattle.std.specs.Prelude.{◌≡◌, ◌↔◌, ◌⊎◌, ◌+◌, ◌-◌, ◌≤◌, ◌<◌, ◌<ℤ◌, ◌/◌, ◌++◌, ◌∷◌, []};
-ghost use Rattle.std.specs.Prelude.{true, false, take, All, length, IsTrue, OnOk};
+ghost use Rattle.std.specs.Prelude.{true, false, take, All, length, IfSome, IsTrue, OnOk};
 ghost use Rattle.overlay_arrange.specs.Content.{plain_edge, plain_edges, IsAscending, IsHeld};
 ghost use Rattle.overlay_arrange.specs.Extents.{extent_of, plain_extent, plain_extents, AreByHeights, AreInBlocks};
 ghost use Rattle.overlay_arrange.specs.Extents.{AreInStrips, ShareNoHeight};
@@ -30,6 +30,31 @@ const BLOCK: usize = 8;
 pub(crate) fn find_near_behind<I: IntNumber, C: EdgeCount, A: Allocator>(
     near: &mut Vec<usize, A>,
     edges: &[CountedEdge<I, C>],
+    strips: &Option<Strips<I, A>>,
+    e: &CountedEdge<I, C>,
+    from: usize,
+) -> Result<(), AllocError>
+    requires held { All (IsHeld I.limit) (plain_edges I.whole C.counts edges.now) }
+    requires ascending { IsAscending (plain_edges I.whole C.counts edges.now) }
+    requires strips { IfSome strips.now (AreHeldStripsOf I.whole I.limit (plain_edges I.whole C.counts edges.now)) }
+    requires one { IsHeld I.limit (plain_edge I.whole C.counts e.now) }
+    requires within { from ≤ length edges.now }
+    ensures ok { OnOk result (AreNearBehind (plain_edges I.whole C.counts edges.now) (plain_edge I.whole C.counts e.now)
+        from near.new.items) }
+{
+    near.clear();
+    let to = place_right_of(edges, from, e.b.x);
+    match strips {
+        Some(strips) if FEW < to - from => find_by_strips(near, edges, strips, e, from),
+        _ => take_by_heights(near, edges, e, from, to),
+    }
+}
+
+/// Finds the places of the edges from `from` on that start up to the right end of e, and whose heights are not apart
+/// from its own, by the strips of the edges. It leaves out edges of bundles that e misses.
+pub(crate) fn find_by_strips<I: IntNumber, C: EdgeCount, A: Allocator>(
+    near: &mut Vec<usize, A>,
+    edges: &[CountedEdge<I, C>],
     strips: &Strips<I, A>,
     e: &CountedEdge<I, C>,
     from: usize,
@@ -39,14 +64,10 @@ pub(crate) fn find_near_behind<I: IntNumber, C: EdgeCount, A: Allocator>(
     requires strips { AreHeldStripsOf I.whole I.limit (plain_edges I.whole C.counts edges.now) strips.now }
     requires one { IsHeld I.limit (plain_edge I.whole C.counts e.now) }
     requires within { from ≤ length edges.now }
+    requires empty { near.old.items ≡ [] }
     ensures ok { OnOk result (AreNearBehind (plain_edges I.whole C.counts edges.now) (plain_edge I.whole C.counts e.now)
         from near.new.items) }
 {
-    near.clear();
-    let to = place_right_of(edges, from, e.b.x);
-    if strips.width == 0 || to - from <= FEW {
-        return take_by_heights(near, edges, e, from, to);
-    }
     let end = run_end(edges, e.b.x, from);
     if end == from {
         Ok(())

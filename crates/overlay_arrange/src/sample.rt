@@ -6,7 +6,7 @@ ghost use Rattle.overlay_arrange.specs.Strips.{AreHeldStripsOf};
 
 use crate::count::EdgeCount;
 use crate::edge::CountedEdge;
-use crate::near::find_near_behind;
+use crate::near::find_by_strips;
 use crate::settle::meet_in_ends;
 use crate::strips::Strips;
 use overlay_geom::number::IntNumber;
@@ -43,7 +43,8 @@ pub(crate) fn misses_many<I: IntNumber, C: EdgeCount, A: Allocator>(
         let i = k.saturating_mul(distance);
         if i < edges.len() {
             let e = &edges[i];
-            find_near_behind(&mut near, edges, strips, e, i + 1)?;
+            near.clear();
+            find_by_strips(&mut near, edges, strips, e, i + 1)?;
             if near.len() >= FOUND && count_met(edges, e, &near) < near.len() / 4 {
                 count = count.saturating_add(1);
             }

@@ -42,12 +42,12 @@ pub fn is_settled<I: IntNumber, C: EdgeCount, A: Allocator + Clone>(
 pub(crate) fn count_settled<I: IntNumber, C: EdgeCount, A: Allocator>(
     alloc: A,
     edges: &[CountedEdge<I, C>],
-    strips: &Strips<I, A>,
+    strips: &Option<Strips<I, A>>,
     changed: &Option<Changed<I, C, A>>,
 ) -> Result<usize, AllocError>
     requires held { All (IsHeld I.limit) (plain_edges I.whole C.counts edges.now) }
     requires ascending { IsAscending (plain_edges I.whole C.counts edges.now) }
-    requires strips { AreHeldStripsOf I.whole I.limit (plain_edges I.whole C.counts edges.now) strips.now }
+    requires strips { IfSome strips.now (AreHeldStripsOf I.whole I.limit (plain_edges I.whole C.counts edges.now)) }
     requires changed { IfSome changed.now
         (AreHeldChangesOf I.whole C.counts I.limit (plain_edges I.whole C.counts edges.now)) }
     ensures ok { IfOk result (λ count. AreSettledBefore (plain_edges I.whole C.counts edges.now) count) }

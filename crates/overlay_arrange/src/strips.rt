@@ -1,13 +1,13 @@
 //! The boxes of the edges or points of a list, in strips of neighbours, and the boxes of blocks of edges.
 
-ghost use Rattle.std.specs.Prelude.{◌≡◌, ◌<◌, ◌≤ℤ◌, List, [], ◌++◌, length, All, AllPairs, IfOk, OnOk};
+ghost use Rattle.std.specs.Prelude.{◌≡◌, ◌<◌, ◌≤ℤ◌, List, [], ◌++◌, length, All, AllPairs, IfOk, IfSome, OnOk};
 ghost use Rattle.std.specs.List.Sorted.{IsPermutation};
 ghost use Rattle.overlay_geom.specs.Points.{plain_points};
 ghost use Rattle.overlay_arrange.specs.Content.{plain_edges, IsAscending, IsHeld};
 ghost use Rattle.overlay_arrange.specs.Extents.{extents_of, extents_of_points, plain_extents, AreBlocks, AreByHeights};
 ghost use Rattle.overlay_arrange.specs.Extents.{AreAtPlaces, AreInStrips};
 ghost use Rattle.overlay_arrange.specs.HotPoints.{points_of, AreStripsOf};
-ghost use Rattle.overlay_arrange.specs.Strips.{AreHeldStripsOf, AreMadeStripsOf};
+ghost use Rattle.overlay_arrange.specs.Strips.{AreHeldStripsOf};
 ghost use Rattle.overlay_arrange.specs.declared.extents.Extent.{Extent};
 
 use crate::bundles::{Bundles, bundles_of};
@@ -39,7 +39,7 @@ const BLOCK: usize = 8;
 /// block are close together.
 #[derive(Drop)]
 pub(crate) struct Strips<I: Copy, A: Allocator> {
-    /// Number of neighbours in a strip, or 0 where no strips are made.
+    /// Number of neighbours in a strip.
     pub width: usize,
     /// The boxes of the edges.
     pub edges: Vec<Extent<I>, A>,
@@ -62,40 +62,25 @@ pub(crate) struct Strips<I: Copy, A: Allocator> {
 pub(crate) fn strips_of<I: IntNumber, C: EdgeCount, A: Allocator + Clone>(
     alloc: A,
     edges: &[CountedEdge<I, C>],
-) -> Result<Strips<I, A>, AllocError>
+) -> Result<Option<Strips<I, A>>, AllocError>
     requires held { All (IsHeld I.limit) (plain_edges I.whole C.counts edges.now) }
     requires ascending { IsAscending (plain_edges I.whole C.counts edges.now) }
-    ensures ok { IfOk result (AreHeldStripsOf I.whole I.limit (plain_edges I.whole C.counts edges.now)) }
+    ensures ok { IfOk result (λ made.
+        IfSome made (AreHeldStripsOf I.whole I.limit (plain_edges I.whole C.counts edges.now))) }
 {
     let runs = length_of_runs(edges, SAMPLES);
     if edges.len() <= SMALL && runs < SHORT * SAMPLES {
-        return no_strips(alloc);
+        return Ok(None);
     }
     let strips = strips_of_boxes(alloc.clone()?, edges, runs)?;
     if !misses_many(alloc.clone()?, edges, &strips)? {
-        return Ok(strips);
+        return Ok(Some(strips));
     }
     let bundles = bundles_of(alloc, edges)?;
-    Ok(Strips {
+    Ok(Some(Strips {
         bundles: Some(bundles),
         ..strips
-    })
-}
-
-/// Returns that no strips are made.
-fn no_strips<I: IntNumber, A: Allocator + Clone>(alloc: A) -> Result<Strips<I, A>, AllocError>
-    ensures none { IfOk result (λ strips. strips.width ≡ 0) }
-{
-    Ok(Strips {
-        width: 0,
-        edges: Vec::new(alloc.clone()?),
-        of_8: Vec::new(alloc.clone()?),
-        of_64: Vec::new(alloc.clone()?),
-        of_512: Vec::new(alloc.clone()?),
-        of_4096: Vec::new(alloc.clone()?),
-        of_32768: Vec::new(alloc),
-        bundles: None,
-    })
+    }))
 }
 
 /// Makes the strips of the edges, without bundles. The runs of a sample of edges have the given length in all.
@@ -106,7 +91,7 @@ fn strips_of_boxes<I: IntNumber, C: EdgeCount, A: Allocator + Clone>(
 ) -> Result<Strips<I, A>, AllocError>
     requires held { All (IsHeld I.limit) (plain_edges I.whole C.counts edges.now) }
     requires ascending { IsAscending (plain_edges I.whole C.counts edges.now) }
-    ensures ok { IfOk result (AreMadeStripsOf I.whole I.limit (plain_edges I.whole C.counts edges.now)) }
+    ensures ok { IfOk result (AreHeldStripsOf I.whole I.limit (plain_edges I.whole C.counts edges.now)) }
 {
     let width = strip_width(runs);
     let extents = edges_by_strips(alloc.clone()?, edges, width)?;

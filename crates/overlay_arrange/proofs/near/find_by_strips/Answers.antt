@@ -1,5 +1,5 @@
--- The run is tested edge by edge, or searched.
-use Rattle.std.proofs.Common.{◌≡◌, ◌⊎◌, inl, inr, ℕ, ◌<◌, IfSome, [], length, refl, sym, ap, subst, arith}
+-- The run is searched by boxes, or by bundles, if it has edges.
+use Rattle.std.proofs.Common.{◌≡◌, IfSome, [], length, refl, sym, ap, subst, arith}
 use Rattle.std.proofs.lemmas.List.{length-map}
 use Rattle.std.proofs.lemmas.List.Sorted.{length_permutation}
 use Rattle.std.proofs.lemmas.Result.{on_ok_weaker}
@@ -11,12 +11,7 @@ use Rattle.overlay_arrange.specs.Near.{run_of, AreNearBehind, IsSearchedBy, IsSe
 use Rattle.overlay_arrange.proofs.NearEdges.{heights_near, searched_beside, searched_near}
 use Rattle.overlay_arrange.proofs.PlacedExtents.{as_many_placed}
 use Rattle.overlay_arrange.proofs.Searches.{heights_none}
-use Rattle.overlay_arrange.proofs.near.find_near_behind.Goals as goal
-
--- strips that are not missing are made
-made : {P : Type 0} (width : ℕ) → 0 < width → (width ≡ 0) ⊎ P → P
-made width some (inl none) = absurd (omega (arith, some, none))
-made width some (inr is) = is
+use Rattle.overlay_arrange.proofs.near.find_by_strips.Goals as goal
 
 pub returns-then-end-from : goal.returns-then-end-from
 returns-then-end-from g c = record {
@@ -25,7 +20,7 @@ returns-then-end-from g c = record {
       let from = c.args.from in
       let ends = c.if-end-from.true in
       let same : c.run_end-end.result ≡ from = omega (arith, ends) in
-      subst (AreNearBehind es e from) (sym c.clear.ensures.items)
+      subst (AreNearBehind es e from) (sym c.requires.empty)
       (heights_near es from from e g.I.IntNumber.limit c.requires.held c.requires.one c.requires.ascending
       (subst (IsRunEnd es e.b.x from) same c.run_end-end.ensures) (extent_of e from) [] refl
       (heights_none es (extent_of e from) from));
@@ -39,7 +34,7 @@ find_by_blocks-requires-clause-within g c =
     let last = ap (λ (s : Extent). s.last) c.run_of-in_default.ensures in
     let es = plain_edges whole g.C.EdgeCount.counts c.args.edges.now in
     let moved = length_permutation (extents_of es) (plain_extents whole extents)
-    (made c.args.strips.now.width (let w = c.if-strips-eq0.false in omega (arith, w)) c.requires.strips).permutation in
+    c.requires.strips.permutation in
     let count = as_many_placed extent_of es in
     let l = length-map extents (plain_extent whole) in
     let m = length-map c.args.edges.now plain in
@@ -60,7 +55,7 @@ returns-in_default g c = record {
       on_ok_weaker c.find_by_blocks.result
       (λ searched. searched_near es c.args.from end e g.I.IntNumber.limit c.requires.held c.requires.one
       c.requires.ascending c.run_end-end.ensures ss js
-      (made c.args.strips.now.width (let w = c.if-strips-eq0.false in omega (arith, w)) c.requires.strips).permutation
+      c.requires.strips.permutation
       (subst (λ n. IsSearchedTo ss (run_of e c.args.from end) n js) (sym (length-map extents (plain_extent whole)))
       (subst (λ s. IsSearchedTo ss s (length extents) js) c.run_of-in_default.ensures searched)))
       c.find_by_blocks.ensures.ok;
@@ -72,7 +67,7 @@ find_in_bundles-requires-clause-bundles g c =
     let es = plain_edges whole g.C.EdgeCount.counts c.args.edges.now in (
       es,
       subst (λ o. IfSome o (AreBundlesOf whole g.I.IntNumber.limit es)) c.in-Some.is
-          (made c.args.strips.now.width (let w = c.if-strips-eq0.false in omega (arith, w)) c.requires.strips).bundles,
+          c.requires.strips.bundles,
     )
 
 pub returns-in-Some : goal.returns-in-Some
@@ -87,7 +82,7 @@ returns-in-Some g c = record {
       let ss = plain_extents whole extents in
       let js = c.find_in_bundles.new.near.items in
       let bundles = subst (λ o. IfSome o (AreBundlesOf whole g.I.IntNumber.limit es)) c.in-Some.is
-      (made c.args.strips.now.width (let w = c.if-strips-eq0.false in omega (arith, w)) c.requires.strips).bundles in
+      c.requires.strips.bundles in
       on_ok_weaker c.find_in_bundles.result
       (λ searched. searched_beside es c.args.from end e g.I.IntNumber.limit c.requires.held c.requires.one
       c.requires.ascending c.run_end-end.ensures ss js bundles.permutation
@@ -95,19 +90,3 @@ returns-in-Some g c = record {
       (subst (λ s. IsSearchedBy (IsPassed es e s) ss s (length extents) js) c.run_of.ensures
       (searched es bundles)))) c.find_in_bundles.ensures.ok;
 }
-
-pub find_by_blocks-requires-clause-some : goal.find_by_blocks-requires-clause-some
-find_by_blocks-requires-clause-some g c =
-    (made c.args.strips.now.width (let w = c.if-strips-eq0.false in omega (arith, w)) c.requires.strips).some
-
-pub find_by_blocks-requires-clause-strips : goal.find_by_blocks-requires-clause-strips
-find_by_blocks-requires-clause-strips g c =
-    (made c.args.strips.now.width (let w = c.if-strips-eq0.false in omega (arith, w)) c.requires.strips).strips
-
-pub find_by_blocks-requires-clause-heights : goal.find_by_blocks-requires-clause-heights
-find_by_blocks-requires-clause-heights g c =
-    (made c.args.strips.now.width (let w = c.if-strips-eq0.false in omega (arith, w)) c.requires.strips).heights
-
-pub find_by_blocks-requires-clause-blocks : goal.find_by_blocks-requires-clause-blocks
-find_by_blocks-requires-clause-blocks g c =
-    (made c.args.strips.now.width (let w = c.if-strips-eq0.false in omega (arith, w)) c.requires.strips).blocks
