@@ -72,14 +72,26 @@ impl<'a, I: IntNumber, C: EdgeCount> Starts<'a, I, C> {
         let mut is_sorted = true;
         for place in 0..self.edges.len() {
             places.push_reserved(place);
-            if place > 0
-                && self.start_together(places[place - 1], place)
-                && !self.move_back(places, place)
-            {
-                is_sorted = false;
+            if self.shares_start(places, place) {
+                is_sorted &= self.move_back(places, place);
             }
         }
         is_sorted
+    }
+
+    // Returns whether the edge at a place starts in one point with that whose place stands right before the place in a
+    // list.
+    fn shares_start(&self, places: &[usize], place: usize) -> bool
+        requires inside { place < length self.now.edges.now }
+        requires listed { place ≤ length places.now }
+        requires below { All (λ k. k < length self.now.edges.now) places.now }
+        ensures apart { let es = plain_edges I.whole C.counts self.now.edges.now in
+            let behind = plain_edge I.whole C.counts self.now.behind in
+            result ≡ false → (k d : _) → k + 1 ≡ place
+            → point_eq (slice_index_or es (slice_index_or places.now k d) behind).a (slice_index_or es place behind).a
+            ≡ false }
+    {
+        place > 0 && self.start_together(places[place - 1], place)
     }
 
     // Returns whether the edges at two places start in one point.

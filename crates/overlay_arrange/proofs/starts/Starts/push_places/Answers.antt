@@ -1,9 +1,9 @@
 -- One place more stands among the places so far, in order where it had to go no further.
-use Rattle.std.proofs.Common.{◌≡◌, ◌+◌, ◌-◌, ◌<◌, ◌≤◌, ◌∷◌, [], ◌++◌, ℕ, List, true, false, IsTrue, length, take}
+use Rattle.std.proofs.Common.{◌≡◌, ◌+◌, ◌<◌, ◌≤◌, ◌∷◌, [], ◌++◌, ℕ, List, false, IsTrue, length, take}
 use Rattle.std.proofs.Common.{get_or, vec_capacity, All, sym, ap, ◌∙◌, subst, arith, rules}
 use Rattle.std.specs.List.Sorted.{IsPermutation, IsSortedWithin}
-use Rattle.std.proofs.lemmas.Bool.{false≢true}
-use Rattle.std.proofs.lemmas.List.{get_or_default, length-map, length_push, with_items_is}
+use Rattle.std.proofs.lemmas.Bool.{and_parts}
+use Rattle.std.proofs.lemmas.List.{length-map, length_push, with_items_is}
 use Rattle.std.proofs.lemmas.List.Sorted.{IsPermutation-map, IsPermutation-trans, All-permutation, length_permutation}
 use Rattle.overlay_geom.specs.Edges.{CountedEdge}
 use Rattle.overlay_geom.specs.Numbered.{Numbered, numbered}
@@ -12,11 +12,7 @@ use Rattle.overlay_arrange.specs.Content.{plain_edge, plain_edges}
 use Rattle.overlay_arrange.specs.Starts.{edge_at, numbered_at, starts_before_at}
 use Rattle.overlay_arrange.proofs.StartsPushed.{pushed_permutation, pushed_below, pushed_prefix, pushed_apart}
 use Rattle.overlay_arrange.proofs.starts.Starts.push_places.Goals as goal
-use Rattle.overlay_arrange.proofs.starts.Starts.push_places.Goals.{then-place-gt0+then-start_together+then-not-move_back}
-use Rattle.overlay_arrange.proofs.starts.Starts.push_places.Goals.{else-place-gt0}
-use Rattle.overlay_arrange.proofs.starts.Starts.push_places.Goals.{else-place-gt0-via-then-place-gt0+then-start_together+else-not-move_back}
-use Rattle.overlay_arrange.proofs.starts.Starts.push_places.Goals.{else-place-gt0-via-then-place-gt0+else-start_together}
-use Rattle.overlay_arrange.proofs.starts.Starts.push_places.Goals.{else-place-gt0-via-else-place-gt0}
+use Rattle.overlay_arrange.proofs.starts.Starts.push_places.Goals.{then-shares_start, else-shares_start}
 
 pub loop-place-preserved : goal.loop-place-preserved
 loop-place-preserved g c =
@@ -48,12 +44,12 @@ loop-place-preserved g c =
     λ sorted. subst are_up (sym are)
     (pushed_prefix es items place inside count lt (l.invariant.4 sorted)) in
     let numbers : ℕ → Numbered CountedEdge = λ k. record { item = edge_at es k; place = k } in
-    elim c.if-place-gt0.branch [
-      | then-place-gt0+then-start_together+then-not-move_back w ↦
-          let news = w.move_back.new.places in
+    elim c.if-shares_start.branch [
+      | then-shares_start w ↦
+          let news = w.move_back-is_sorted.new.places in
           let moved : IsPermutation after news =
           subst (λ (ks : List ℕ). IsPermutation ks news) w.deref_mut.ensures.value
-          w.move_back.ensures.permutation in
+          w.move_back-is_sorted.ensures.permutation in
           let is = with_items_is c.push_reserved.new.self news
           (length_permutation after news moved ∙ sym c.push_reserved.new.self.ok.0) in
           rw w.places-is (rw w.is_sorted-is (
@@ -63,55 +59,24 @@ loop-place-preserved g c =
             wide,
             subst are_below (sym is)
                 (All-permutation (λ k. k < place + 1) after news moved below),
-            λ sorted. absurd (false≢true sorted),
+            λ sorted.
+                let both = and_parts l.is_sorted w.move_back-is_sorted.result sorted in
+                subst are_all_up (sym is)
+                (w.move_back-is_sorted.ensures.sorted both.1
+                (subst are_up (sym w.deref_mut.ensures.value) (up both.0))),
           ))
-      | else-place-gt0 w ↦
-          elim w.else-place-gt0.branch [
-            | else-place-gt0-via-then-place-gt0+then-start_together+else-not-move_back v ↦
-                let news = v.move_back.new.places in
-                let moved : IsPermutation after news =
-                subst (λ (ks : List ℕ). IsPermutation ks news) v.deref_mut.ensures.value
-                v.move_back.ensures.permutation in
-                let is = with_items_is c.push_reserved.new.self news
-                (length_permutation after news moved ∙ sym c.push_reserved.new.self.ok.0) in
-                let home : v.move_back.result ≡ true = search rules in
-                rw w.places-is (rw v.places-is (rw w.is_sorted-is (
-                  subst is_placed (sym is)
-                      (IsPermutation-trans _ _ _ placed (IsPermutation-map numbers after news moved)),
-                  ap length is ∙ length_permutation after news moved ∙ long,
-                  wide,
-                  subst are_below (sym is)
-                      (All-permutation (λ k. k < place + 1) after news moved below),
-                  λ sorted. subst are_all_up (sym is)
-                      (v.move_back.ensures.sorted home
-                      (subst are_up (sym v.deref_mut.ensures.value) (up sorted))),
-                )))
-            | else-place-gt0-via-then-place-gt0+else-start_together v ↦
-                rw w.places-is (rw v.places-is (rw w.is_sorted-is (
-                  placed,
-                  long,
-                  wide,
-                  below,
-                  λ sorted. subst are_all_up (sym are)
-                      (pushed_apart es items place inside count behind c.requires.ascending l.invariant.3
-                      (l.invariant.4 sorted)
-                      (λ k d at.
-                      let before : place - 1 ≡ k = omega (arith, at) in
-                      let found : v.index.result.now ≡ get_or after (place - 1) v.index.result.now = search rules in
-                      let here : v.index.result.now ≡ get_or pushed k d =
-                      found ∙ get_or_default after (place - 1) v.index.result.now d (omega (arith, long, at))
-                      ∙ ap (λ (n : ℕ). get_or after n d) before ∙ ap (λ (ks : List ℕ). get_or ks k d) are in
-                      subst (λ (n : ℕ). point_eq (get_or es n behind).a (get_or es place behind).a ≡ false) here
-                      (sym v.start_together.ensures ∙ v.if-start_together.false))),
-                )))
-            | else-place-gt0-via-else-place-gt0 v ↦
-                rw w.places-is (rw v.places-is (rw w.is_sorted-is (
-                  placed,
-                  long,
-                  wide,
-                  below,
-                  λ sorted k d from within.
-                      let none = v.if-place-gt0.false in absurd (omega (arith, within, none)),
-                )))
-          ]
+      | else-shares_start w ↦
+          rw w.places-is (rw w.is_sorted-is (
+            placed,
+            long,
+            wide,
+            below,
+            λ sorted. subst are_all_up (sym are)
+                (pushed_apart es items place inside count behind c.requires.ascending l.invariant.3
+                (l.invariant.4 sorted)
+                (λ k d at. subst
+                (λ (ks : List ℕ). point_eq (get_or es (get_or ks k d) behind).a (get_or es place behind).a ≡ false)
+                (c.deref.ensures.value ∙ are)
+                (c.shares_start.ensures.apart w.if-shares_start.false k d at))),
+          ))
     ]
