@@ -101,7 +101,7 @@ comes_top_first-one_way e f he hf ef = false_from_ne_true (comes_top_first f e)
     (λ fe. both_ways (comes_top_first e e) (comes_top_first-itself e) (comes_top_first-transitive e f e he hf he ef fe))
 
 -- from one point the cross product tells which edge starts before the other
-pub tied_start : (e f : Edge) (z : ℤ) → point_cmp e.a f.a ≡ Equal → z ≡ cross_at e.a e.b f.b →
+tied_start : (e f : Edge) (z : ℤ) → point_cmp e.a f.a ≡ Equal → z ≡ cross_at e.a e.b f.b →
     is_lt (int_cmp z (pos 0)) ≡ comes_top_first e f
 tied_start e f z tied crossed =
     tied_before f e z ((λ i. point_cmp (sym same i) (same i)) ∙ tied) (crossed ∙ (λ i. cross_at (same i) e.b f.b))

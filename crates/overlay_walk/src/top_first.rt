@@ -9,7 +9,6 @@ ghost use Rattle.overlay_walk.specs.Places.{comes_top_first, is_place_top_first}
 ghost use Rattle.overlay_walk.specs.Steps.{plain_step, plain_steps, IsLong};
 
 use crate::step::{Step, stepped_edge};
-use overlay_arrange::edge::compare_points;
 use overlay_arrange::sort_runs::sort_neighbours;
 use overlay_geom::edge::{IntEdge, is_before};
 use overlay_geom::edge_pair::is_same;
@@ -57,7 +56,8 @@ struct Starts<'a, I: IntNumber> {
 }
 
 impl<'a, I: IntNumber> Starts<'a, I> {
-    // Compares the starts of the edges of the steps at two places.
+    // Compares the starts of the edges of the steps at two places: `Less` exactly where the first comes before the
+    // second.
     fn compare(&self, j: usize, k: usize) -> Ordering
         ensures { let steps = plain_steps I.whole self.now.steps.now in
             let behind = plain_step I.whole self.now.behind in
@@ -106,29 +106,8 @@ impl<'a, I: IntNumber> Starts<'a, I> {
     }
 }
 
-/// Compares the starts of the edges of two steps: `Less` exactly where that of s is a smaller point, or where both are
-/// one point and the edge of s leads to the left of the edge of t.
-pub fn compare_top_first<I: IntNumber>(s: Step<I>, t: Step<I>) -> Ordering
-    requires s { IsLong I.limit (plain_step I.whole s) }
-    requires t { IsLong I.limit (plain_step I.whole t) }
-    ensures { is_lt result ≡ comes_top_first (edge_of (plain_step I.whole s)) (edge_of (plain_step I.whole t)) }
-{
-    compare_edges(stepped_edge(s), stepped_edge(t))
-}
-
-// Compares the starts of two edges as [`compare_top_first`] does.
-fn compare_edges<I: IntNumber>(e: IntEdge<I>, f: IntEdge<I>) -> Ordering
-    requires e { IsLongEdge I.limit (plain_edge I.whole e) }
-    requires f { IsLongEdge I.limit (plain_edge I.whole f) }
-    ensures { is_lt result ≡ comes_top_first (plain_edge I.whole e) (plain_edge I.whole f) }
-{
-    match compare_points(e.a, f.a) {
-        Ordering::Equal => cross_at(e.a, e.b, f.b).sign(),
-        other => other,
-    }
-}
-
-// Returns whether the start of edge e comes before that of f, as [`compare_top_first`] tells.
+// Returns whether the start of edge e comes before that of f: it is a smaller point, or both are one point and e leads
+// to the left of f.
 fn comes_before<I: IntNumber>(e: IntEdge<I>, f: IntEdge<I>) -> bool
     requires e { IsLongEdge I.limit (plain_edge I.whole e) }
     requires f { IsLongEdge I.limit (plain_edge I.whole f) }
