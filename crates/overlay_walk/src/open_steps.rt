@@ -1,7 +1,6 @@
 //! Steps to be walked, with marks of those that walks have taken.
 
-ghost use Rattle.std.specs.Prelude.{◌≡◌, ◌↔◌, [], ◌∷◌, None, All, Any, Contains, IfOk, IfSome};
-ghost use Rattle.std.specs.Prelude.{IsTrue, OnOk};
+ghost use Rattle.std.specs.Prelude.{◌≡◌, ◌↔◌, [], ◌∷◌, None, All, Any, Contains, IfOk, IfSome, OnOk};
 ghost use Rattle.std.specs.List.Sorted.{IsPermutation};
 ghost use Rattle.overlay_geom.specs.Plane.{step_eq};
 ghost use Rattle.overlay_plane.specs.BesideOrbits.{HasEachOnce};
@@ -17,9 +16,8 @@ use crate::next::place_of_next;
 use crate::onward::{noted, onward_places};
 use crate::step::Step;
 use overlay_arrange::edge::compare_points;
-use overlay_arrange::sort_points::order_by_points;
+use overlay_arrange::sort_points::{is_in_order, order_by_points};
 use overlay_arrange::sort_runs::sort_neighbours;
-use overlay_geom::edge::is_before;
 use overlay_geom::edge_pair::is_same;
 use overlay_geom::flat::copied;
 use overlay_geom::number::IntNumber;
@@ -169,7 +167,7 @@ fn sort_steps<I: IntNumber, A: Allocator + Clone>(
     ensures order { OnOk result (IsByFrom (plain_steps I.whole steps.new.items)) }
 {
     order_by_points(steps, |s| s.from)?;
-    if are_by_from(steps) {
+    if is_in_order(steps, &|s: &Step<I>| s.from) {
         return Ok(());
     }
     if sort_neighbours(steps, |s, t| compare_points(s.from, t.from)) {
@@ -177,24 +175,6 @@ fn sort_steps<I: IntNumber, A: Allocator + Clone>(
     }
     steps.sort_by(|s, t| compare_points(s.from, t.from))?;
     Ok(())
-}
-
-/// Returns whether the steps are in the order of the points that they leave.
-fn are_by_from<I: IntNumber>(steps: &[Step<I>]) -> bool
-    ensures { IsTrue result → IsByFrom (plain_steps I.whole steps.now) }
-{
-    let [first, ..] = steps else {
-        return true;
-    };
-    let mut last = first.from;
-    for i in 1..steps.len() {
-        let point = steps[i].from;
-        if is_before(point, last) {
-            return false;
-        }
-        last = point;
-    }
-    true
 }
 
 /// Returns whether two steps lead between equal points.

@@ -1,7 +1,8 @@
--- The comparison is an order, so the sort puts the steps into it.
+-- The comparison is an order, so the sort puts the steps into it, unless they are in the order of their points.
 use Rattle.std.proofs.Common.{◌≡◌, ap, ◌∙◌, rules}
 use Rattle.std.specs.Ordering.{is_lt}
 use Rattle.std.proofs.lemmas.List.Sorted.{answers_always, IsPermutation-trans}
+use Rattle.overlay_geom.specs.Points.{plain_point}
 use Rattle.overlay_arrange.specs.Content.{point_cmp}
 use Rattle.overlay_walk.specs.Steps.{plain_step}
 use Rattle.overlay_walk.proofs.Runs.{point_cmp-is_less, leaves_smaller, leaves_smaller-order, IsByFrom-from_sorted}
@@ -15,6 +16,13 @@ returns-clause-order g c =
     (answers_always _ _ _ (λ f a r h k.
     let answer : r ≡ point_cmp (plain_step whole a.0.now).from (plain_step whole a.1.0.now).from = search rules in
     ap is_lt answer ∙ point_cmp-is_less (plain_step whole a.0.now).from (plain_step whole a.1.0.now).from)))
+
+pub returns-then-is_in_order-clause-order : goal.returns-then-is_in_order-clause-order
+returns-then-is_in_order-clause-order g c =
+    let whole = g.I.IntNumber.whole in
+    IsByFrom-from_sorted whole c.order_by_points.new.items.items
+    (rw c.deref.ensures.value at c.is_in_order.ensures c.if-is_in_order.true (λ s. (plain_step whole s).from)
+    (λ s p h. let answer : p ≡ s.from = search rules in ap (plain_point whole) answer))
 
 pub returns-then-sort_neighbours-clause-order : goal.returns-then-sort_neighbours-clause-order
 returns-then-sort_neighbours-clause-order g c =
