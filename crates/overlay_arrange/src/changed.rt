@@ -57,7 +57,7 @@ pub(crate) fn changes_since<I: IntNumber, C: EdgeCount, A: Allocator + Clone>(
     if edges.len() / 2 < places.len() {
         return Ok(None);
     }
-    let changed = edges_at(alloc.clone()?, edges, &places)?;
+    let changed = copied_edges(alloc.clone()?, edges, &places)?;
     let strips = strips_of(alloc, &changed)?;
     Ok(Some(Changed {
         places,
@@ -124,8 +124,8 @@ fn was_closed<I: IntNumber, C: EdgeCount>(
     !is_open[at] && have_same_ends(&before[at], e)
 }
 
-/// Returns the edges at the places, in their order.
-fn edges_at<I: IntNumber, C: EdgeCount, A: Allocator>(
+/// Returns copies of the edges at the places, in their order.
+fn copied_edges<I: IntNumber, C: EdgeCount, A: Allocator>(
     alloc: A,
     edges: &[CountedEdge<I, C>],
     places: &[usize],

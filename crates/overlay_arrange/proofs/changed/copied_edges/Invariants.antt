@@ -1,7 +1,7 @@
 -- The edges so far are those at the places so far.
 use Rattle.overlay_arrange.specs.Content.{plain_edges}
 use Rattle.overlay_arrange.proofs.NearChanged.{StandUpTo}
-use Rattle.overlay_arrange.proofs.changed.edges_at.Given as goal
+use Rattle.overlay_arrange.proofs.changed.copied_edges.Given as goal
 
 abbrev pub invariant-loop-k : goal.invariant-loop-k
 invariant-loop-k g l =

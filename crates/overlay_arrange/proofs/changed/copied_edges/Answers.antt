@@ -4,7 +4,7 @@ use Rattle.std.proofs.lemmas.List.{get_or_default, map-append}
 use Rattle.overlay_arrange.specs.Content.{plain_edge, plain_edges}
 use Rattle.overlay_arrange.proofs.GatheredMeetings.{placed_in_mapped}
 use Rattle.overlay_arrange.proofs.NearChanged.{all_stand, stand_more, StandUpTo}
-use Rattle.overlay_arrange.proofs.changed.edges_at.Goals as goal
+use Rattle.overlay_arrange.proofs.changed.copied_edges.Goals as goal
 
 pub loop-k-preserved : goal.loop-k-preserved
 loop-k-preserved g c =
