@@ -66,7 +66,7 @@ impl<I: IntNumber, C: EdgeCount, A: Allocator> Content<I, C, A> {
     #[tactic(auto, using(crate::proofs::ReachedStores::never_written))]
     pub(crate) fn cut_at(
         &mut self,
-        mut meetings: Vec<Meeting<I>, A>,
+        meetings: Vec<Meeting<I>, A>,
         store: &mut C::Store,
     ) -> Result<(bool, Self), OverlayError>
     where
@@ -84,11 +84,35 @@ impl<I: IntNumber, C: EdgeCount, A: Allocator> Content<I, C, A> {
         ensures only { IfErr result (λ e. (e ≡ OverlayError.Memory) ⊎ (e ≡ OverlayError.TooManyEdges)) }
     {
         let is_whole = are_whole(self.edges(), &meetings);
+        let before = self.cut_through(meetings, store)?;
+        Ok((!is_whole, before))
+    }
+
+    /// Cuts each edge into the pieces of the chain through its meetings. Returns the edges before the cut. The meetings
+    /// are those of the edges. They are dropped. The edges ascend. A refusal leaves the content open.
+    #[tactic(auto, using(crate::proofs::ReachedStores::never_written))]
+    pub(crate) fn cut_through(
+        &mut self,
+        mut meetings: Vec<Meeting<I>, A>,
+        store: &mut C::Store,
+    ) -> Result<Self, OverlayError>
+    where
+        A: Clone,
+        requires ascending { IsAscending (edges_in self.old) }
+        requires meetings { AreMeetings (edges_in self.old) (plain_meetings I.whole meetings.items) }
+        ensures ok { OnOk result (edges_in self.new ≡ cut_edges (edges_in self.old)) }
+        ensures carried { OnOk result (AreCutAlong C.splits C.reverses
+            (computed_chain (edges_in self.old)) self.old self.new) }
+        ensures before { IfOk result (λ before. edges_in before ≡ edges_in self.old) }
+        ensures store { IsStoreReached C.writes store.old store.new }
+        ensures too_many { IsErrOf result OverlayError.TooManyEdges → 2 ^ 31 ≤ weight (cut_edges (edges_in self.old)) }
+        ensures only { IfErr result (λ e. (e ≡ OverlayError.Memory) ⊎ (e ≡ OverlayError.TooManyEdges)) }
+    {
         sort_meetings(&mut meetings, self.edges())?;
         let alloc = self.allocator().clone()?;
         let pieces = cut_edges(alloc, self.edges(), &meetings, store)?;
         let before = mem::replace(self, pieces);
-        Ok((!is_whole, before))
+        Ok(before)
     }
 
     /// Cuts each edge into the pieces of the chain through the hot points whose pixels it meets. The meetings are these

@@ -65,7 +65,7 @@ impl<I: IntNumber, C: EdgeCount, A: Allocator + Clone> Content<I, C, A> {
         ensures only { IfErr result (λ e. (e ≡ OverlayError.Memory) ⊎ (e ≡ OverlayError.TooManyEdges)) }
     {
         if are_whole(self.edges(), &meetings) {
-            self.cut_at(meetings, store)?;
+            self.cut_through(meetings, store)?;
             return Ok(());
         }
         let snapped = self.snapped_meetings(meetings)?;

@@ -1,5 +1,5 @@
 -- The edges are cut where they meet in whole points alone, and else at the hot points.
-use Rattle.std.proofs.Common.{◌≡◌, sym, subst, ◌∙◌}
+use Rattle.std.proofs.Common.{sym, subst, ◌∙◌}
 use Rattle.std.specs.Prelude.{Result, Ok, Err, OnOk}
 use Rattle.std.proofs.lemmas.Bool.{false≢true}
 use Rattle.std.proofs.lemmas.Result.{err_from_is_err_and}
@@ -15,21 +15,21 @@ both_say : {T E P Q R : Type 0} (answer : Result T E) → OnOk answer P → OnOk
 both_say (Ok v) p q both = both p q
 both_say (Err e) p q both = p
 
-pub returns-in_err-cut_at-clause-too_many : goal.returns-in_err-cut_at-clause-too_many
-returns-in_err-cut_at-clause-too_many g c = λ same.
+pub returns-in_err-cut_through-clause-too_many : goal.returns-in_err-cut_through-clause-too_many
+returns-in_err-cut_through-clause-too_many g c = λ same.
     let passed = err_from_is_err_and c.from_residual.result c.from_residual.ensures.1 in
     record {
       points = cut_points (edges_in c.args.self.now);
       led = cut (subst MeetInWholePoints c.edges.ensures.plain (c.are_whole.ensures.0 c.if-are_whole.true));
-      heavy = c.in_err-cut_at.ensures.too_many (cc);
+      heavy = c.in_err-cut_through.ensures.too_many (cc);
     }
 
 pub returns-then-are_whole-clause-ok : goal.returns-then-are_whole-clause-ok
 returns-then-are_whole-clause-ok g c = record {
   points = cut_points (edges_in c.args.self.now);
   led = cut (subst MeetInWholePoints c.edges.ensures.plain (c.are_whole.ensures.0 c.if-are_whole.true));
-  edges = c.in_ok-cut_at.ensures.ok;
-  carried = c.in_ok-cut_at.ensures.carried;
+  edges = c.in_ok-cut_through.ensures.ok;
+  carried = c.in_ok-cut_through.ensures.carried;
 }
 
 pub returns-clause-ok : goal.returns-clause-ok
