@@ -7,7 +7,6 @@ ghost use Rattle.overlay_arrange.specs.Graphs.{graph_edges};
 use overlay_arrange::count::EdgeCount;
 use overlay_arrange::graph::Graph;
 use overlay_arrange::options::IntOverlayOptions;
-use overlay_builder::balanced_graph::BalancedGraph;
 use overlay_geom::integer::OverlayInt;
 use std::alloc::Allocator;
 use std::marker::Model;
@@ -16,16 +15,20 @@ use std::marker::Model;
 /// point as leave it. With it stand the options of its extractions.
 #[derive(Drop)]
 pub struct ViewedGraph<I: OverlayInt, C: EdgeCount, A: Allocator> {
-    graph: BalancedGraph<I, C, A>,
+    graph: Graph<I, C, A>,
     options: IntOverlayOptions<I::WideUInt>,
 }
 
 impl<I: OverlayInt, C: EdgeCount, A: Allocator> Model for ViewedGraph<I, C, A> {
+    ghost use Rattle.overlay_plane.specs.Balance.{HasBalancedCounts};
+    ghost use Rattle.overlay_arrange.specs.Graphs.{graph_edges};
     ghost use Rattle.i_overlay.specs.Views.{Viewed};
 
     ghost Value = { Viewed C I.WideUInt };
 
     ghost view = { λ v. record { graph = v.graph; options = v.options } };
+
+    ghost invariant = { λ v. HasBalancedCounts (graph_edges v.graph) };
 }
 
 impl<I: OverlayInt, C: EdgeCount, A: Allocator> ViewedGraph<I, C, A> {
@@ -34,10 +37,7 @@ impl<I: OverlayInt, C: EdgeCount, A: Allocator> ViewedGraph<I, C, A> {
         requires { HasBalancedCounts (graph_edges graph) }
         ensures { result ≡ record { graph = graph; options = options } }
     {
-        ViewedGraph {
-            graph: BalancedGraph::new(graph),
-            options,
-        }
+        ViewedGraph { graph, options }
     }
 
     /// The graph.
@@ -45,7 +45,7 @@ impl<I: OverlayInt, C: EdgeCount, A: Allocator> ViewedGraph<I, C, A> {
         ensures graph { result.now ≡ self.now.graph }
         ensures balanced { HasBalancedCounts (graph_edges self.now.graph) }
     {
-        self.graph.graph()
+        &self.graph
     }
 
     /// The options.
