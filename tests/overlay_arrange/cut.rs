@@ -1,4 +1,4 @@
-//! Edges that are merged and cut once: into which pieces.
+//! Edges that one round cuts: into which pieces.
 
 use crate::edges::{edge, push, with_edges};
 use overlay_arrange::count::ShapeCountBoolean;
@@ -8,7 +8,7 @@ use overlay_geom::number::IntNumber;
 use std::alloc::Global;
 use std::process::Abort;
 
-// Merged and cut once, the edges are these pieces, in order.
+// One round splits the edges into these pieces, merged and in order.
 fn check<I: IntNumber + PartialEq>(
     rt: &impl Abort,
     alloc: Global,
@@ -16,8 +16,7 @@ fn check<I: IntNumber + PartialEq>(
     want: &[CountedEdge<I, ShapeCountBoolean>],
 ) -> Result<(), OverlayError> {
     let mut content = with_edges(rt, alloc, edges)?;
-    content.merge(&mut ())?;
-    content.cut(&mut ())?;
+    assert!(rt; content.split(1, &mut ())?);
     assert!(rt; content.edges() == want);
     Ok(())
 }
@@ -32,11 +31,11 @@ fn three_edges_through_one_half_point(rt: HostRuntime) -> Result<(), OverlayErro
     ];
     let want = [
         edge(0i32, 0, 2, 2, 1),
-        edge(2, 2, 3, 3, 1),
         edge(0, 1, 2, 2, 1),
-        edge(2, 2, 3, 2, 1),
         edge(0, 3, 2, 2, 1),
         edge(2, 2, 3, 0, 1),
+        edge(2, 2, 3, 2, 1),
+        edge(2, 2, 3, 3, 1),
     ];
     check(&rt, rt.alloc(), &edges, &want)
 }
@@ -46,8 +45,7 @@ fn two_edges_that_overlap(rt: HostRuntime) -> Result<(), OverlayError> {
     let edges = [edge(0i16, 0, 4, 4, 1), edge(2, 2, 6, 6, -3)];
     let want = [
         edge(0i16, 0, 2, 2, 1),
-        edge(2, 2, 4, 4, 1),
-        edge(2, 2, 4, 4, -3),
+        edge(2, 2, 4, 4, -2),
         edge(4, 4, 6, 6, -3),
     ];
     check(&rt, rt.alloc(), &edges, &want)
@@ -62,13 +60,9 @@ fn three_edges_that_overlap(rt: HostRuntime) -> Result<(), OverlayError> {
     ];
     let want = [
         edge(0i32, 0, 3, 0, 1),
-        edge(3, 0, 6, 0, 1),
-        edge(6, 0, 9, 0, 1),
-        edge(3, 0, 6, 0, 2),
-        edge(6, 0, 9, 0, 2),
-        edge(9, 0, 12, 0, 2),
-        edge(6, 0, 9, 0, 4),
-        edge(9, 0, 12, 0, 4),
+        edge(3, 0, 6, 0, 3),
+        edge(6, 0, 9, 0, 7),
+        edge(9, 0, 12, 0, 6),
         edge(12, 0, 15, 0, 4),
     ];
     check(&rt, rt.alloc(), &edges, &want)
@@ -79,8 +73,8 @@ fn an_end_on_another_edge(rt: HostRuntime) -> Result<(), OverlayError> {
     let edges = [edge(0i32, 0, 4, 0, 1), edge(2, 0, 2, 3, 1)];
     let want = [
         edge(0i32, 0, 2, 0, 1),
-        edge(2, 0, 4, 0, 1),
         edge(2, 0, 2, 3, 1),
+        edge(2, 0, 4, 0, 1),
     ];
     check(&rt, rt.alloc(), &edges, &want)
 }
@@ -95,12 +89,12 @@ fn pieces_against_a_steep_edge(rt: HostRuntime) -> Result<(), OverlayError> {
     ];
     let want = [
         edge(-1i16, 3, 0, 3, 1),
-        edge(0, 3, 3, 3, 1),
         edge(-1, 5, 0, 5, 1),
-        edge(0, 5, 3, 5, 1),
-        edge(0, 5, 0, 10, -2),
         edge(0, 3, 0, 5, -2),
         edge(0, 3, 1, -10, 2),
+        edge(0, 3, 3, 3, 1),
+        edge(0, 5, 0, 10, -2),
+        edge(0, 5, 3, 5, 1),
     ];
     check(&rt, rt.alloc(), &edges, &want)
 }
@@ -112,9 +106,9 @@ fn a_crossing_of_the_longest_edges(rt: HostRuntime) -> Result<(), OverlayError> 
     let edges = [edge(-m, -m, m, m - 1, 1), edge(-m, m, m, 0, 1)];
     let want = [
         edge(-m, -m, k, k, 1),
-        edge(k, k, m, m - 1, 1),
         edge(-m, m, k, k, 1),
         edge(k, k, m, 0, 1),
+        edge(k, k, m, m - 1, 1),
     ];
     check(&rt, rt.alloc(), &edges, &want)
 }
@@ -125,8 +119,7 @@ fn pieces_that_weigh_too_much(rt: HostRuntime) -> Result<(), OverlayError> {
     let half = 1 << 30;
     let edges = [edge(0i32, 0, 4, 0, half), edge(2, 0, 2, 3, 1)];
     let mut content = with_edges(&rt, rt.alloc(), &edges)?;
-    content.merge(&mut ())?;
-    assert!(rt; content.cut(&mut ()) == Err(OverlayError::TooManyEdges));
+    assert!(rt; content.split(1, &mut ()) == Err(OverlayError::TooManyEdges));
     Ok(())
 }
 

@@ -11,10 +11,6 @@ use Rattle.overlay_arrange.proofs.GatheredMeetings.{gathered_of_more, leads_itse
 use Rattle.overlay_arrange.proofs.LedToEnds.{leads_to_ends, led_to_ends, LeadsNowhere}
 
 module _ (es : List CountedEdge) where
-  -- no edges are a front
-  pub none_in_front : AreSettledBefore es 0
-  none_in_front = record { within = omega arith; meet = λ k less. absurd (omega (arith, less)) }
-
   -- the pairs of the front need no meetings
   pub front_gathered : (limit n : ℕ) → All (IsHeld limit) es → AreSettledBefore es n → AreGathered es (HasBefore n) []
   front_gathered limit n held front = gathered_of_more es (none_gathered es)

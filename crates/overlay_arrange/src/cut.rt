@@ -28,8 +28,7 @@ use crate::content::Content;
 use crate::count::EdgeCount;
 use crate::crossing::is_end_of;
 use crate::edge::{CountedEdge, compare_points};
-use crate::meetings::{Meeting, gather, run_at, sort_meetings};
-use crate::strips::strips_of;
+use crate::meetings::{Meeting, run_at, sort_meetings};
 use crate::whole::are_whole;
 use overlay_geom::error::OverlayError;
 use overlay_geom::number::IntNumber;
@@ -39,30 +38,9 @@ use std::cmp::Ordering;
 use std::mem;
 
 impl<I: IntNumber, C: EdgeCount, A: Allocator> Content<I, C, A> {
-    /// Cuts each edge into the pieces of the chain through its meeting points. Returns whether a point was rounded: if
-    /// none was, the edges met only in whole points or overlapped. The edges ascend. A refusal leaves the content open.
-    #[tactic(auto, using(crate::proofs::ReachedStores::never_written))]
-    pub fn cut(&mut self, store: &mut C::Store) -> Result<bool, OverlayError>
-    where
-        A: Clone,
-        requires { IsAscending (edges_in self.old) }
-        ensures ok { OnOk result (edges_in self.new ≡ cut_edges (edges_in self.old)) }
-        ensures carried { OnOk result (AreCutAlong C.splits C.reverses
-            (computed_chain (edges_in self.old)) self.old self.new) }
-        ensures rounded { IfOk result (λ is_rounded.
-            (is_rounded ≡ false) ↔ MeetInWholePoints (edges_in self.old)) }
-        ensures store { IsStoreReached C.writes store.old store.new }
-        ensures too_many { IsErrOf result OverlayError.TooManyEdges → 2 ^ 31 ≤ weight (cut_edges (edges_in self.old)) }
-        ensures only { IfErr result (λ e. (e ≡ OverlayError.Memory) ⊎ (e ≡ OverlayError.TooManyEdges)) }
-    {
-        let strips = strips_of(self.allocator().clone()?, self.edges())?;
-        let (meetings, _) = gather(self.allocator().clone()?, self.edges(), &strips, &None, 0)?;
-        let (is_rounded, _) = self.cut_at(meetings, store)?;
-        Ok(is_rounded)
-    }
-
-    /// Cuts the edges at the given meetings, and answers as `cut` does, with the edges before the cut. The meetings are
-    /// those of the edges. They are dropped.
+    /// Cuts each edge into the pieces of the chain through its meeting points. Returns whether a point was rounded, and
+    /// the edges before the cut. If no point was rounded, the edges met only in whole points or overlapped. The edges
+    /// ascend. The meetings are theirs, and are dropped. A refusal leaves the content open.
     #[tactic(auto, using(crate::proofs::ReachedStores::never_written))]
     pub(crate) fn cut_at(
         &mut self,
