@@ -140,8 +140,10 @@ impl<I: IntNumber, C: EdgeCount, A: Allocator> Graph<I, C, A> {
         let _ = self.edges();
     }
 
-    /// Returns the allocator of the edges.
-    pub fn allocator(&self) -> &A {
+    /// Returns the allocator of the edges, which are an arrangement.
+    pub fn allocator(&self) -> &A
+        ensures arranged { IsArrangement I.limit (graph_edges self.now) }
+    {
         self.edges.allocator()
     }
 }

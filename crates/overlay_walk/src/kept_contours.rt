@@ -52,7 +52,6 @@ pub fn kept_contours<I: IntNumber, C: EdgeCount, A: Allocator + Clone>(
     ensures along { IfOk result (λ cs. options.ogc ≡ false →
         All (λ c. All (RunsAlong I.whole (all_ends (graph_edges graph.now))) c.steps.items) cs.items) }
 {
-    graph.note_arrangement();
     let direction = options.output_direction;
     let least = options.min_output_area;
     if options.ogc {
@@ -76,7 +75,6 @@ pub fn kept_contours_of<I: IntNumber, C: EdgeCount, A: Allocator + Clone>(
         (graph_edges graph) (plain_contours I.whole cs.items)) }
     ensures long { IfOk result (λ cs. All (All (IsLong I.limit)) (walks_in (plain_contours I.whole cs.items))) }
 {
-    graph.note_arrangement();
     let direction = options.output_direction;
     let least = options.min_output_area;
     if options.ogc {

@@ -9,7 +9,7 @@ ghost use Rattle.overlay_plane.specs.Groups.{IsSimpleContour};
 ghost use Rattle.overlay_plane.specs.MinimumArea.{reaches};
 ghost use Rattle.overlay_plane.specs.RoledContours.{IsCutInGroups};
 ghost use Rattle.overlay_plane.specs.SelectedSteps.{selected_steps};
-ghost use Rattle.overlay_arrange.specs.Graphs.{graph_edges};
+ghost use Rattle.overlay_arrange.specs.Graphs.{graph_edges, IsArrangement};
 ghost use Rattle.overlay_arrange.specs.Rules.{rules_hold};
 ghost use Rattle.overlay_walk.specs.GroupedContours.{plain_contours};
 ghost use Rattle.overlay_walk.specs.Steps.{filled_hand, plain_steps, IsLong, RunsAlong};
@@ -49,7 +49,6 @@ pub fn selected_walks<I: IntNumber, C: EdgeCount, A: Allocator + Clone>(
         All (λ w. All (RunsAlong I.whole (all_ends (graph_edges graph.now))) w.items) ws.items) }
     ensures long { IfOk result (λ ws. All (All (IsLong I.limit)) (plain_walks I.whole ws.items)) }
 {
-    graph.note_arrangement();
     let room = buffer.take_room(graph.allocator().clone()?);
     let rule = HandRule::OutlineOrHole(direction);
     let mut open = open_selected(graph, overlay_rule, direction, room)?;
@@ -70,7 +69,6 @@ pub fn selected_walks_of<I: IntNumber, C: EdgeCount, A: Allocator + Clone>(
         (graph_edges graph) (filled_hand direction) (plain_walks I.whole ws.items)) }
     ensures long { IfOk result (λ ws. All (All (IsLong I.limit)) (plain_walks I.whole ws.items)) }
 {
-    graph.note_arrangement();
     let alloc = graph.allocator().clone()?;
     let room = buffer.take_room(alloc.clone()?);
     let rule = HandRule::OutlineOrHole(direction);
@@ -82,7 +80,7 @@ pub fn selected_walks_of<I: IntNumber, C: EdgeCount, A: Allocator + Clone>(
 
 /// Returns the contours of a cut of the graph's selected steps with groups that reach the minimum area, as
 /// [`cut_in_groups`] tells. The steps are those of [`selected_walks`]. No contour visits a point twice. The counts of
-/// the edges are balanced.
+/// the edges, which are an arrangement, are balanced.
 ///
 /// The buffer lends its memory. After a refusal, the buffer may be left without memory.
 pub fn selected_contours<I: IntNumber, C: EdgeCount, A: Allocator + Clone>(
@@ -98,8 +96,8 @@ pub fn selected_contours<I: IntNumber, C: EdgeCount, A: Allocator + Clone>(
         (selected_steps (rules_hold graph.now.fill_rule overlay_rule) subj_of clip_of (filled_hand direction)
         (graph_edges graph.now)) (plain_contours I.whole cs.items)) }
     ensures simple { IfOk result (λ cs. All (λ c. IsSimpleContour c.steps) (plain_contours I.whole cs.items)) }
+    ensures arranged { IsArrangement I.limit (graph_edges graph.now) }
 {
-    graph.note_arrangement();
     let room = buffer.take_room(graph.allocator().clone()?);
     let open = open_selected(graph, overlay_rule, direction, room)?;
     let alloc = graph.allocator().clone()?;
@@ -121,8 +119,8 @@ pub fn selected_contours_of<I: IntNumber, C: EdgeCount, A: Allocator + Clone>(
         (λ w. reaches I.Wide.width (I.WideUInt.natural min_output_area) w)
         (selected_steps (rules_hold graph.fill_rule overlay_rule) subj_of clip_of (filled_hand direction)
         (graph_edges graph)) (plain_contours I.whole cs.items)) }
+    ensures arranged { IsArrangement I.limit (graph_edges graph) }
 {
-    graph.note_arrangement();
     let alloc = graph.allocator().clone()?;
     let room = buffer.take_room(alloc.clone()?);
     let open = open_selected_of(graph, overlay_rule, direction, room)?;

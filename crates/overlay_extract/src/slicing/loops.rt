@@ -43,7 +43,6 @@ pub fn filled_loops<I: IntNumber, C: EdgeCount, A: Allocator + Clone>(
     ensures order { IfOk result (λ ls. AreFoundInOrder
         (filled_sides (is_filled graph.now.fill_rule) subj_of (graph_edges graph.now)) (plain_walks I.whole ls.items)) }
 {
-    graph.note_arrangement();
     let orbits = side_orbits(graph)?;
     let tours = tours(graph.allocator().clone()?, &orbits)?;
     loops_of(graph.allocator().clone()?, &tours)

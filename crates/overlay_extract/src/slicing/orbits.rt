@@ -30,7 +30,6 @@ pub fn side_orbits<I: IntNumber, C: EdgeCount, A: Allocator + Clone>(
     ensures orbits { IfOk result (λ ws. AreOrbits
         (filled_sides (is_filled graph.now.fill_rule) subj_of (graph_edges graph.now)) (plain_walks I.whole ws.items)) }
 {
-    graph.note_arrangement();
     let mut open = open_sides(graph)?;
     let alloc = graph.allocator().clone()?;
     let orbits = cut_into_contours(alloc, &mut open, HandRule::Always(Hand::Left))?;

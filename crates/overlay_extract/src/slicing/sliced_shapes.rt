@@ -30,7 +30,6 @@ pub fn sliced_shapes<I: IntNumber, C: EdgeCount, A: Allocator + Clone>(
     ensures sliced { IfOk result (λ v. IsSliced I.Wide.width (I.WideUInt.natural min_output_area) graph.now.fill_rule
         direction (graph_edges graph.now) (plain_shapes I.whole v.items)) }
 {
-    graph.note_arrangement();
     let slices = slice_contours(graph, min_output_area)?;
     let alloc = graph.allocator().clone()?;
     let places = shape_places(alloc.clone()?, &slices.contours, &slices.shapes)?;

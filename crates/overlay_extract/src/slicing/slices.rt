@@ -42,7 +42,6 @@ pub fn slice_contours<I: IntNumber, C: EdgeCount, A: Allocator + Clone>(
     ensures long { IfOk result
         (λ s. All (All (IsLong I.limit)) (walks_in (plain_contours I.whole s.contours.items))) }
 {
-    graph.note_arrangement();
     let contours = kept_loops(graph, min_output_area)?;
     let alloc = graph.allocator().clone()?;
     let mut scan = EitherScan::default(alloc.clone()?);
@@ -65,7 +64,6 @@ fn kept_loops<I: IntNumber, C: EdgeCount, A: Allocator + Clone>(
         graph.now.fill_rule (graph_edges graph.now) (plain_contours I.whole cs.items)) }
     ensures long { IfOk result (λ cs. All (All (IsLong I.limit)) (walks_in (plain_contours I.whole cs.items))) }
 {
-    graph.note_arrangement();
     let loops = filled_loops(graph)?;
     let large = large_walks(graph.allocator().clone()?, loops, min_output_area)?;
     let contours = contours_of_loops(graph.allocator().clone()?, large)?;

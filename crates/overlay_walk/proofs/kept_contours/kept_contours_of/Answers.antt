@@ -18,9 +18,9 @@ returns-then-options-clause-kept g c =
     let q : Asked = asked g.I.Wide.WideIntNumber.width g.I.WideUInt.UIntNumber.natural c.args.graph.fill_rule
     c.args.overlay_rule c.args.options in
     let es = graph_edges c.args.graph in
-    let ruled = ruled_content g.I.IntNumber.limit es c.note_arrangement.ensures.content
-    c.note_arrangement.ensures.ascending c.note_arrangement.ensures.settled c.requires c.args.graph.fill_rule
-    c.args.overlay_rule in
+    let arranged = c.selected_contours_of.ensures.arranged in
+    let ruled = ruled_content g.I.IntNumber.limit es arranged.content arranged.ascending arranged.settled c.requires
+    c.args.graph.fill_rule c.args.overlay_rule in
     IfOk-weaker c.selected_contours_of.result _ (λ cs. AreKeptResults q es (plain_contours whole cs.items))
     (λ cs cut. kept_results q es (plain_contours whole cs.items)
     (kept_with_groups q es (plain_contours whole cs.items) c.if-options.true ruled cut))
@@ -33,14 +33,13 @@ returns-then-options-clause-long g c =
     let q : Asked = asked g.I.Wide.WideIntNumber.width g.I.WideUInt.UIntNumber.natural c.args.graph.fill_rule
     c.args.overlay_rule c.args.options in
     let es = graph_edges c.args.graph in
-    let ruled = ruled_content limit es c.note_arrangement.ensures.content
-    c.note_arrangement.ensures.ascending c.note_arrangement.ensures.settled c.requires c.args.graph.fill_rule
-    c.args.overlay_rule in
+    let arranged = c.selected_contours_of.ensures.arranged in
+    let ruled = ruled_content limit es arranged.content arranged.ascending arranged.settled c.requires
+    c.args.graph.fill_rule c.args.overlay_rule in
     IfOk-weaker c.selected_contours_of.result _
     (λ cs. All (All (IsLong limit)) (walks_in (plain_contours whole cs.items)))
     (λ cs cut. kept_are_long q es (plain_contours whole cs.items)
-    (kept_with_groups q es (plain_contours whole cs.items) c.if-options.true ruled cut) limit
-    c.note_arrangement.ensures.content)
+    (kept_with_groups q es (plain_contours whole cs.items) c.if-options.true ruled cut) limit arranged.content)
     c.selected_contours_of.ensures.cut
 
 pub returns-clause-kept : goal.returns-clause-kept
@@ -69,5 +68,5 @@ returns-clause-long g c =
     (kept_without q es (plain_walks whole c.in_ok-walks.walks.items) (plain_contours whole cs.items) c.if-options.false
     c.in_ok-walks.ensures.cut
     (large_alike whole q c.in_ok-walks.walks.items c.in_ok-large.large.items (plain_contours whole cs.items)
-    c.in_ok-large.ensures.ok are)) limit c.note_arrangement.ensures.content)
+    c.in_ok-large.ensures.ok are)) limit c.allocator.ensures.arranged.content)
     c.roled.ensures.ok

@@ -13,8 +13,8 @@ use Rattle.overlay_walk.proofs.selected_walks.selected_walks_of.Goals as goal
 pub cut_into_contours-requires-clause-cuttable : goal.cut_into_contours-requires-clause-cuttable
 cut_into_contours-requires-clause-cuttable g c =
     let es = graph_edges c.args.graph in
-    let ruled = ruled_content g.I.IntNumber.limit es c.note_arrangement.ensures.content
-    c.note_arrangement.ensures.ascending c.note_arrangement.ensures.settled c.requires c.args.graph.fill_rule
+    let ruled = ruled_content g.I.IntNumber.limit es c.allocator.ensures.arranged.content
+    c.allocator.ensures.arranged.ascending c.allocator.ensures.arranged.settled c.requires c.args.graph.fill_rule
     c.args.overlay_rule in
     alternating (shuffled_alternate (rules_hold c.args.graph.fill_rule c.args.overlay_rule) subj_of clip_of es
     (filled_hand c.args.direction) ruled
@@ -23,8 +23,8 @@ cut_into_contours-requires-clause-cuttable g c =
 pub cut_into_contours-requires-clause-once : goal.cut_into_contours-requires-clause-once
 cut_into_contours-requires-clause-once g c =
     let es = graph_edges c.args.graph in
-    let ruled = ruled_content g.I.IntNumber.limit es c.note_arrangement.ensures.content
-    c.note_arrangement.ensures.ascending c.note_arrangement.ensures.settled c.requires c.args.graph.fill_rule
+    let ruled = ruled_content g.I.IntNumber.limit es c.allocator.ensures.arranged.content
+    c.allocator.ensures.arranged.ascending c.allocator.ensures.arranged.settled c.requires c.args.graph.fill_rule
     c.args.overlay_rule in
     shuffled_once (rules_hold c.args.graph.fill_rule c.args.overlay_rule) subj_of clip_of es
     (filled_hand c.args.direction) ruled
@@ -33,8 +33,8 @@ cut_into_contours-requires-clause-once g c =
 pub returns-clause-cut : goal.returns-clause-cut
 returns-clause-cut g c =
     let es = graph_edges c.args.graph in
-    let ruled = ruled_content g.I.IntNumber.limit es c.note_arrangement.ensures.content
-    c.note_arrangement.ensures.ascending c.note_arrangement.ensures.settled c.requires c.args.graph.fill_rule
+    let ruled = ruled_content g.I.IntNumber.limit es c.allocator.ensures.arranged.content
+    c.allocator.ensures.arranged.ascending c.allocator.ensures.arranged.settled c.requires c.args.graph.fill_rule
     c.args.overlay_rule in
     shuffled_cut (rules_hold c.args.graph.fill_rule c.args.overlay_rule) subj_of clip_of es
     (filled_hand c.args.direction) ruled
@@ -46,10 +46,10 @@ returns-clause-long g c =
     let es = graph_edges c.args.graph in
     let holds = rules_hold c.args.graph.fill_rule c.args.overlay_rule in
     let filled = filled_hand c.args.direction in
-    let ruled = ruled_content g.I.IntNumber.limit es c.note_arrangement.ensures.content
-    c.note_arrangement.ensures.ascending c.note_arrangement.ensures.settled c.requires c.args.graph.fill_rule
+    let ruled = ruled_content g.I.IntNumber.limit es c.allocator.ensures.arranged.content
+    c.allocator.ensures.arranged.ascending c.allocator.ensures.arranged.settled c.requires c.args.graph.fill_rule
     c.args.overlay_rule in
     let walks = plain_walks g.I.IntNumber.whole c.in_ok-walks.walks.items in
-    walks_are_long g.I.IntNumber.limit es c.note_arrangement.ensures.content holds subj_of clip_of filled walks
+    walks_are_long g.I.IntNumber.limit es c.allocator.ensures.arranged.content holds subj_of clip_of filled walks
     (shuffled_cut holds subj_of clip_of es filled ruled (plain_steps g.I.IntNumber.whole c.in_ok-open.open)
     c.in_ok-open.ensures walks c.in_ok-walks.ensures.cut)

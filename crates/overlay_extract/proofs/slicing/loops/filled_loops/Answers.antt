@@ -36,7 +36,7 @@ loops_of-requires-clause-long g c =
     rw c.deref-2.ensures.value
     (tours_long sides tours (orbits_make_tours sides orbits tours c.in_ok-orbits.ensures.orbits split)
     (filled_sides_long (is_filled graph.fill_rule) subj_of es
-    (balanced_arrangement g.I.IntNumber.limit es c.note_arrangement.ensures c.requires)))
+    (balanced_arrangement g.I.IntNumber.limit es c.allocator.ensures.arranged c.requires)))
 
 pub returns-clause-loops : goal.returns-clause-loops
 returns-clause-loops g c =
@@ -50,7 +50,7 @@ returns-clause-loops g c =
     let split = rw c.deref.ensures.value at c.in_ok-tours.ensures.tours in
     IfOk-weaker c.loops_of.result _ _
     (λ ls cut. tours_make_loops fills subj_of es
-    (balanced_arrangement g.I.IntNumber.limit es c.note_arrangement.ensures c.requires) tours
+    (balanced_arrangement g.I.IntNumber.limit es c.allocator.ensures.arranged c.requires) tours
     (plain_walks whole ls.items) (orbits_make_tours sides orbits tours c.in_ok-orbits.ensures.orbits split) cut)
     (rw c.deref-2.ensures.value at c.loops_of.ensures.loops)
 
@@ -67,7 +67,7 @@ returns-clause-order g c =
     let order = rw c.deref.ensures.value at c.in_ok-tours.ensures.order in
     IfOk-weaker c.loops_of.result _ _
     (λ ls found. loops_found fills subj_of es
-    (balanced_arrangement g.I.IntNumber.limit es c.note_arrangement.ensures c.requires) orbits tours
+    (balanced_arrangement g.I.IntNumber.limit es c.allocator.ensures.arranged c.requires) orbits tours
     (plain_walks whole ls.items) c.in_ok-orbits.ensures.orbits
     (orbits_make_tours sides orbits tours c.in_ok-orbits.ensures.orbits split).each_once order found)
     (rw c.deref-2.ensures.value at c.loops_of.ensures.order)

@@ -13,7 +13,7 @@ cut_into_contours-requires-clause-cuttable g c =
     let graph = c.args.graph.now in
     let es = graph_edges graph in
     steps_cuttable (is_filled graph.fill_rule) subj_of es
-    (balanced_arrangement g.I.IntNumber.limit es c.note_arrangement.ensures c.requires)
+    (balanced_arrangement g.I.IntNumber.limit es c.allocator.ensures.arranged c.requires)
     (plain_steps g.I.IntNumber.whole c.in_ok-open.open) c.in_ok-open.ensures.sides
 
 pub cut_into_contours-requires-clause-once : goal.cut_into_contours-requires-clause-once
@@ -21,7 +21,7 @@ cut_into_contours-requires-clause-once g c =
     let graph = c.args.graph.now in
     let es = graph_edges graph in
     steps_once (is_filled graph.fill_rule) subj_of es
-    (balanced_arrangement g.I.IntNumber.limit es c.note_arrangement.ensures c.requires)
+    (balanced_arrangement g.I.IntNumber.limit es c.allocator.ensures.arranged c.requires)
     (plain_steps g.I.IntNumber.whole c.in_ok-open.open) c.in_ok-open.ensures.sides
 
 pub returns : goal.returns
@@ -29,7 +29,7 @@ returns g c = record {
   orbits = let graph = c.args.graph.now in
       let es = graph_edges graph in
       orbits_cut (is_filled graph.fill_rule) subj_of es
-      (balanced_arrangement g.I.IntNumber.limit es c.note_arrangement.ensures c.requires)
+      (balanced_arrangement g.I.IntNumber.limit es c.allocator.ensures.arranged c.requires)
       (plain_steps g.I.IntNumber.whole c.in_ok-open.open) c.in_ok-open.ensures.sides
       (plain_walks g.I.IntNumber.whole c.in_ok-orbits.orbits.items) c.in_ok-orbits.ensures.cut;
 }

@@ -63,5 +63,5 @@ returns g c = record {
       (plain_shapes whole shapes)
       shown ∙ ap points_of_shapes placed.are)))
       (sliced g.I.Wide.WideIntNumber.width min graph.fill_rule direction es
-      (balanced_arrangement g.I.IntNumber.limit es c.note_arrangement.ensures c.requires) cs slices.shapes.items are);
+      (balanced_arrangement g.I.IntNumber.limit es c.allocator.ensures.arranged c.requires) cs slices.shapes.items are);
 }

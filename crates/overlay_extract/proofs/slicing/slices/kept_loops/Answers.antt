@@ -14,7 +14,7 @@ use Rattle.overlay_extract.proofs.slicing.slices.kept_loops.Goals as goal
 pub large_walks-requires : goal.large_walks-requires
 large_walks-requires g c =
     let graph = c.args.graph.now in
-    loops_long g.I.IntNumber.limit graph.fill_rule (graph_edges graph) c.note_arrangement.ensures c.requires
+    loops_long g.I.IntNumber.limit graph.fill_rule (graph_edges graph) c.allocator.ensures.arranged c.requires
     (plain_walks g.I.IntNumber.whole c.in_ok-loops.loops.items) c.in_ok-loops.ensures.loops
 
 pub contours_of_loops-requires-clause-simple : goal.contours_of_loops-requires-clause-simple
@@ -37,7 +37,7 @@ contours_of_loops-requires-clause-long g c =
     subst (All (All (IsLong g.I.IntNumber.limit))) (sym (ap (plain_walks whole) c.in_ok-large.ensures.ok
     ∙ map-filter (λ (w : _). plain_steps whole w.items) keeps loops))
     (All-filter keeps (All (IsLong g.I.IntNumber.limit)) (plain_walks whole loops)
-    (loops_long g.I.IntNumber.limit graph.fill_rule (graph_edges graph) c.note_arrangement.ensures c.requires
+    (loops_long g.I.IntNumber.limit graph.fill_rule (graph_edges graph) c.allocator.ensures.arranged c.requires
     (plain_walks whole loops) c.in_ok-loops.ensures.loops))
 
 pub returns-clause-contours : goal.returns-clause-contours
@@ -64,5 +64,5 @@ returns-clause-long g c =
     subst (All (All (IsLong g.I.IntNumber.limit))) (sym (c.in_ok-contours.ensures.walks
     ∙ ap (plain_walks whole) c.in_ok-large.ensures.ok ∙ map-filter (λ (w : _). plain_steps whole w.items) keeps loops))
     (All-filter keeps (All (IsLong g.I.IntNumber.limit)) (plain_walks whole loops)
-    (loops_long g.I.IntNumber.limit graph.fill_rule (graph_edges graph) c.note_arrangement.ensures c.requires
+    (loops_long g.I.IntNumber.limit graph.fill_rule (graph_edges graph) c.allocator.ensures.arranged c.requires
     (plain_walks whole loops) c.in_ok-loops.ensures.loops))

@@ -9,7 +9,7 @@ bind_contours-requires-clause-bindable g c =
     let graph = c.args.graph.now in
     rw c.deref.ensures.value (slices_can_be_bound g.I.IntNumber.limit g.I.Wide.WideIntNumber.width
     (g.I.WideUInt.UIntNumber.natural c.args.min_output_area) graph.fill_rule (graph_edges graph)
-    c.note_arrangement.ensures c.requires
+    c.allocator.ensures.arranged c.requires
     (plain_contours g.I.IntNumber.whole c.in_ok-contours.contours.items) c.in_ok-contours.ensures.contours)
 
 pub returns-clause-slices : goal.returns-clause-slices
