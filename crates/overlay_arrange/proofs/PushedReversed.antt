@@ -1,4 +1,4 @@
--- The weight of an edge does not change when its counts are reversed.
+-- An edge is added to a content, as it is or reversed: its weight does not change when its counts are reversed.
 use Rattle.std.proofs.Common.{◌≡◌, ℕ, ◌+◌, ◌<◌, ◌^◌, ℤ, pos, List, [], ◌∷◌, ◌++◌, sym, ap, ◌∙◌, subst, arith}
 use Rattle.std.specs.List.{All}
 use Rattle.std.proofs.lemmas.List.{map_push}
@@ -20,19 +20,17 @@ weight_reversed c =
     edge_weight-piece (edge_with p q c) (record { from = q; to = p })
 
 module _ {I C : Type 0} (limit : ℕ) (whole : I → ℤ) (counts : C → Counts) where
-  -- held edges and a reversed one more are a content of their weights' sum
-  pub pushed_reversed : (old new : List (HeldEdge I C)) (e : HeldEdge I C) (t : C) (n added : ℕ) →
+  -- held edges and one more, with other counts of the same weight, are a content of their weights' sum
+  pub pushed : (old new : List (HeldEdge I C)) (e : HeldEdge I C) (t : C) (n added : ℕ) →
       IsWeighed limit (plain_edges whole counts old) n → IsHeld limit (plain_edge whole counts e) →
-      counts t ≡ reversed_counts (counts e.count) → added ≡ weight_of_counts (counts e.count) → n + added < 2 ^ 31 →
-      new ≡ old ++ record { a = e.a; b = e.b; count = t } ∷ [] →
+      weight_of_counts (counts t) ≡ weight_of_counts (counts e.count) → added ≡ weight_of_counts (counts e.count) →
+      n + added < 2 ^ 31 → new ≡ old ++ record { a = e.a; b = e.b; count = t } ∷ [] →
       IsWeighed limit (plain_edges whole counts new) (n + added)
-  pushed_reversed old new e t n added before held turned weighs light is =
+  pushed old new e t n added before held same weighs light is =
       let x : CountedEdge = plain_edge whole counts (record { a = e.a; b = e.b; count = t }) in
       let seen : plain_edges whole counts new ≡ plain_edges whole counts old ++ x ∷ [] =
       ap (plain_edges whole counts) is
       ∙ map_push (plain_edge whole counts) old (record { a = e.a; b = e.b; count = t }) in
-      let same : edge_weight x ≡ weight_of_counts (counts e.count) = ap weight_of_counts turned
-      ∙ weight_reversed (counts e.count) in
       let sum : weight (plain_edges whole counts old ++ x ∷ [])
       ≡ weight (plain_edges whole counts old) + weight (x ∷ []) =
       sum_by-append edge_weight (plain_edges whole counts old) (x ∷ []) in
@@ -49,3 +47,13 @@ module _ {I C : Type 0} (limit : ℕ) (whole : I → ℤ) (counts : C → Counts
         };
         weighed = total ∙ ap weight (sym seen);
       }
+
+  -- so are held edges and a reversed one more
+  pub pushed_reversed : (old new : List (HeldEdge I C)) (e : HeldEdge I C) (t : C) (n added : ℕ) →
+      IsWeighed limit (plain_edges whole counts old) n → IsHeld limit (plain_edge whole counts e) →
+      counts t ≡ reversed_counts (counts e.count) → added ≡ weight_of_counts (counts e.count) → n + added < 2 ^ 31 →
+      new ≡ old ++ record { a = e.a; b = e.b; count = t } ∷ [] →
+      IsWeighed limit (plain_edges whole counts new) (n + added)
+  pushed_reversed old new e t n added before held turned weighs light is =
+      pushed old new e t n added before held (ap weight_of_counts turned ∙ weight_reversed (counts e.count)) weighs
+      light is

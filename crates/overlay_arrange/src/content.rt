@@ -94,6 +94,7 @@ impl<I: IntNumber, C: EdgeCount, A: Allocator> Content<I, C, A> {
         requires held { IsHeld I.limit (plain_edge I.whole C.counts edge) }
         requires light { weight_of_counts (C.counts edge.count) < 2 ^ 31 }
         ensures ok { OnOk result (self.new ≡ self.old ++ carried_edge I.whole C.counts edge ∷ []) }
+        ensures content { IsContent I.limit (edges_in self.new) }
         ensures err { OnErr result (self.new ≡ self.old) }
         ensures too_many { IsErrOf result OverlayError.TooManyEdges
             → 2 ^ 31 ≤ weight (edges_in self.old ++ plain_edge I.whole C.counts edge ∷ []) }
@@ -120,6 +121,7 @@ impl<I: IntNumber, C: EdgeCount, A: Allocator> Content<I, C, A> {
         ensures ok { OnOk result ((turned : C) × IsReversedBy C.counts C.reverses edge.count turned
             × (self.new ≡ self.old ++ carried_edge I.whole C.counts (record edge { count = turned }) ∷ [])) }
         ensures writes { OnOk result (C.writes store.old store.new) }
+        ensures content { IsContent I.limit (edges_in self.new) }
         ensures err { OnErr result (self.new ≡ self.old) }
         ensures untouched { OnErr result (store.new ≡ store.old) }
         ensures too_many { IsErrOf result OverlayError.TooManyEdges
@@ -160,6 +162,7 @@ impl<I: IntNumber, C: EdgeCount, A: Allocator> Content<I, C, A> {
         A: Clone,
         ensures ok { OnOk result (IsMerged (edges_in self.old) (edges_in self.new)) }
         ensures carried { OnOk result (CarriesMerged C.merges self.old self.new) }
+        ensures before { IsContent I.limit (edges_in self.old) }
         ensures content { IsContent I.limit (edges_in self.new) }
         ensures store { IsStoreReached C.writes store.old store.new }
     {

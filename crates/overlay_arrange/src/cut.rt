@@ -2,7 +2,7 @@
 //! points whose pixels it meets.
 
 ghost use Rattle.std.specs.Prelude.{◌≡◌, ◌⊎◌, ◌↔◌, ◌^◌, ◌<◌, ◌≤◌, ◌++◌, ◌∷◌, [], IsTrue, All, flat_map};
-ghost use Rattle.std.specs.Prelude.{false, map, IfOk, IfErr, OnOk, IsErrOf};
+ghost use Rattle.std.specs.Prelude.{false, map, IfOk, IfErr, OnOk, OnErr, IsErrOf};
 ghost use Rattle.std.specs.Prelude.{MatchBool, option_map, option_to_list, cond, int_le, int_lt};
 ghost use Rattle.std.specs.Ordering.{is_lt};
 ghost use Rattle.overlay_geom.specs.Counts.{weight_of_counts};
@@ -40,7 +40,7 @@ use std::mem;
 impl<I: IntNumber, C: EdgeCount, A: Allocator> Content<I, C, A> {
     /// Cuts each edge into the pieces of the chain through its meeting points. Returns whether a point was rounded, and
     /// the edges before the cut. If no point was rounded, the edges met only in whole points or overlapped. The edges
-    /// ascend. The meetings are theirs, and are dropped. A refusal leaves the content open.
+    /// ascend. The meetings are theirs, and are dropped. A refusal leaves the content as it was.
     #[tactic(auto, using(crate::proofs::ReachedStores::never_written))]
     pub(crate) fn cut_at(
         &mut self,
@@ -57,6 +57,7 @@ impl<I: IntNumber, C: EdgeCount, A: Allocator> Content<I, C, A> {
         ensures rounded { IfOk result (λ cut.
             (cut.0 ≡ false) ↔ MeetInWholePoints (edges_in self.old)) }
         ensures before { IfOk result (λ cut. edges_in cut.1 ≡ edges_in self.old) }
+        ensures err { OnErr result (self.new ≡ self.old) }
         ensures store { IsStoreReached C.writes store.old store.new }
         ensures too_many { IsErrOf result OverlayError.TooManyEdges → 2 ^ 31 ≤ weight (cut_edges (edges_in self.old)) }
         ensures only { IfErr result (λ e. (e ≡ OverlayError.Memory) ⊎ (e ≡ OverlayError.TooManyEdges)) }
@@ -94,7 +95,7 @@ impl<I: IntNumber, C: EdgeCount, A: Allocator> Content<I, C, A> {
     }
 
     /// Cuts each edge into the pieces of the chain through the hot points whose pixels it meets. The meetings are these
-    /// points, sorted by their places. They are dropped. A refusal leaves the content open.
+    /// points, sorted by their places. They are dropped. A refusal leaves the content as it was.
     #[tactic(auto, using(crate::proofs::ReachedStores::never_written))]
     pub(crate) fn snap_at(
         &mut self,
@@ -108,6 +109,7 @@ impl<I: IntNumber, C: EdgeCount, A: Allocator> Content<I, C, A> {
         ensures ok { OnOk result (edges_in self.new ≡ snapped_edges (edges_in self.old)) }
         ensures carried { OnOk result (AreCutAlong C.splits C.reverses
             (chain_by (snap_points (edges_in self.old))) self.old self.new) }
+        ensures err { OnErr result (self.new ≡ self.old) }
         ensures store { IsStoreReached C.writes store.old store.new }
         ensures too_many { IsErrOf result OverlayError.TooManyEdges
             → 2 ^ 31 ≤ weight (snapped_edges (edges_in self.old)) }

@@ -5,7 +5,7 @@ ghost use Rattle.std.specs.Prelude.{Err, None, IfOk, IfErr, IfSome, OnOk, IsErrO
 ghost use Rattle.overlay_arrange.specs.Arranged.{IsArranged, IsArrangedCarrying, IsSplitCarrying};
 ghost use Rattle.overlay_arrange.specs.Arranged.{MayRefuseSplitting};
 ghost use Rattle.overlay_arrange.specs.Changed.{AreOpenIn};
-ghost use Rattle.overlay_arrange.specs.Content.{IsAscending};
+ghost use Rattle.overlay_arrange.specs.Content.{IsAscending, IsContent};
 ghost use Rattle.overlay_arrange.specs.Meetings.{plain_meetings, AreMeetings};
 ghost use Rattle.overlay_arrange.specs.Stores.{IsStoreReached};
 ghost use Rattle.overlay_geom.specs.Settled.{IsSettled};
@@ -49,11 +49,10 @@ impl<I: IntNumber, C: EdgeCount, A: Allocator + Clone> Content<I, C, A> {
         ensures carried { OnOk result (IsArrangedCarrying C.merges C.splits C.reverses solver self.old self.new) }
         ensures cut { IfOk result (λ is_cut. (is_cut ≡ false)
             ↔ IsReachedBy solver [] (edges_in self.old) (edges_in self.new)) }
+        ensures content { IsContent I.limit (edges_in self.new) }
         ensures store { IsStoreReached C.writes store.old store.new }
         ensures err { IfErr result (MayRefuseSplitting solver (edges_in self.old)) }
     {
-        // (its contract says that the edges are in range, and weigh less than 2^31)
-        self.note_limits();
         match solver {
             Solver::Rounds => self.split(ROUNDS, store),
             Solver::Snapping => self.snap(store),
@@ -67,6 +66,8 @@ impl<I: IntNumber, C: EdgeCount, A: Allocator + Clone> Content<I, C, A> {
         ensures carried { OnOk result (IsSplitCarrying C.merges C.splits C.reverses Rounds rounds self.old self.new) }
         ensures cut { IfOk result (λ is_cut. (is_cut ≡ false)
             ↔ IsReachedBy Rounds [] (edges_in self.old) (edges_in self.new)) }
+        ensures before { IsContent I.limit (edges_in self.old) }
+        ensures content { IsContent I.limit (edges_in self.new) }
         ensures store { IsStoreReached C.writes store.old store.new }
         ensures not_settled { IsErrOf result OverlayError.NotSettled → StaysUnsettled rounds (edges_in self.old) }
         ensures too_many { IsErrOf result OverlayError.TooManyEdges
@@ -89,6 +90,8 @@ impl<I: IntNumber, C: EdgeCount, A: Allocator + Clone> Content<I, C, A> {
         ensures carried { OnOk result (IsSplitCarrying C.merges C.splits C.reverses Rounds rounds self.old self.new) }
         ensures cut { IfOk result (λ is_cut. (is_cut ≡ false)
             ↔ IsReachedBy Rounds [] (edges_in self.old) (edges_in self.new)) }
+        ensures before { IsContent I.limit (edges_in self.old) }
+        ensures content { IsContent I.limit (edges_in self.new) }
         ensures store { IsStoreReached C.writes store.old store.new }
         ensures not_settled { IsErrOf result OverlayError.NotSettled → StaysUnsettled rounds (edges_in self.old) }
         ensures too_many { IsErrOf result OverlayError.TooManyEdges

@@ -1,12 +1,12 @@
 //! Snap rounding: edges that meet elsewhere than in ends are each led, once, through the hot points whose pixels they
 //! meet.
 
-ghost use Rattle.std.specs.Prelude.{◌≡◌, ◌⊎◌, ◌↔◌, ◌^◌, false, [], IfOk, IfErr, OnOk, IsErrOf};
+ghost use Rattle.std.specs.Prelude.{◌≡◌, ◌⊎◌, ◌↔◌, ◌^◌, false, [], IfOk, IfErr, OnOk, OnErr, IsErrOf};
 ghost use Rattle.overlay_geom.specs.declared.solver.Solver.TheVariants.{Snapping};
 ghost use Rattle.overlay_plane.specs.Arrangements.{IsReachedBy, IsSplit, WeighsTooMuch};
 ghost use Rattle.overlay_plane.specs.Carried.{edges_in};
 ghost use Rattle.overlay_arrange.specs.Arranged.{IsSplitCarrying};
-ghost use Rattle.overlay_arrange.specs.Content.{IsAscending};
+ghost use Rattle.overlay_arrange.specs.Content.{IsAscending, IsContent};
 ghost use Rattle.overlay_arrange.specs.Meetings.{plain_meetings, AreByPlace, AreMeetings};
 ghost use Rattle.overlay_arrange.specs.SnapMeetings.{AreSnapMeetings};
 ghost use Rattle.overlay_arrange.specs.Snapping.{AreHeavyPieces, IsLedOnce};
@@ -33,13 +33,13 @@ impl<I: IntNumber, C: EdgeCount, A: Allocator + Clone> Content<I, C, A> {
         ensures carried { OnOk result (IsSplitCarrying C.merges C.splits C.reverses Snapping 1 self.old self.new) }
         ensures cut { IfOk result (λ is_cut. (is_cut ≡ false)
             ↔ IsReachedBy Snapping [] (edges_in self.old) (edges_in self.new)) }
+        ensures before { IsContent I.limit (edges_in self.old) }
+        ensures content { IsContent I.limit (edges_in self.new) }
         ensures store { IsStoreReached C.writes store.old store.new }
         ensures too_many { IsErrOf result OverlayError.TooManyEdges
             → WeighsTooMuch Snapping 1 (2 ^ 31) (edges_in self.old) }
         ensures only { IfErr result (λ e. (e ≡ OverlayError.Memory) ⊎ (e ≡ OverlayError.TooManyEdges)) }
     {
-        // (its contract says that the edges lead forward)
-        self.note_limits();
         self.merge_runs(store)?;
         let Some((meetings, _)) = self.open_meetings(None)? else {
             return Ok(false);
@@ -48,9 +48,10 @@ impl<I: IntNumber, C: EdgeCount, A: Allocator + Clone> Content<I, C, A> {
         self.merge_runs(store)?;
         Ok(true)
     }
+
     /// Leads each edge through whole points, once. Where all meeting points are whole, it takes the edge's meeting
     /// points; else the hot points whose pixels it meets. The edges ascend, and the meetings are theirs. A refusal
-    /// leaves the content open.
+    /// leaves the content as it was.
     #[tactic(auto, using(crate::proofs::ReachedStores::never_written))]
     fn lead_once(
         &mut self,
@@ -60,6 +61,7 @@ impl<I: IntNumber, C: EdgeCount, A: Allocator + Clone> Content<I, C, A> {
         requires ascending { IsAscending (edges_in self.old) }
         requires meetings { AreMeetings (edges_in self.old) (plain_meetings I.whole meetings.items) }
         ensures ok { OnOk result (IsLedOnce C.splits C.reverses self.old self.new) }
+        ensures err { OnErr result (self.new ≡ self.old) }
         ensures store { IsStoreReached C.writes store.old store.new }
         ensures too_many { IsErrOf result OverlayError.TooManyEdges → AreHeavyPieces (2 ^ 31) (edges_in self.old) }
         ensures only { IfErr result (λ e. (e ≡ OverlayError.Memory) ⊎ (e ≡ OverlayError.TooManyEdges)) }

@@ -1,6 +1,6 @@
 -- If the merged list is settled no round is taken. Otherwise the cut is a round, and the rest is split with the rounds
 -- that are left.
-use Rattle.std.proofs.Common.{◌≡◌, ℕ, ◌-◌, ◌↔◌, List, Option, Some, None, refl, sym, ◌∙◌, arith}
+use Rattle.std.proofs.Common.{◌≡◌, ℕ, ◌-◌, ◌↔◌, List, Option, Some, None, refl, sym, ◌∙◌, subst, arith}
 use Rattle.std.proofs.lemmas.Result.{err_from_is_err_and}
 use Rattle.overlay_arrange.proofs.ArrangedLists.{forward_content, carried_at_once, carried_on}
 use Rattle.overlay_arrange.proofs.RoundsTaken.{split_at_once, unsettled_at_once, split_on, unsettled_on, heavy_on}
@@ -178,3 +178,9 @@ returns-in_err-merge_runs-2-clause-store g n c =
     let writes = g.C.EdgeCount.writes in
     reached_on writes _ _ _ (reached_on writes _ _ _ c.in_ok-merge_runs.ensures.store c.in_ok-is_rounded.ensures.store)
     c.in_err-merge_runs-2.ensures.store
+
+-- a refused cut leaves the merged edges
+pub returns-in_err-is_rounded-clause-content : goal.returns-in_err-is_rounded-clause-content
+returns-in_err-is_rounded-clause-content g n c =
+    subst (λ es. IsContent g.I.IntNumber.limit (edges_in es)) (sym c.in_err-is_rounded.ensures.err)
+    c.merge_runs.ensures.content

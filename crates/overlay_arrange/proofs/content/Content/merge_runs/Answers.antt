@@ -12,6 +12,11 @@ returns-clause-ok g c =
     )
     c.merge_runs-merged.ensures.ok
 
+pub returns-clause-before : goal.returns-clause-before
+returns-clause-before g c =
+    rw (← plain_edges-seen g.I.IntNumber.whole g.C.EdgeCount.counts c.self.inside.edges.items c.args.self.now
+    c.self.view_is) c.self.invariant.content
+
 pub returns-clause-content : goal.returns-clause-content
 returns-clause-content g c =
     rw (edges_in-carried g.I.IntNumber.whole g.C.EdgeCount.counts c.merge_runs-merged.new.edges.items)

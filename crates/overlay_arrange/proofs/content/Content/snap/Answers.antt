@@ -1,8 +1,9 @@
 -- If the merged list is settled no round is taken. Otherwise the edges are led once, and the merged pieces are settled.
-use Rattle.std.proofs.Common.{◌≡◌, ◌↔◌, Option, Some, None, sym, ◌∙◌}
+use Rattle.std.proofs.Common.{◌≡◌, ◌↔◌, Option, Some, None, sym, subst, ◌∙◌}
 use Rattle.std.proofs.lemmas.Result.{err_from_is_err_and}
 use Rattle.overlay_geom.specs.Settled.{IsSettled}
 use Rattle.overlay_plane.specs.Carried.{edges_in}
+use Rattle.overlay_arrange.specs.Content.{IsContent}
 use Rattle.overlay_arrange.proofs.ArrangedLists.{carried_at_once}
 use Rattle.overlay_arrange.proofs.ReachedStores.{reached_on}
 use Rattle.overlay_arrange.proofs.RoundsTaken.{cut_where_unsettled, split_at_once}
@@ -37,7 +38,7 @@ returns-clause-carried g c =
     snapped_carrying g.C.EdgeCount.merges g.C.EdgeCount.splits g.C.EdgeCount.reverses g.I.IntNumber.limit
     c.args.self.now c.merge_runs.new.self c.merge_runs.ensures.content c.in_ok-merge_runs.ensures.ok
     (not_settled c.in-Some.is c.in_ok-meetings.ensures.settled) c.lead_once.new.self c.merge_runs-2.new.self
-    c.note_limits.ensures c.in_ok-merge_runs.ensures.carried c.in_ok-lead_once.ensures.ok
+    c.merge_runs.ensures.before c.in_ok-merge_runs.ensures.carried c.in_ok-lead_once.ensures.ok
     c.in_ok-merge_runs-2.ensures.ok
     c.in_ok-merge_runs-2.ensures.carried
 
@@ -46,7 +47,7 @@ returns-clause-split g c =
     (snapped_carrying g.C.EdgeCount.merges g.C.EdgeCount.splits g.C.EdgeCount.reverses g.I.IntNumber.limit
     c.args.self.now c.merge_runs.new.self c.merge_runs.ensures.content c.in_ok-merge_runs.ensures.ok
     (not_settled c.in-Some.is c.in_ok-meetings.ensures.settled) c.lead_once.new.self c.merge_runs-2.new.self
-    c.note_limits.ensures c.in_ok-merge_runs.ensures.carried c.in_ok-lead_once.ensures.ok
+    c.merge_runs.ensures.before c.in_ok-merge_runs.ensures.carried c.in_ok-lead_once.ensures.ok
     c.in_ok-merge_runs-2.ensures.ok
     c.in_ok-merge_runs-2.ensures.carried).split
 
@@ -70,3 +71,9 @@ returns-clause-store g c =
     let writes = g.C.EdgeCount.writes in
     reached_on writes _ _ _ (reached_on writes _ _ _ c.in_ok-merge_runs.ensures.store c.in_ok-lead_once.ensures.store)
     c.in_ok-merge_runs-2.ensures.store
+
+-- edges that are not led stay merged
+pub returns-in_err-lead_once-clause-content : goal.returns-in_err-lead_once-clause-content
+returns-in_err-lead_once-clause-content g c =
+    subst (λ es. IsContent g.I.IntNumber.limit (edges_in es)) (sym c.in_err-lead_once.ensures.err)
+    c.merge_runs.ensures.content
