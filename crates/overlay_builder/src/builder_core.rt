@@ -36,12 +36,15 @@ pub struct BuilderCore<I: IntNumber, C: EdgeCount, A: Allocator> {
 }
 
 impl<I: IntNumber, C: EdgeCount, A: Allocator> Model for BuilderCore<I, C, A> {
-    ghost use Rattle.overlay_plane.specs.Carried.{Carried};
+    ghost use Rattle.overlay_plane.specs.Carried.{Carried, edges_in};
+    ghost use Rattle.overlay_arrange.specs.Content.{IsContent};
     ghost use Rattle.overlay_builder.specs.Held.{Held};
 
     ghost Value = { Held (Carried C) };
 
     ghost view = { λ b. record { edges = b.content; failed = b.is_failed } };
+
+    ghost invariant = { λ b. IsContent I.limit (edges_in b.content) };
 }
 
 impl<I: IntNumber, C: EdgeCount, A: Allocator> BuilderCore<I, C, A> {
@@ -68,7 +71,6 @@ impl<I: IntNumber, C: EdgeCount, A: Allocator> BuilderCore<I, C, A> {
         ensures edges { result.now ≡ self.now.edges }
         ensures content { IsContent I.limit (edges_in self.now.edges) }
     {
-        self.content.note_limits();
         &self.content
     }
 
@@ -96,16 +98,15 @@ impl<I: IntNumber, C: EdgeCount, A: Allocator> BuilderCore<I, C, A> {
             store.old store.new) }
         ensures untouched { OnErr result (store.new ≡ store.old) }
     {
-        self.content.note_limits();
         self.check_usable()?;
-        let added = push_step(&mut self.content, from, to, given, store);
-        self.content.note_limits();
-        added
+        push_step(&mut self.content, from, to, given, store)
     }
 
-    /// Refuses with `Failed` where a query was refused since the edges were last dropped.
+    /// Refuses with `Failed` where a query was refused since the edges were last dropped. The edges are in the
+    /// coordinate range and lighter than 2^31.
     pub fn check_usable(&self) -> Result<(), OverlayError>
-        ensures { result ≡ (if self.now.failed then Err OverlayError.Failed else Ok tt) }
+        ensures content { IsContent I.limit (edges_in self.now.edges) }
+        ensures usable { result ≡ (if self.now.failed then Err OverlayError.Failed else Ok tt) }
     {
         if self.is_failed {
             return Err(OverlayError::Failed);
@@ -139,11 +140,8 @@ impl<I: IntNumber, C: EdgeCount, A: Allocator + Clone> BuilderCore<I, C, A> {
         ensures left_out { IfOk result (λ leaves_out. (leaves_out ≡ false)
             ↔ IsTakenAs kind (plain_points I.whole points.now) (plain_points I.whole points.now)) }
     {
-        self.content.note_limits();
         self.check_usable()?;
-        let added = add_path(&mut self.content, points, kind, passing);
-        self.content.note_limits();
-        added
+        add_path(&mut self.content, points, kind, passing)
     }
 
     /// Adds all paths of the resource in order, each by `add_path`. The points are in the coordinate range.
@@ -162,7 +160,6 @@ impl<I: IntNumber, C: EdgeCount, A: Allocator + Clone> BuilderCore<I, C, A> {
         ensures { AddsAsAsked carried_weight (paths_as kind (passed_edge C.counts passing) (R0.paths resource.now))
             self.old self.new result }
     {
-        self.content.note_limits();
         self.check_usable()?;
         for index in 0..resource.path_count() {
             self.add_path(resource.path(index), kind, passing)?;
@@ -183,7 +180,6 @@ impl<I: IntNumber, C: EdgeCount, A: Allocator + Clone> BuilderCore<I, C, A> {
     {
         self.check_usable()?;
         let arranged = self.content.arrange(solver, store);
-        self.content.note_limits();
         self.is_failed = arranged.is_err();
         arranged
     }

@@ -5,7 +5,7 @@ ghost use Rattle.std.specs.Prelude.{IfOk, IfErr, OnOk, OnErr, IsErrOf, option_ma
 ghost use Rattle.overlay_geom.specs.Edges.{weight};
 ghost use Rattle.overlay_geom.specs.Plane.{steps_between, steps_through};
 ghost use Rattle.overlay_geom.specs.Points.{plain_point, plain_points, InRange, AllInRange};
-ghost use Rattle.overlay_arrange.specs.Content.{carried_edge};
+ghost use Rattle.overlay_arrange.specs.Content.{carried_edge, IsContent};
 ghost use Rattle.overlay_plane.specs.Carried.{edges_in};
 ghost use Rattle.overlay_builder.specs.Paths.{passed_edge, path_steps_of, AreLight};
 ghost use Rattle.overlay_builder.specs.Paths.{IsTakenAs, AddsPath, contour_kind};
@@ -78,6 +78,7 @@ fn push_step<I: IntNumber, C: EdgeCount, A: Allocator>(
     ensures ok { OnOk result (content.new ≡ content.old ++ map (passed_edge C.counts passing)
         (steps_between (plain_point I.whole from) (plain_point I.whole to))) }
     ensures err { OnErr result (content.new ≡ content.old) }
+    ensures limits { IsContent I.limit (edges_in content.old) → IsContent I.limit (edges_in content.new) }
     ensures too_many { IsErrOf result OverlayError.TooManyEdges
         → 2 ^ 31 ≤ weight (edges_in (content.old ++ map (passed_edge C.counts passing)
         (steps_between (plain_point I.whole from) (plain_point I.whole to)))) }
@@ -105,6 +106,7 @@ fn push_through<I: IntNumber, C: EdgeCount, A: Allocator>(
         OnOk result (content.new ≡ content.old ++ map (passed_edge C.counts passing)
         (steps_through start (plain_points I.whole points.now ++ cond is_closed (start ∷ []) []))) }
     ensures front { take (length content.old) content.new ≡ content.old }
+    ensures limits { IsContent I.limit (edges_in content.old) → IsContent I.limit (edges_in content.new) }
     ensures too_many { let start = plain_point I.whole first in
         IsErrOf result OverlayError.TooManyEdges → 2 ^ 31
         ≤ weight (edges_in (content.old ++ map (passed_edge C.counts passing)
@@ -134,6 +136,7 @@ fn push_path<I: IntNumber, C: EdgeCount, A: Allocator>(
     ensures ok { OnOk result (content.new ≡ content.old ++ map (passed_edge C.counts passing)
         (path_steps_of is_closed (plain_points I.whole points.now))) }
     ensures err { OnErr result (content.new ≡ content.old) }
+    ensures limits { IsContent I.limit (edges_in content.old) → IsContent I.limit (edges_in content.new) }
     ensures too_many { IsErrOf result OverlayError.TooManyEdges → 2 ^ 31
         ≤ weight (edges_in (content.old ++ map (passed_edge C.counts passing)
         (path_steps_of is_closed (plain_points I.whole points.now)))) }
@@ -168,6 +171,7 @@ pub fn add_path<I: IntNumber, C: EdgeCount, A: Allocator + Clone>(
     ensures left_out { IfOk result (λ leaves_out. (leaves_out ≡ false)
         ↔ IsTakenAs kind (plain_points I.whole points.now) (plain_points I.whole points.now)) }
     ensures err { OnErr result (content.new ≡ content.old) }
+    ensures limits { IsContent I.limit (edges_in content.old) → IsContent I.limit (edges_in content.new) }
     ensures too_many { IsErrOf result OverlayError.TooManyEdges → WouldWeighTooMuch carried_weight
         (path_as kind (passed_edge C.counts passing) (plain_points I.whole points.now)) content.old }
     ensures only { IfErr result (λ e. (e ≡ OverlayError.Memory) ⊎ (e ≡ OverlayError.TooManyEdges)) }
@@ -192,6 +196,7 @@ fn add_given<I: IntNumber, C: EdgeCount, A: Allocator>(
         (path_steps_of is_closed (plain_points I.whole points.now))) }
     ensures none { IfOk result (λ leaves_out. leaves_out ≡ false) }
     ensures err { OnErr result (content.new ≡ content.old) }
+    ensures limits { IsContent I.limit (edges_in content.old) → IsContent I.limit (edges_in content.new) }
     ensures too_many { IsErrOf result OverlayError.TooManyEdges → 2 ^ 31
         ≤ weight (edges_in (content.old ++ map (passed_edge C.counts passing)
         (path_steps_of is_closed (plain_points I.whole points.now)))) }
@@ -214,6 +219,7 @@ fn add_thinned<I: IntNumber, C: EdgeCount, A: Allocator + Clone>(
     ensures left_out { IfOk result (λ leaves_out. (leaves_out ≡ false)
         ↔ IsTakenAs PathKind.Thinned (plain_points I.whole points.now) (plain_points I.whole points.now)) }
     ensures err { OnErr result (content.new ≡ content.old) }
+    ensures limits { IsContent I.limit (edges_in content.old) → IsContent I.limit (edges_in content.new) }
     ensures too_many { IsErrOf result OverlayError.TooManyEdges → WouldWeighTooMuch carried_weight
         (path_as PathKind.Thinned (passed_edge C.counts passing) (plain_points I.whole points.now)) content.old }
     ensures only { IfErr result (λ e. (e ≡ OverlayError.Memory) ⊎ (e ≡ OverlayError.TooManyEdges)) }

@@ -3,6 +3,8 @@
 ghost use Rattle.std.specs.Prelude.{◌≡◌, ◌^◌, ◌<◌, ◌⊎◌, IfErr, OnOk, OnErr, IsErrOf};
 ghost use Rattle.overlay_geom.specs.Counts.{weight_of_counts};
 ghost use Rattle.overlay_geom.specs.Points.{plain_point, InRange};
+ghost use Rattle.overlay_plane.specs.Carried.{edges_in};
+ghost use Rattle.overlay_arrange.specs.Content.{IsContent};
 ghost use Rattle.overlay_builder.specs.AddedSteps.{AddsStep, LeavesStore, StepWeighsTooMuch};
 
 use overlay_arrange::content::Content;
@@ -32,6 +34,7 @@ pub(crate) fn push_step<I: IntNumber, C: EdgeCount, A: Allocator>(
         store.old store.new) }
     ensures err { OnErr result (content.new ≡ content.old) }
     ensures untouched { OnErr result (store.new ≡ store.old) }
+    ensures limits { IsContent I.limit (edges_in content.old) → IsContent I.limit (edges_in content.new) }
     ensures too_many { IsErrOf result OverlayError.TooManyEdges → StepWeighsTooMuch C.counts given
         (plain_point I.whole from) (plain_point I.whole to) content.old }
     ensures only { IfErr result (λ e. (e ≡ OverlayError.Memory) ⊎ (e ≡ OverlayError.TooManyEdges)) }

@@ -1,10 +1,11 @@
 -- The first point belongs to the path; a refused path leaves the content as it was.
-use Rattle.std.proofs.Common.{◌^◌, ◌≤◌, ◌++◌, map, take, ap, ◌∙◌, subst}
+use Rattle.std.proofs.Common.{◌^◌, ◌≤◌, ◌++◌, map, take, ap, sym, ◌∙◌, subst}
 use Rattle.std.proofs.lemmas.List.Elements.{All-contains}
 use Rattle.overlay_geom.specs.Edges.{weight}
 use Rattle.overlay_geom.specs.Points.{plain_point, plain_points, InRange}
 use Rattle.overlay_geom.proofs.ResolvedSteps.{first_mapped}
 use Rattle.overlay_plane.specs.Carried.{edges_in}
+use Rattle.overlay_arrange.specs.Content.{IsContent}
 use Rattle.overlay_builder.specs.Paths.{passed_edge}
 use Rattle.overlay_builder.proofs.Fronts.{on_refusal}
 use Rattle.overlay_builder.proofs.FirstPoints.{steps_from_the_first}
@@ -22,6 +23,12 @@ returns-then-is_err-clause-err g c =
     on_refusal c.push_through-pushed.result
     (c.truncate.ensures ∙ ap (λ n. take n c.push_through-pushed.new.content) c.len-held.ensures
     ∙ c.push_through-pushed.ensures.front)
+
+pub returns-then-is_err-clause-limits : goal.returns-then-is_err-clause-limits
+returns-then-is_err-clause-limits g c = λ before.
+    subst (λ es. IsContent g.I.IntNumber.limit (edges_in es))
+    (sym (c.truncate.ensures ∙ ap (λ n. take n c.push_through-pushed.new.content) c.len-held.ensures
+    ∙ c.push_through-pushed.ensures.front)) before
 
 pub returns-then-is_err-clause-too_many : goal.returns-then-is_err-clause-too_many
 returns-then-is_err-clause-too_many g c = λ refused.

@@ -30,4 +30,5 @@ loop-to-preserved g c =
       front-trans c.args.content.now c.loop-to.content c.push_step.new.content c.loop-to.invariant.2
           (begins_with c.loop-to.content (map edge (steps_between (at c.loop-to.from) (at c.to-item.result)))
           c.push_step.new.content added),
+      λ before. c.in_ok-push_step.ensures.limits (c.loop-to.invariant.3 before),
     )

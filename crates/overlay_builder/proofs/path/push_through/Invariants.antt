@@ -1,7 +1,10 @@
--- The edges so far and those of the steps to come make the whole, and the path has come to a point in range.
+-- The edges so far and those of the steps to come make the whole, and the path has come to a point in range. They stay
+-- a content.
 use Rattle.std.proofs.Common.{◌≡◌, ◌++◌, [], ◌∷◌, map, take, drop, length, cond}
 use Rattle.overlay_geom.specs.Plane.{steps_through}
 use Rattle.overlay_geom.specs.Points.{plain_point, plain_points, InRange}
+use Rattle.overlay_plane.specs.Carried.{edges_in}
+use Rattle.overlay_arrange.specs.Content.{IsContent}
 use Rattle.overlay_builder.specs.Paths.{passed_edge}
 use Rattle.overlay_builder.proofs.path.push_through.Given as goal
 
@@ -15,3 +18,4 @@ invariant-loop-to g l =
     ≡ l.initial.content ++ map edge (steps_through (at l.first) (all l.points ++ end)))
     × InRange g.I.IntNumber.limit (at l.from)
     × (take (length l.initial.content) l.content ≡ l.initial.content)
+    × (IsContent g.I.IntNumber.limit (edges_in l.initial.content) → IsContent g.I.IntNumber.limit (edges_in l.content))

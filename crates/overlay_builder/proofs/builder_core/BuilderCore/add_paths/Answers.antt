@@ -1,5 +1,5 @@
 -- Each path is added after those before it; if one is refused, those before it stay.
-use Rattle.std.proofs.Common.{◌≡◌, ◌^◌, ◌<◌, false, rules, subst}
+use Rattle.std.proofs.Common.{◌≡◌, false, rules}
 use Rattle.std.proofs.lemmas.Result.{err_from_is_err_and}
 use Rattle.overlay_geom.specs.Points.{plain_points, AllInRange}
 use Rattle.overlay_geom.proofs.ReadInOrder.{All-read}
@@ -13,7 +13,7 @@ loop-index-init g c =
     let ready : c.args.self.now.failed ≡ false = search rules in
     none_added_first carried_weight c.args.kind (passed_edge g.C.EdgeCount.counts c.args.passing)
     (g.R0.IntShapeResource.paths c.args.resource.now) c.args.self.now ready
-    (subst (λ b. carried_weight b.edges < 2 ^ 31) c.self.view_is c.note_limits.ensures.light)
+    c.check_usable.ensures.content.light
 
 pub add_path-requires-clause-points : goal.add_path-requires-clause-points
 add_path-requires-clause-points g c =

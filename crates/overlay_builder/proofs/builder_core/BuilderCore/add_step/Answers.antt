@@ -8,15 +8,15 @@ use Rattle.overlay_builder.proofs.builder_core.BuilderCore.add_step.Goals as goa
 pub returns-clause-added : goal.returns-clause-added
 returns-clause-added g c =
     let at = plain_point g.I.IntNumber.whole in
-    let e = c.push_step-added.ensures in
+    let e = c.push_step.ensures in
     record {
-      ok = subst (λ b. OnOk c.push_step-added.result (AddsStep g.C.EdgeCount.counts g.C.EdgeCount.reverses c.args.given
-          (at c.args.from) (at c.args.to) b.edges c.push_step-added.new.content)) c.self.view_is e.ok;
-      light = search rules;
+      ok = subst (λ b. OnOk c.push_step.result (AddsStep g.C.EdgeCount.counts g.C.EdgeCount.reverses c.args.given
+          (at c.args.from) (at c.args.to) b.edges c.push_step.new.content)) c.self.view_is e.ok;
+      light = (e.limits c.self.invariant).light;
       kept = search rules;
       err = search rules;
       failed = search rules;
-      too_many = subst (λ b. IsErrOf c.push_step-added.result TooManyEdges → StepWeighsTooMuch g.C.EdgeCount.counts
+      too_many = subst (λ b. IsErrOf c.push_step.result TooManyEdges → StepWeighsTooMuch g.C.EdgeCount.counts
           c.args.given (at c.args.from) (at c.args.to) b.edges) c.self.view_is e.too_many;
       no_query = search rules;
     }
