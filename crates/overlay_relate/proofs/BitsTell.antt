@@ -1,14 +1,18 @@
 -- The fill bits of the edges of a list pass a test where the edges do.
-use Rattle.std.proofs.Common.{◌≡◌, ℕ, Bool, true, false, cond, not, ◌&&◌, ◌||◌, List, map, refl, sym, ap, ap₂, ◌∙◌}
+use Rattle.std.proofs.Common.{◌≡◌, ℕ, ℤ, Bool, true, false, cond, not, ◌&&◌, ◌||◌, List, map, refl, sym, ap, ap₂, ◌∙◌}
 use Rattle.std.proofs.Common.{subst}
 use Rattle.std.specs.List.{list_any}
+use Rattle.std.specs.Prelude.{◌↔◌, IsTrue}
 use Rattle.std.proofs.lemmas.Bool.{false≢true}
 use Rattle.std.proofs.lemmas.List.Folds.{Any-from_list_any, list_any-from_Any}
+use Rattle.std.proofs.lemmas.Simd.{map-map}
 use Rattle.overlay_geom.specs.Edges.{CountedEdge, subj_of, clip_of}
 use Rattle.overlay_plane.specs.EdgePredicates.{SomeEdge, is_border_of}
 use Rattle.overlay_plane.proofs.Entries.{any_of_entry, Contains-from_any, Contains-map, Contains-from_map}
 use Rattle.overlay_arrange.specs.Rules.{is_filled, bits_of, fills_of, fill_bits}
+use Rattle.overlay_arrange.specs.Vectors.{Vector, plain_vector, vector_of}
 use Rattle.overlay_arrange.specs.declared.fill_rule.FillRule.{FillRule}
+use Rattle.overlay_arrange.specs.declared.vector.DataVectorEdge.{DataVectorEdge}
 use Rattle.overlay_arrange.proofs.SideBits.{bits_show_sides}
 use Rattle.overlay_relate.specs.EdgeTests.{bits_pass, edge_passes, is_subject_border, is_clip_border}
 use Rattle.overlay_relate.specs.declared.edge_test.EdgeTest.{EdgeTest}
@@ -54,6 +58,23 @@ bits_of_some test rule es fills are (e, c, t) = subst (λ ns. list_any (bits_pas
     (any_of_entry (λ n. bits_pass test n ≡ true) (map (fill_bits rule es) es) (fill_bits rule es e)
     (Contains-map (fill_bits rule es) es e c)
     (edge_by_bits test rule es e ∙ t)))
+
+-- ---- vectors
+
+-- so the fill bits of the vectors of a list tell whether some edge of it passes
+pub told_by_vectors : {I D : Type 0} (whole : I → ℤ) (test : EdgeTest) (rule : FillRule) (es : List CountedEdge)
+    (vs : List (DataVectorEdge I D)) → map (plain_vector whole) vs ≡ map (vector_of rule es) es →
+    (told : Bool) → told ≡ list_any (bits_pass test) (map (λ v. v.fill) vs) →
+    IsTrue told ↔ SomeEdge (edge_passes test (is_filled rule) es) es
+told_by_vectors whole test rule es vs filled told is =
+    let fills = map (λ v. v.fill) vs in
+    let are : fills ≡ map (fill_bits rule es) es =
+    sym (map-map (λ (v : Vector). v.fill) (plain_vector whole) vs)
+    ∙ ap (map (λ (v : Vector). v.fill)) filled
+    ∙ map-map (λ (v : Vector). v.fill) (vector_of rule es) es in (
+      λ t. some_by_bits test rule es fills are (sym is ∙ t),
+      λ some. is ∙ bits_of_some test rule es fills are some,
+    )
 
 -- ---- borders
 

@@ -6,7 +6,7 @@ ghost use Rattle.overlay_arrange.specs.Graphs.{graph_edges};
 ghost use Rattle.overlay_arrange.specs.Rules.{is_filled};
 ghost use Rattle.overlay_plane.specs.Balance.{HasBalancedCounts};
 ghost use Rattle.overlay_plane.specs.EdgePredicates.{SomeEdge, HasSharedEnd, has_both};
-ghost use Rattle.overlay_relate.specs.EdgeTests.{bits_pass, edge_passes};
+ghost use Rattle.overlay_relate.specs.EdgeTests.{bits_pass};
 ghost use Rattle.overlay_relate.specs.Findings.{IsAnswering, Tells, telling_test};
 ghost use Rattle.overlay_relate.specs.Found.{IsFoundUnder};
 
@@ -53,11 +53,11 @@ fn told_without_ends<I: IntNumber, C: EdgeCount, A: Allocator + Clone>(
         (graph_edges graph.now) ≡ false }
     ensures { IfSome result (Tells graph.now.fill_rule (graph_edges graph.now) predicate) }
 {
-    graph.note_arrangement();
+    let edges = graph.edges();
     match predicate {
         Predicate::InteriorsIntersect => Some(false),
-        Predicate::Within => Some(some_edge(graph, EdgeTest::SubjectSide)),
-        Predicate::Cover => Some(some_edge(graph, EdgeTest::ClipSide)),
+        Predicate::Within => Some(some_passes(edges, EdgeTest::SubjectSide)),
+        Predicate::Cover => Some(some_passes(edges, EdgeTest::ClipSide)),
         _ => None,
     }
 }
@@ -72,16 +72,16 @@ pub(crate) fn found_in<I: IntNumber, C: EdgeCount, A: Allocator + Clone>(
     ensures ok { IfOk result (IsFoundUnder fill_rule (graph_edges graph.now)) }
     ensures rule { IfOk result (λ f. f.fill_rule ≡ fill_rule) }
 {
-    graph.note_arrangement();
+    let edges = graph.edges();
     Ok(Found {
         fill_rule,
         meet: meet(graph)?,
-        has_both: some_edge(graph, EdgeTest::BothShapes),
-        has_common_side: some_edge(graph, EdgeTest::CommonSide),
-        has_subject: some_edge(graph, EdgeTest::SubjectSide),
-        subject_pokes_out: some_edge(graph, EdgeTest::SubjectOutside),
-        has_clip: some_edge(graph, EdgeTest::ClipSide),
-        clip_pokes_out: some_edge(graph, EdgeTest::ClipOutside),
+        has_both: some_passes(edges, EdgeTest::BothShapes),
+        has_common_side: some_passes(edges, EdgeTest::CommonSide),
+        has_subject: some_passes(edges, EdgeTest::SubjectSide),
+        subject_pokes_out: some_passes(edges, EdgeTest::SubjectOutside),
+        has_clip: some_passes(edges, EdgeTest::ClipSide),
+        clip_pokes_out: some_passes(edges, EdgeTest::ClipOutside),
     })
 }
 
@@ -93,20 +93,9 @@ fn meet<I: IntNumber, C: EdgeCount, A: Allocator + Clone>(
         let filled = is_filled graph.now.fill_rule in
         IfOk result (λ b. IsTrue b ↔ (SomeEdge (has_both filled es) es ⊎ HasSharedEnd filled es)) }
 {
-    let is_met = some_edge(graph, EdgeTest::BothShapes);
+    let is_met = some_passes(graph.edges(), EdgeTest::BothShapes);
     if is_met {
         return Ok(true);
     }
     has_shared_end(graph)
-}
-
-// Whether some edge passes the test.
-fn some_edge<I: IntNumber, C: EdgeCount, A: Allocator + Clone>(
-    graph: &Graph<I, C, A>,
-    test: EdgeTest,
-) -> bool
-    ensures { let es = graph_edges graph.now in
-        IsTrue result ↔ SomeEdge (edge_passes test (is_filled graph.now.fill_rule) es) es }
-{
-    some_passes(graph.edges(), test)
 }
