@@ -39,12 +39,12 @@ arranged_of_itself limit solver es content was = arranged_of_split limit solver 
 
 -- so a builder that keeps something answers a query as it is, whichever solver is set
 pub answers_as_it_is : (limit : ℕ) (solver : Solver) (b : Held CountedEdge) (kept : Option Finding) →
-    is_some kept ≡ true → IfSome kept (IsKept b.failed b.edges) → IsContent limit b.edges →
+    is_some kept ≡ true → IfSome kept (IsKept limit b.failed b.edges) →
     AnswersQuery {V = Unit {0}} limit solver b b (Ok tt)
-answers_as_it_is limit solver b None some right content = absurd (false≢true some)
-answers_as_it_is limit solver b (Some f) some right content =
+answers_as_it_is limit solver b None some right = absurd (false≢true some)
+answers_as_it_is limit solver b (Some f) some right =
     answers_arranged limit solver b right.usable b (Ok tt)
-    (arranged_of_itself limit solver b.edges content right.arranged) content tt right.usable
+    (arranged_of_itself limit solver b.edges right.content right.arranged) right.content tt right.usable
 
 module _ {U : Type 0} (limit : ℕ) (old mid new : PredicateBuilder) (u : U)
     (first : AnswersQuery limit old.solver (held_by old) (held_by mid) (Ok u))

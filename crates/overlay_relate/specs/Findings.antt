@@ -1,8 +1,9 @@
 -- What a query finds of an arrangement, which its builder keeps: the answer of one predicate, or those of all.
-use Rattle.std.specs.Prelude.{◌≡◌, ◌↔◌, Bool, true, false, List, Option, IsTrue, IfSome}
+use Rattle.std.specs.Prelude.{◌≡◌, ◌↔◌, ℕ, Bool, true, false, List, Option, IsTrue, IfSome}
 use Rattle.overlay_geom.specs.Edges.{CountedEdge}
 use Rattle.overlay_plane.specs.Predicates.{IsFillable}
 use Rattle.overlay_arrange.specs.Arranged.{WasArranged}
+use Rattle.overlay_arrange.specs.Content.{IsContent}
 use Rattle.overlay_arrange.specs.Rules.{is_filled}
 use Rattle.overlay_arrange.specs.declared.fill_rule.FillRule.{FillRule}
 use Rattle.overlay_builder.specs.GivenPaths.{IsBalancedUnlessFailed}
@@ -56,13 +57,14 @@ pub record IsAnswering (rule : FillRule) (es : List CountedEdge) (p : Predicate)
   pub tells : Tells rule es p (finding_answer f p)
 
 -- a builder that has not failed keeps a finding that is right of the edges that it holds, which are an arrangement
-pub record IsKept (failed : Bool) (es : List CountedEdge) (f : Finding) : Type 0 where
+pub record IsKept (limit : ℕ) (failed : Bool) (es : List CountedEdge) (f : Finding) : Type 0 where
   pub usable : failed ≡ false
+  pub content : IsContent limit es
   pub arranged : WasArranged es
   pub found : IsRight es f
 
 -- what is always so of a builder for predicates: its counts are balanced, unless it has failed, and what it keeps, if
 -- it does, is right of its edges
-pub record IsSound (failed : Bool) (es : List CountedEdge) (kept : Option Finding) : Type 0 where
+pub record IsSound (limit : ℕ) (failed : Bool) (es : List CountedEdge) (kept : Option Finding) : Type 0 where
   pub balanced : IsBalancedUnlessFailed failed es
-  pub right : IfSome kept (IsKept failed es)
+  pub right : IfSome kept (IsKept limit failed es)

@@ -51,5 +51,5 @@ impl<I: OverlayInt, A: Allocator> Model for PredicateOverlay<I, A> {
       failed = o.core.failed;
     } };
 
-    ghost invariant = { λ o. IsSound o.core.failed (edges_in o.core.edges) o.kept };
+    ghost invariant = { λ o. IsSound I.limit o.core.failed (edges_in o.core.edges) o.kept };
 }

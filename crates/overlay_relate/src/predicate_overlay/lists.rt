@@ -56,7 +56,6 @@ impl<I: OverlayInt, A: Allocator + Clone> PredicateOverlay<I, A> {
         ensures { PredicateBuilderAdds (paths_for shape_type (paths_of_shapes I.whole shapes.now))
             self.old self.new result }
     {
-        self.core.content().note_limits();
         self.core.check_usable()?;
         for shape in shapes {
             self.add_shape(shape, shape_type)?;

@@ -157,7 +157,8 @@ impl<I: OverlayInt, A: Allocator + Clone> PredicateOverlay<I, A> {
     fn find_first(&self, predicate: Predicate) -> Result<Finding, AllocError>
         requires usable { self.now.failed ≡ false }
         requires arranged { WasArranged self.now.edges }
-        ensures { IfOk result (IsAnswering self.now.fill_rule self.now.edges predicate) }
+        ensures answering { IfOk result (IsAnswering self.now.fill_rule self.now.edges predicate) }
+        ensures content { IsContent I.limit self.now.edges }
     {
         let fill_rule = self.fill_rule;
         match self.graph_unless(predicate.telling_test())? {
@@ -189,7 +190,6 @@ impl<I: OverlayInt, A: Allocator + Clone> PredicateOverlay<I, A> {
         ensures kept { self.new ≡ record self.old { edges = self.new.edges; failed = self.new.failed } }
         ensures untouched { IsErrOf result OverlayError.Failed → self.new ≡ self.old }
     {
-        self.core.content().note_limits();
         if self.kept.is_some() {
             return Ok(());
         }
@@ -243,6 +243,7 @@ impl<I: OverlayInt, A: Allocator + Clone> PredicateOverlay<I, A> {
         requires arranged { WasArranged self.now.edges }
         ensures ok { IfOk result (IsFoundUnder self.now.fill_rule self.now.edges) }
         ensures rule { IfOk result (λ f. f.fill_rule ≡ self.now.fill_rule) }
+        ensures content { IsContent I.limit self.now.edges }
     {
         let graph = self.graph()?;
         found_in(&graph, self.fill_rule)
@@ -255,6 +256,7 @@ impl<I: OverlayInt, A: Allocator + Clone> PredicateOverlay<I, A> {
         ensures edges { IfOk result (λ g. graph_edges g ≡ self.now.edges) }
         ensures rule { IfOk result (λ g. g.fill_rule ≡ self.now.fill_rule) }
         ensures balanced { HasBalancedCounts self.now.edges }
+        ensures content { IsContent I.limit self.now.edges }
     {
         self.core.content().graph_of_balanced(self.fill_rule)
     }

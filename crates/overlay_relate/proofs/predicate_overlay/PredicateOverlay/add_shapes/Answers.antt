@@ -15,13 +15,13 @@ returns-in_err-check_usable g c =
     let had : c.args.self.now.failed ≡ true = search rules in
     let is : c.from_residual.result ≡ Err Failed = search rules in
     rw is (failed_refuses c.args.self.now _ had
-    (subst (λ b. weight b.edges < 2 ^ 31) c.self.view_is c.content.ensures.content.light))
+    (subst (λ b. weight b.edges < 2 ^ 31) c.self.view_is c.check_usable.ensures.content.light))
 
 pub loop-shape-init : goal.loop-shape-init
 loop-shape-init g c =
     let ready : c.args.self.now.failed ≡ false = search rules in
     none_added c.args.self.now ready
-    (subst (λ b. weight b.edges < 2 ^ 31) c.self.view_is c.content.ensures.content.light)
+    (subst (λ b. weight b.edges < 2 ^ 31) c.self.view_is c.check_usable.ensures.content.light)
 
 pub add_shape-requires : goal.add_shape-requires
 add_shape-requires g c =

@@ -11,4 +11,4 @@ returns-then-is_some-clause-query g c =
     let limit = g.I.IntNumber.limit in
     subst (λ b. AnswersQuery {V = Unit {0}} limit b.solver (held_by b) (held_by b) (Ok tt)) c.self.view_is
     (answers_as_it_is limit c.self.inside.solver (plain_held c.self.inside.core) c.self.inside.kept
-    (sym c.is_some.ensures ∙ c.if-is_some.true) c.self.invariant.right c.content.ensures.content)
+    (sym c.is_some.ensures ∙ c.if-is_some.true) c.self.invariant.right)

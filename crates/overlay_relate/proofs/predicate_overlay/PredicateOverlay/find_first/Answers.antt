@@ -6,8 +6,8 @@ use Rattle.overlay_relate.specs.Findings.{Tells, telling_test}
 use Rattle.overlay_relate.proofs.ToldEarly.{told_of_arranged}
 use Rattle.overlay_relate.proofs.predicate_overlay.PredicateOverlay.find_first.Goals as goal
 
-pub returns-in-None : goal.returns-in-None
-returns-in-None g c =
+pub returns-in-None-clause-answering : goal.returns-in-None-clause-answering
+returns-in-None-clause-answering g c =
     let b = c.args.self.now in
     let p = c.args.predicate in
     let made = c.in_ok-graph.ensures in
