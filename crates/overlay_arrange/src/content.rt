@@ -181,14 +181,6 @@ impl<I: IntNumber, C: EdgeCount, A: Allocator> Content<I, C, A> {
         &self.edges
     }
 
-    /// Does nothing. Its contract says that the edges are in the coordinate range and weigh less than
-    /// 2^31, for callers whose proofs need it.
-    pub fn note_limits(&self)
-        ensures { IsContent I.limit (edges_in self.now) }
-    {
-        let _ = self.edges();
-    }
-
     /// Makes the graph of the edges under a fill rule. The edges are an arrangement.
     pub fn graph(&self, fill_rule: FillRule) -> Result<Graph<I, C, A>, AllocError>
     where
