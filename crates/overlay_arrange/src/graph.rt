@@ -132,14 +132,6 @@ impl<I: IntNumber, C: EdgeCount, A: Allocator> Graph<I, C, A> {
         &self.edges
     }
 
-    /// Does nothing. Its contract says that the edges are an arrangement, for callers whose proofs need
-    /// it.
-    pub fn note_arrangement(&self)
-        ensures { IsArrangement I.limit (graph_edges self.now) }
-    {
-        let _ = self.edges();
-    }
-
     /// Returns the allocator of the edges, which are an arrangement.
     pub fn allocator(&self) -> &A
         ensures arranged { IsArrangement I.limit (graph_edges self.now) }

@@ -45,7 +45,6 @@ pub fn vector_shapes<I: IntNumber, D: OverlayEdgeData, A: Allocator + Clone>(
         graph.now.edges (plain_vector_shapes I.whole v.items)) }
     ensures store { IsStoreReached D.writes store.old store.new }
 {
-    graph.note_arrangement();
     let without_groups = IntOverlayOptions {
         ogc: false,
         ..options
