@@ -72,18 +72,10 @@ impl<I: OverlayInt, D: OverlayEdgeData, A: Allocator> EdgeOverlay<I, D, A> {
             ⊎ StopsAtEdge I.whole shape_type D.reverses P.next_gives iter self.old.edges self.new.edges e) }
     {
         self.core.check_usable()?;
-        self.note_weight();
         for edge in iter {
             self.add_edge(edge, shape_type)?;
         }
         Ok(())
-    }
-
-    // Does nothing. Its contract says that the edges weigh less than 2^31.
-    fn note_weight(&self)
-        ensures { weight (edges_in self.now.edges) < 2 ^ 31 }
-    {
-        let _ = self.core.content();
     }
 }
 

@@ -1,13 +1,15 @@
 -- Each edge is added after those before it; where one is refused those before it stay.
-use Rattle.std.proofs.Common.{◌≡◌, false, ◌∷◌, ◌++◌, [], Err, inr, rules, refl, sym, ap, subst}
+use Rattle.std.proofs.Common.{◌≡◌, ◌<◌, ◌^◌, false, ◌∷◌, ◌++◌, [], Err, inr, rules, refl, sym, ap, subst}
 use Rattle.std.proofs.iter.Next.{Yields-more}
 use Rattle.std.proofs.lemmas.List.Elements.{All-pop}
 use Rattle.std.proofs.lemmas.Result.{err_from_is_err_and}
 use Rattle.std.specs.Iterator.{Yields}
 use Rattle.std.specs.Prelude.{Some}
 use Rattle.std.specs.Ordering.{is_le}
+use Rattle.overlay_geom.specs.Edges.{weight}
 use Rattle.overlay_geom.specs.Points.{plain_point}
 use Rattle.overlay_geom.specs.Resolved.{point_cmp}
+use Rattle.overlay_plane.specs.Carried.{edges_in}
 use Rattle.overlay_arrange.specs.Stores.{IsStoreReached}
 use Rattle.overlay_arrange.proofs.ReachedStores.{never_written, reached_on, reached_unless}
 use Rattle.overlay_vector.specs.AddedEdges.{IsEdgeInRange, StopsAtEdge}
@@ -21,7 +23,7 @@ loop-edge-init g c =
       subst g.P.Iterator.can_next (sym same) c.requires.can,
       search rules,
       none_added g.I.IntNumber.whole c.args.shape_type g.D.OverlayEdgeData.reverses c.args.self.now ready
-          c.note_weight.ensures,
+          (subst (λ b. weight (edges_in b.edges) < 2 ^ 31) c.self.view_is c.check_usable.ensures.content.light),
       never_written g.D.OverlayEdgeData.writes c.args.self.now.store,
     )
 
