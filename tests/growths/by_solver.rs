@@ -9,6 +9,7 @@ use i_overlay::i_shape::int::shape::IntContour;
 use i_overlay::solver::Solver;
 use i_overlay::string::clip::IntClip;
 use i_overlay::string::slice::IntSlice;
+use overlay_geom::resource::IntShapeResource;
 use overlay_string::tiles::grid::Grid;
 use overlay_string::tiles::slice::slice_by_grid_with_solver;
 use std::process::Abort;
@@ -37,8 +38,13 @@ fn check_clips<I: Width>(trial: &Trial<'_, impl Abort>) -> Result<(), Fail> {
         count_of(trial, "IntClip::clip_source_with_solver", || {
             shape.clip_source_with_solver(memory, &paths, RULE, INSIDE, SNAPPED)
         })?,
+        trial
+            .refuse_call("IntClip::clip_source_flat", || {
+                shape.clip_source_flat(memory, &paths, RULE, INSIDE, SNAPPED)
+            })?
+            .path_count(),
     ];
-    assert!(trial.rt; counts == [1, 1, PATHS, PATHS, PATHS]);
+    assert!(trial.rt; counts == [1, 1, PATHS, PATHS, PATHS, PATHS]);
     Ok(())
 }
 

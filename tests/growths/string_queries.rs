@@ -11,6 +11,7 @@ use i_overlay::solver::Solver;
 use i_overlay::string::clip::ClipRule;
 use i_overlay::string::rule::StringRule;
 use overlay_geom::error::OverlayError;
+use overlay_geom::resource::IntShapeResource;
 use std::process::Abort;
 use std::test::Fail;
 
@@ -108,6 +109,13 @@ fn check_clips<I: Width>(trial: &Trial<'_, impl Abort>) -> Result<(), Fail> {
         |_| Ok(true),
     )?;
     assert!(trial.rt; paths.len() == PATHS);
+    let paths = trial.refuse_each(
+        "StringOverlay::clip_string_lines_flat",
+        new,
+        |it| taken(it)?.clip_string_lines_flat(RULE, INSIDE, Solver::SNAPPED),
+        |_| Ok(true),
+    )?;
+    assert!(trial.rt; paths.path_count() == PATHS);
     let failed = failed_builder::<I>(trial)?;
     assert!(trial.rt; is_failed(trial.without_memory(|| failed.clip_string_lines(RULE, INSIDE))));
     for solver in [Solver::ABSOLUTE, Solver::SNAPPED] {
@@ -115,6 +123,9 @@ fn check_clips<I: Width>(trial: &Trial<'_, impl Abort>) -> Result<(), Fail> {
         let clipped = trial.without_memory(|| {
             failed.clip_string_lines_with_solver(RULE, INSIDE, solver)
         });
+        assert!(trial.rt; is_failed(clipped));
+        let failed = failed_builder::<I>(trial)?;
+        let clipped = trial.without_memory(|| failed.clip_string_lines_flat(RULE, INSIDE, solver));
         assert!(trial.rt; is_failed(clipped));
     }
     Ok(())

@@ -5,9 +5,11 @@ use crate::points::{are_shapes, line_of};
 use overlay_arrange::fill_rule::FillRule;
 use overlay_builder::solver::Solver;
 use overlay_geom::error::OverlayError;
+use overlay_geom::flat::contours::FlatContoursBuffer;
 use overlay_geom::integer::OverlayInt;
 use overlay_geom::path::{IntLine, IntPath, IntShapes};
 use overlay_geom::point::in_range;
+use overlay_geom::resource::IntShapeResource;
 use overlay_geom::resource::borrowed::BorrowedContours;
 use overlay_string::clip::IntClip;
 use overlay_string::clip_rule::ClipRule;
@@ -86,6 +88,20 @@ fn is_clipped<I: OverlayInt + PartialEq + From<i16>>(
     Ok(paths.len() == 1 && paths[0].as_slice() == shared.as_slice())
 }
 
+// Tests the same of paths in a single list.
+fn is_clipped_flat<I: OverlayInt + PartialEq + From<i16>>(
+    alloc: Global,
+    answer: Result<FlatContoursBuffer<I, Global>, OverlayError>,
+    rule: ClipRule,
+) -> Result<bool, OverlayError> {
+    let paths = answer?;
+    if !rule.boundary_included {
+        return Ok(paths.path_count() == 0);
+    }
+    let shared = contour_of::<I>(alloc, SHARED)?;
+    Ok(paths.path_count() == 1 && paths.path(0) == shared.as_slice())
+}
+
 // The line is clipped by each call: rounds refuse, also as the default, and snap rounding answers.
 fn clips<I: OverlayInt + PartialEq + From<i16>>(
     rt: &impl Abort,
@@ -150,6 +166,10 @@ fn clips_paths<I: OverlayInt + PartialEq + From<i16>>(
     assert!(rt; is_not_settled(refused));
     let snapped = shape.clip_source_with_solver(alloc, &borrowed, RULE, rule, Solver::SNAPPED);
     assert!(rt; is_clipped(alloc, snapped, rule)?);
+    let refused = shape.clip_source_flat(alloc, &borrowed, RULE, rule, Solver::ABSOLUTE);
+    assert!(rt; is_not_settled(refused));
+    let snapped = shape.clip_source_flat(alloc, &borrowed, RULE, rule, Solver::SNAPPED);
+    assert!(rt; is_clipped_flat(alloc, snapped, rule)?);
     Ok(())
 }
 
@@ -227,6 +247,9 @@ fn built<I: OverlayInt + PartialEq + From<i16>>(
     let overlay = builder::<I>(rt, alloc)?;
     let snapped = overlay.clip_string_lines_with_solver(RULE, WITH_BOUNDARY, Solver::SNAPPED);
     assert!(rt; is_clipped(alloc, snapped, WITH_BOUNDARY)?);
+    let overlay = builder::<I>(rt, alloc)?;
+    let snapped = overlay.clip_string_lines_flat(RULE, WITH_BOUNDARY, Solver::SNAPPED);
+    assert!(rt; is_clipped_flat(alloc, snapped, WITH_BOUNDARY)?);
     let mut overlay = builder::<I>(rt, alloc)?;
     assert!(rt; is_not_settled(overlay.build_graph_view(RULE)));
     let mut overlay = builder::<I>(rt, alloc)?;

@@ -102,6 +102,10 @@ pub record AreJoinedSoFar (old now : List Step) (paths : List (List Point)) : Ty
   pub shown : paths ≡ map points_along walks
   pub goes_on : (rest : List (List Step)) → AreClipPaths now rest → AreClipPaths old (walks ++ rest)
 
+-- at first there is none
+pub none_joined : (old : List Step) → AreJoinedSoFar old old []
+none_joined old = record { walks = []; shown = refl; goes_on = λ rest on. on }
+
 module _ (old now mid : List Step) (paths : List (List Point)) (h : AreJoinedSoFar old now paths) where
   -- one more
   pub one_more_joined : (s : Step) → IsTakenFirst now mid (Some s) → (new : List Step) (points : List Point) →

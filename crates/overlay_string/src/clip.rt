@@ -1,6 +1,8 @@
 //! Strings clipped by a shape in one call.
 
 ghost use Rattle.std.specs.Prelude.{◌∷◌, [], All, IfOk, IfErr};
+ghost use Rattle.overlay_geom.specs.Flat.{paths_in};
+ghost use Rattle.overlay_geom.specs.Packed.{IsPacked};
 ghost use Rattle.overlay_geom.specs.Paths.{paths_of_shape};
 ghost use Rattle.overlay_geom.specs.Points.{plain_points, AllInRange};
 ghost use Rattle.overlay_geom.specs.declared.solver.Solver.TheVariants.{Rounds};
@@ -12,6 +14,7 @@ use crate::lines::BorrowedLines;
 use crate::string_overlay::StringOverlay;
 use overlay_arrange::fill_rule::FillRule;
 use overlay_geom::error::OverlayError;
+use overlay_geom::flat::contours::FlatContoursBuffer;
 use overlay_geom::integer::OverlayInt;
 use overlay_geom::path::{IntLine, IntPath, PathRef};
 use overlay_geom::resource::IntShapeResource;
@@ -190,6 +193,24 @@ pub trait IntClip<I: OverlayInt>: IntShapeResource<I> {
             (paths_of_shape I.whole v.items)) }
         ensures err { IfErr result (MayRefusePaths solver
             (shape_and_strings (Self.paths self.now) (R1.paths source.now))) };
+
+    /// As `clip_source_with_solver`, with the paths' points in a single list, without gaps.
+    fn clip_source_flat<R1: IntShapeResource<I>, A: Allocator + Clone>(
+        &self,
+        alloc: A,
+        source: &R1,
+        fill_rule: FillRule,
+        clip_rule: ClipRule,
+        solver: Solver,
+    ) -> Result<FlatContoursBuffer<I, A>, OverlayError>
+        requires self_in_range { All (AllInRange I.limit) (Self.paths self.now) }
+        requires source_in_range { All (AllInRange I.limit) (R1.paths source.now) }
+        ensures clipped { IfOk result (λ b. AreClippedOfPaths solver fill_rule clip_rule
+            (shape_and_strings (Self.paths self.now) (R1.paths source.now))
+            (paths_in I.whole b.points.items b.ranges.items)) }
+        ensures packed { IfOk result (λ b. IsPacked b.points.items b.ranges.items) }
+        ensures err { IfErr result (MayRefusePaths solver
+            (shape_and_strings (Self.paths self.now) (R1.paths source.now))) };
 }
 
 impl<I: OverlayInt, R0: IntShapeResource<I>> IntClip<I> for R0 {
@@ -325,5 +346,17 @@ impl<I: OverlayInt, R0: IntShapeResource<I>> IntClip<I> for R0 {
     ) -> Result<Vec<IntPath<I, A>, A>, OverlayError> {
         let overlay = StringOverlay::from_shape_and_string(alloc, self, source)?;
         overlay.clip_string_lines_with_solver(fill_rule, clip_rule, solver)
+    }
+
+    fn clip_source_flat<R1: IntShapeResource<I>, A: Allocator + Clone>(
+        &self,
+        alloc: A,
+        source: &R1,
+        fill_rule: FillRule,
+        clip_rule: ClipRule,
+        solver: Solver,
+    ) -> Result<FlatContoursBuffer<I, A>, OverlayError> {
+        let overlay = StringOverlay::from_shape_and_string(alloc, self, source)?;
+        overlay.clip_string_lines_flat(fill_rule, clip_rule, solver)
     }
 }

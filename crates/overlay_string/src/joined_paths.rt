@@ -1,54 +1,61 @@
 //! The paths that pieces of strings are joined to.
 
-ghost use Rattle.std.specs.Prelude.{IfOk, OnOk};
-ghost use Rattle.overlay_geom.specs.Paths.{paths_of_shape};
+ghost use Rattle.std.specs.Prelude.{IfOk, OnOk, IsOkUnless};
+ghost use Rattle.overlay_geom.specs.Flat.{paths_in};
+ghost use Rattle.overlay_geom.specs.Packed.{IsPacked};
 ghost use Rattle.overlay_geom.specs.Points.{plain_point, plain_points};
 ghost use Rattle.overlay_string.specs.ClipPaths.{ArePathsOf};
 ghost use Rattle.overlay_string.specs.Pieces.{plain_piece, GoesOn, IsShownPath};
 
 use crate::open_pieces::OpenPieces;
 use crate::piece::{Piece, Way};
+use overlay_geom::error::OverlayError;
+use overlay_geom::flat::contours::FlatContoursBuffer;
 use overlay_geom::number::IntNumber;
 use overlay_geom::path::IntPath;
 use overlay_geom::point::IntPoint;
 use std::alloc::{AllocError, Allocator};
 
-/// The paths of the open pieces. Each begins with the first of them, or, if that runs back along its edge, ends with
-/// it, and takes at its end, or at its beginning, the first piece that goes on there, until there is none. After a
-/// refusal, some pieces may be open.
+/// Returns the paths of the open pieces, in a single list without gaps. Each begins with the first of them, or, if that
+/// runs back along its edge, ends with it. At its end, or at its beginning, it takes the first piece that goes on
+/// there, until there is none. The only refusal is `Memory`. After it some pieces may be open.
 pub(crate) fn joined_paths<I: IntNumber, A: Allocator + Clone>(
     alloc: A,
     pieces: &mut OpenPieces<I, A>,
-) -> Result<Vec<IntPath<I, A>, A>, AllocError>
-    ensures ok { IfOk result (λ v. ArePathsOf pieces.old (paths_of_shape I.whole v.items)) }
+) -> Result<FlatContoursBuffer<I, A>, OverlayError>
+    ensures paths { IfOk result (λ b. ArePathsOf pieces.old (paths_in I.whole b.points.items b.ranges.items)) }
+    ensures packed { IfOk result (λ b. IsPacked b.points.items b.ranges.items) }
+    ensures only { IsOkUnless result OverlayError.Memory }
 {
-    let mut paths = Vec::new(alloc.clone()?);
+    let mut paths = FlatContoursBuffer::default(alloc.clone()?)?;
+    let mut path = Vec::new(alloc);
     while let Some(piece) = pieces.take_first() {
-        paths.push(path_of(alloc.clone()?, pieces, piece)?)?;
+        write_path(&mut path, pieces, piece)?;
+        paths.add_contour(&path)?;
     }
     Ok(paths)
 }
 
-// The path of a piece that was taken first of all, which is walked on the way that the piece tells.
-fn path_of<I: IntNumber, A: Allocator + Clone>(
-    alloc: A,
+// Writes the path of a piece that was taken first of all over a list. It is walked on the way that the piece tells.
+fn write_path<I: IntNumber, A: Allocator + Clone>(
+    path: &mut IntPath<I, A>,
     pieces: &mut OpenPieces<I, A>,
     piece: Piece<I>,
-) -> Result<IntPath<I, A>, AllocError>
-    ensures ok { IfOk result (λ v. IsShownPath (plain_piece I.whole piece) pieces.old pieces.new
-        (plain_points I.whole v.items)) }
+) -> Result<(), AllocError>
+    ensures ok { OnOk result (IsShownPath (plain_piece I.whole piece) pieces.old pieces.new
+        (plain_points I.whole path.new.items)) }
 {
     let way = piece.way();
     let end = piece.end(way);
-    let mut path = Vec::new(alloc);
+    path.clear();
     path.push(piece.start(way))?;
     path.push(end)?;
-    go_on(&mut path, pieces, way, end)?;
+    go_on(path, pieces, way, end)?;
     match way {
-        Way::Onward => Ok(path),
+        Way::Onward => Ok(()),
         Way::Back => {
             path.reverse();
-            Ok(path)
+            Ok(())
         }
     }
 }

@@ -65,7 +65,7 @@ fn clip_answer<I: OverlayInt>(
     let read = read_both(alloc, shape, lines)?;
     let paths = read
         .first
-        .clip_source_with_solver(alloc, &read.second, fill, rule, solver)?;
+        .clip_source_flat(alloc, &read.second, fill, rule, solver)?;
     let answer = flattened_paths(alloc, &paths)?;
     Ok(answer)
 }

@@ -1,7 +1,8 @@
 //! Paths as arrays, and these put into arrays of a caller.
 
 ghost use Rattle.std.specs.Prelude.{◌≡◌, map, IfOk, IsOkUnless};
-ghost use Rattle.overlay_geom.specs.Paths.{paths_of_shape};
+ghost use Rattle.overlay_geom.specs.Flat.{paths_in};
+ghost use Rattle.overlay_geom.specs.Packed.{IsPacked};
 ghost use Rattle.polyover_c.specs.WrittenPaths.{ArePathsFlattened, ArePathsPut, flat_paths, path_room};
 
 use crate::flatten::{coordinates_of, ends_of};
@@ -11,7 +12,6 @@ use crate::status::Status;
 use crate::write::write_over;
 use overlay_geom::flat::contours::FlatContoursBuffer;
 use overlay_geom::number::IntNumber;
-use overlay_geom::path::IntPath;
 use std::alloc::Global;
 
 /// Paths as arrays: the coordinates, and the ends of paths among the points.
@@ -21,21 +21,19 @@ pub(crate) struct PathAnswer<I> {
     pub(crate) ends: Vec<usize, Global>,
 }
 
-/// The paths, one behind the other. The only refusal is `Memory`.
+/// Returns the paths, which stand without gaps, as arrays. The only refusal is `Memory`.
 pub(crate) fn flattened_paths<I: IntNumber>(
     alloc: Global,
-    paths: &[IntPath<I, Global>],
+    paths: &FlatContoursBuffer<I, Global>,
 ) -> Result<PathAnswer<I>, Status>
-    ensures flattened { IfOk result (λ a. ArePathsFlattened I.whole (paths_of_shape I.whole paths.now)
+    requires packed { IsPacked paths.now.points.items paths.now.ranges.items }
+    ensures flattened { IfOk result (λ a. ArePathsFlattened I.whole
+        (paths_in I.whole paths.now.points.items paths.now.ranges.items)
         (flat_paths a.coordinates.items a.ends.items)) }
     ensures only { IsOkUnless result Status.Memory }
 {
-    let mut flat = FlatContoursBuffer::<I, Global>::default(alloc)?;
-    for path in paths {
-        flat.add_contour(path)?;
-    }
-    let coordinates = coordinates_of(alloc, &flat.points)?;
-    let ends = ends_of(alloc, &flat.ranges)?;
+    let coordinates = coordinates_of(alloc, &paths.points)?;
+    let ends = ends_of(alloc, &paths.ranges)?;
     Ok(PathAnswer { coordinates, ends })
 }
 

@@ -1,6 +1,8 @@
 //! Strings, clipped by the shape.
 
-ghost use Rattle.std.specs.Prelude.{◌≡◌, ◌⊎◌, ◌↔◌, true, IfOk, IfErr, IsErrOf};
+ghost use Rattle.std.specs.Prelude.{◌≡◌, ◌⊎◌, ◌↔◌, true, IfOk, IfErr, IsErrOf, IsOkUnless};
+ghost use Rattle.overlay_geom.specs.Flat.{paths_in};
+ghost use Rattle.overlay_geom.specs.Packed.{IsPacked};
 ghost use Rattle.overlay_geom.specs.Paths.{paths_of_shape};
 ghost use Rattle.overlay_geom.specs.declared.solver.Solver.TheVariants.{Rounds};
 ghost use Rattle.overlay_arrange.specs.Arranged.{MayRefuseSplitting};
@@ -17,9 +19,12 @@ use overlay_arrange::fill_rule::FillRule;
 use overlay_arrange::graph::Graph;
 use overlay_arrange::string_count::ShapeCountString;
 use overlay_geom::error::OverlayError;
+use overlay_geom::flat::contours::FlatContoursBuffer;
+use overlay_geom::flat::copied;
 use overlay_geom::integer::OverlayInt;
 use overlay_geom::number::IntNumber;
 use overlay_geom::path::IntPath;
+use overlay_geom::resource::IntShapeResource;
 use overlay_geom::solver::Solver;
 use std::alloc::{AllocError, Allocator};
 
@@ -50,7 +55,7 @@ impl<I: OverlayInt, A: Allocator + Clone> StringOverlay<I, A> {
 
     /// As `clip_string_lines`, with edges split by `solver`: `NotSettled` never comes with `Solver::SNAPPED`.
     pub fn clip_string_lines_with_solver(
-        mut self,
+        self,
         fill_rule: FillRule,
         clip_rule: ClipRule,
         solver: Solver,
@@ -60,21 +65,57 @@ impl<I: OverlayInt, A: Allocator + Clone> StringOverlay<I, A> {
         ensures failed { IsErrOf result OverlayError.Failed ↔ (self.failed ≡ true) }
         ensures err { IfErr result (λ e. (e ≡ OverlayError.Failed) ⊎ MayRefuseSplitting solver self.edges e) }
     {
+        let paths = self.clip_string_lines_flat(fill_rule, clip_rule, solver)?;
+        Ok(listed(&paths)?)
+    }
+
+    /// As `clip_string_lines_with_solver`, with the paths' points in a single list, without gaps.
+    pub fn clip_string_lines_flat(
+        mut self,
+        fill_rule: FillRule,
+        clip_rule: ClipRule,
+        solver: Solver,
+    ) -> Result<FlatContoursBuffer<I, A>, OverlayError>
+        ensures clipped { IfOk result (λ b.
+            AreClipped solver fill_rule clip_rule self.edges (paths_in I.whole b.points.items b.ranges.items)) }
+        ensures packed { IfOk result (λ b. IsPacked b.points.items b.ranges.items) }
+        ensures failed { IsErrOf result OverlayError.Failed ↔ (self.failed ≡ true) }
+        ensures err { IfErr result (λ e. (e ≡ OverlayError.Failed) ⊎ MayRefuseSplitting solver self.edges e) }
+    {
         self.core.arrange(solver, &mut ())?;
         let graph = self.core.content().graph_of_balanced(fill_rule)?;
-        Ok(clipped(&graph, clip_rule)?)
+        let paths = clipped(&graph, clip_rule)?;
+        Ok(paths)
     }
 }
 
-// The paths of the pieces that a clip keeps of the graph's strings.
+// Returns the paths of the pieces that a clip keeps of the graph's strings. The only refusal is `Memory`.
 fn clipped<I: IntNumber, A: Allocator + Clone>(
     graph: &Graph<I, ShapeCountString, A>,
     rule: ClipRule,
-) -> Result<Vec<IntPath<I, A>, A>, AllocError>
-    ensures paths { IfOk result (λ v. ArePathsOf
-        (clip_pieces graph.now.fill_rule rule (graph_edges graph.now)) (paths_of_shape I.whole v.items)) }
+) -> Result<FlatContoursBuffer<I, A>, OverlayError>
+    ensures paths { IfOk result (λ b. ArePathsOf
+        (clip_pieces graph.now.fill_rule rule (graph_edges graph.now))
+        (paths_in I.whole b.points.items b.ranges.items)) }
+    ensures packed { IfOk result (λ b. IsPacked b.points.items b.ranges.items) }
+    ensures only { IsOkUnless result OverlayError.Memory }
 {
     let kept = kept_pieces(graph, rule)?;
     let mut pieces = OpenPieces::new(kept)?;
     joined_paths(graph.allocator().clone()?, &mut pieces)
+}
+
+// Returns the paths as a list each.
+fn listed<I: IntNumber, A: Allocator + Clone>(
+    paths: &FlatContoursBuffer<I, A>,
+) -> Result<Vec<IntPath<I, A>, A>, AllocError>
+    ensures { IfOk result (λ v. paths_of_shape I.whole v.items
+        ≡ paths_in I.whole paths.now.points.items paths.now.ranges.items) }
+{
+    let alloc = paths.points.allocator();
+    let mut list = Vec::new(alloc.clone()?);
+    for index in 0..paths.path_count() {
+        list.push(copied(alloc.clone()?, paths.path(index))?)?;
+    }
+    Ok(list)
 }

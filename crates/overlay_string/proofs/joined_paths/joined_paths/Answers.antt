@@ -1,33 +1,52 @@
--- Each path is that of the first piece that is open.
-use Rattle.std.proofs.Common.{[], ◌∷◌, ap, ◌∙◌}
-use Rattle.std.proofs.lemmas.List.{map-append}
-use Rattle.overlay_geom.specs.Paths.{paths_of_shape}
+-- Each path is that of the first piece that is open, and stands behind those before it.
+use Rattle.std.proofs.Common.{[], ◌∷◌, ◌++◌, ap, sym, ◌∙◌, subst, subst₂}
+use Rattle.overlay_geom.specs.Flat.{paths_in}
+use Rattle.overlay_geom.specs.Packed.{IsPacked}
 use Rattle.overlay_geom.specs.Points.{plain_points}
+use Rattle.overlay_geom.proofs.PackedPaths.{packed_none, packed_inside, packed_more}
 use Rattle.overlay_string.specs.Pieces.{plain_piece}
-use Rattle.overlay_string.proofs.JoinedPaths.{one_more_joined, all_joined, path_leaves_fewer}
+use Rattle.overlay_string.proofs.JoinedPaths.{AreJoinedSoFar, none_joined, one_more_joined, all_joined}
+use Rattle.overlay_string.proofs.JoinedPaths.{path_leaves_fewer}
 use Rattle.overlay_string.proofs.joined_paths.joined_paths.Goals as goal
+
+pub loop-piece-init : goal.loop-piece-init
+loop-piece-init g c =
+    let paths = c.in_ok-paths.paths in
+    let none = c.in_ok-paths.ensures in (
+      subst (AreJoinedSoFar c.args.pieces.now c.args.pieces.now)
+          (sym (ap (paths_in g.I.IntNumber.whole paths.points.items) none.ranges)) (none_joined c.args.pieces.now),
+      packed_none paths.points.items paths.ranges.items none.points none.ranges,
+    )
 
 pub loop-piece-smaller : goal.loop-piece-smaller
 loop-piece-smaller g c =
     let whole = g.I.IntNumber.whole in
     path_leaves_fewer c.loop-piece.pieces c.take_first.new.self (plain_piece whole c.in-Some.piece) c.in-Some.ensures
-    c.path_of.new.pieces (plain_points whole c.in_ok-path_of.field-0.items) c.in_ok-path_of.ensures.ok
+    c.write_path.new.pieces (plain_points whole c.write_path.new.path.items) c.in_ok-write_path.ensures.ok
 
 pub loop-piece-preserved : goal.loop-piece-preserved
 loop-piece-preserved g c =
     let whole = g.I.IntNumber.whole in
     let l = c.loop-piece in
-    let path = c.in_ok-path_of.field-0 in
-    one_more_joined c.args.pieces.now l.pieces c.take_first.new.self (paths_of_shape whole l.paths.items) l.invariant
-    (plain_piece whole c.in-Some.piece) c.in-Some.ensures c.path_of.new.pieces (plain_points whole path.items)
-    c.in_ok-path_of.ensures.ok (paths_of_shape whole c.push.new.self.items)
-    (ap (paths_of_shape whole) c.in_ok-push.ensures.items
-    ∙ map-append (λ v. plain_points whole v.items) l.paths.items (path ∷ []))
+    let points = l.paths.points.items in
+    let ranges = l.paths.ranges.items in
+    let path = c.deref.result.now in
+    let added = c.in_ok-add_contour.ensures in
+    let packed = l.invariant.1 in (
+      one_more_joined c.args.pieces.now l.pieces c.take_first.new.self (paths_in whole points ranges) l.invariant.0
+          (plain_piece whole c.in-Some.piece) c.in-Some.ensures c.write_path.new.pieces
+          (plain_points whole c.write_path.new.path.items) c.in_ok-write_path.ensures.ok
+          (paths_in whole c.add_contour.new.self.points.items c.add_contour.new.self.ranges.items)
+          (added.paths (packed_inside points ranges packed)
+          ∙ ap (λ ps. paths_in whole points ranges ++ plain_points whole ps ∷ []) c.deref.ensures.value),
+      subst₂ (λ ps rs. IsPacked ps rs) (sym added.points) (sym added.ranges) (packed_more points path ranges packed),
+    )
 
-pub returns : goal.returns
-returns g c = record {
-  ok = let whole = g.I.IntNumber.whole in
-      let l = c.loop-piece in
-      all_joined c.args.pieces.now l.pieces c.take_first.new.self (paths_of_shape whole l.paths.items) l.invariant
-      c.in_default.ensures;
-}
+pub returns-clause-paths : goal.returns-clause-paths
+returns-clause-paths g c =
+    let l = c.loop-piece in
+    all_joined c.args.pieces.now l.pieces c.take_first.new.self
+    (paths_in g.I.IntNumber.whole l.paths.points.items l.paths.ranges.items) l.invariant.0 c.in_default.ensures
+
+pub returns-clause-packed : goal.returns-clause-packed
+returns-clause-packed g c = c.loop-piece.invariant.1

@@ -4,7 +4,7 @@ use Rattle.overlay_geom.specs.Points.{plain_point, plain_points}
 use Rattle.overlay_string.specs.Pieces.{plain_piece, GoesOn}
 use Rattle.overlay_geom.proofs.Mapped.{map-reverse}
 use Rattle.overlay_string.proofs.JoinedPaths.{ends, found_onward, found_back}
-use Rattle.overlay_string.proofs.joined_paths.path_of.Goals as goal
+use Rattle.overlay_string.proofs.joined_paths.write_path.Goals as goal
 
 pub returns-in-Onward : goal.returns-in-Onward
 returns-in-Onward g c = record {
@@ -15,7 +15,7 @@ returns-in-Onward g c = record {
       let way = c.way-way.result in
       let found = plain_points whole c.go_on.new.path.items in
       let two = ap (plain_points whole) (c.in_ok-push-2.ensures.items ∙ ap (λ l. l ++ c.end-end.result ∷ [])
-      (c.in_ok-push.ensures.items ∙ ap (λ l. l ++ c.start.result ∷ []) c.new-path.ensures.items))
+      (c.in_ok-push.ensures.items ∙ ap (λ l. l ++ c.start.result ∷ []) c.clear.ensures.items))
       ∙ ap₂ (λ p q. p ∷ q ∷ []) c.start.ensures c.end-end.ensures in
       found_onward s old new found way c.way-way.ensures c.in-Onward.is
       (subst (λ v. GoesOn way v old new (ends s way) found) c.end-end.ensures
@@ -31,7 +31,7 @@ returns-in-Back g c = record {
       let way = c.way-way.result in
       let found = plain_points whole c.go_on.new.path.items in
       let two = ap (plain_points whole) (c.in_ok-push-2.ensures.items ∙ ap (λ l. l ++ c.end-end.result ∷ [])
-      (c.in_ok-push.ensures.items ∙ ap (λ l. l ++ c.start.result ∷ []) c.new-path.ensures.items))
+      (c.in_ok-push.ensures.items ∙ ap (λ l. l ++ c.start.result ∷ []) c.clear.ensures.items))
       ∙ ap₂ (λ p q. p ∷ q ∷ []) c.start.ensures c.end-end.ensures in
       found_back s old new (plain_points whole c.reverse.new.self.items) way c.way-way.ensures c.in-Back.is found
       (subst (λ v. GoesOn way v old new (ends s way) found) c.end-end.ensures

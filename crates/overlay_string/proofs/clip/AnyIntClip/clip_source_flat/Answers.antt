@@ -1,0 +1,26 @@
+-- The new builder answers of the paths that were added to it.
+use Rattle.std.proofs.lemmas.Result.{IfOk-weaker, err_from_is_err_and}
+use Rattle.overlay_string.specs.OneShot.{shape_and_strings}
+use Rattle.overlay_string.proofs.OneShots.{builder_refused, clip_refused}
+use Rattle.overlay_string.proofs.clip.AnyIntClip.clip_source_flat.Goals as goal
+
+pub returns-in_err-overlay-clause-err : goal.returns-in_err-overlay-clause-err
+returns-in_err-overlay-clause-err g c =
+    let paths = shape_and_strings (g.R0.IntShapeResource.paths c.args.self.now)
+    (g.R1.IntShapeResource.paths c.args.source.now) in
+    let p = err_from_is_err_and c.from_residual.result c.from_residual.ensures.1 in
+    rw (p.1, p.2) (builder_refused c.args.solver paths c.in_err-overlay.field-0.0 c.in_err-overlay.ensures.err)
+
+pub returns-clause-clipped : goal.returns-clause-clipped
+returns-clause-clipped g c =
+    IfOk-weaker c.clip_string_lines_flat.result _ _
+    (λ v are. record { content = c.in_ok-overlay.overlay.edges; holds = c.in_ok-overlay.ensures.ok; clipped = are })
+    c.clip_string_lines_flat.ensures.clipped
+
+pub returns-clause-err : goal.returns-clause-err
+returns-clause-err g c =
+    let paths = shape_and_strings (g.R0.IntShapeResource.paths c.args.self.now)
+    (g.R1.IntShapeResource.paths c.args.source.now) in
+    clip_refused c.args.solver paths c.in_ok-overlay.overlay.edges c.in_ok-overlay.overlay.failed
+    c.in_ok-overlay.ensures.ok c.in_ok-overlay.ensures.made.ready c.clip_string_lines_flat.result
+    c.clip_string_lines_flat.ensures.failed c.clip_string_lines_flat.ensures.err
