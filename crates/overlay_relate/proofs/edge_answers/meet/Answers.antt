@@ -10,25 +10,27 @@ use Rattle.overlay_relate.specs.declared.edge_test.EdgeTest.TheVariants.{BothSha
 use Rattle.overlay_relate.proofs.BitsTell.{told_by_vectors}
 use Rattle.overlay_relate.proofs.edge_answers.meet.Goals as goal
 
-pub returns-then-is_met-clause-ok : goal.returns-then-is_met-clause-ok
-returns-then-is_met-clause-ok g c =
+pub returns-then-is_met : goal.returns-then-is_met
+returns-then-is_met g c =
     let graph = c.args.graph.now in
     let told = told_by_vectors g.I.IntNumber.whole BothShapes graph.fill_rule (graph_edges graph) c.edges.result.now
     c.edges.ensures.filled c.some_passes-is_met.result c.some_passes-is_met.ensures in
-    (λ _. inl (told.0 c.if-is_met.true), λ _. refl)
+    record { ok = (λ _. inl (told.0 c.if-is_met.true), λ _. refl) }
 
-pub returns-clause-ok : goal.returns-clause-ok
-returns-clause-ok g c =
+pub returns : goal.returns
+returns g c =
     let graph = c.args.graph.now in
     let es = graph_edges graph in
     let filled = is_filled graph.fill_rule in
     let told = told_by_vectors g.I.IntNumber.whole BothShapes graph.fill_rule es c.edges.result.now
     c.edges.ensures.filled c.some_passes-is_met.result c.some_passes-is_met.ensures in
-    IfOk-weaker c.has_shared_end.result _
-    (λ b. IsTrue b ↔ (SomeEdge (has_both filled es) es ⊎ HasSharedEnd filled es))
-    (λ b law. (
-      λ t. inr (law.0 t),
-      λ found. ⊎_elim (λ (some : SomeEdge (has_both filled es) es).
-          absurd (false≢true (sym c.if-is_met.false ∙ told.1 some))) law.1 found,
-    ))
-    c.has_shared_end.ensures.ok
+    record {
+      ok = IfOk-weaker c.has_shared_end.result _
+          (λ b. IsTrue b ↔ (SomeEdge (has_both filled es) es ⊎ HasSharedEnd filled es))
+          (λ b law. (
+            λ t. inr (law.0 t),
+            λ found. ⊎_elim (λ (some : SomeEdge (has_both filled es) es).
+                absurd (false≢true (sym c.if-is_met.false ∙ told.1 some))) law.1 found,
+          ))
+          c.has_shared_end.ensures.ok;
+    }
