@@ -68,7 +68,7 @@ impl<I: IntNumber, C: EdgeCount, A: Allocator> Content<I, C, A> {
     }
 
     /// Cuts each edge into the pieces of the chain through its meetings. Returns the edges before the cut. The meetings
-    /// are those of the edges. They are dropped. The edges ascend. A refusal leaves the content open.
+    /// are those of the edges. They are dropped. The edges ascend. A refusal leaves the content as it was.
     #[tactic(auto, using(crate::proofs::ReachedStores::never_written))]
     pub(crate) fn cut_through(
         &mut self,
@@ -83,6 +83,7 @@ impl<I: IntNumber, C: EdgeCount, A: Allocator> Content<I, C, A> {
         ensures carried { OnOk result (AreCutAlong C.splits C.reverses
             (computed_chain (edges_in self.old)) self.old self.new) }
         ensures before { IfOk result (λ before. edges_in before ≡ edges_in self.old) }
+        ensures err { OnErr result (self.new ≡ self.old) }
         ensures store { IsStoreReached C.writes store.old store.new }
         ensures too_many { IsErrOf result OverlayError.TooManyEdges → 2 ^ 31 ≤ weight (cut_edges (edges_in self.old)) }
         ensures only { IfErr result (λ e. (e ≡ OverlayError.Memory) ⊎ (e ≡ OverlayError.TooManyEdges)) }
