@@ -8,7 +8,7 @@ returns-clause-flattened g c = record {
   points = c.args.paths.now.points.items;
   ranges = c.args.paths.now.ranges.items;
   these = refl;
-  packed = c.requires;
+  packed = c.requires.packed;
   coordinates = c.in_ok-coordinates.ensures.coordinates ∙ ap coordinates_of c.deref.ensures.value;
   ends = c.in_ok-ends.ensures.ends ∙ ap ends_of c.deref-2.ensures.value;
 }
