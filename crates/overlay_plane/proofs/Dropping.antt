@@ -26,7 +26,7 @@ abbrev pub others_from : List Point → ℕ → List Point
 others_from ps k = drop (suc k) ps ++ take k ps
 
 -- the list begins with the point after place k
-others-first : (ps : List Point) (k : ℕ) → k < length ps → 2 ≤ length ps →
+pub others-first : (ps : List Point) (k : ℕ) → k < length ps → 2 ≤ length ps →
     get_or (others_from ps k) 0 origin ≡ point_round ps (k + 1)
 others-first ps k within two = ⊎_elim later wrapped (cases_lt (suc k) (length ps))
   where
@@ -44,7 +44,7 @@ others-first ps k within two = ⊎_elim later wrapped (cases_lt (suc k) (length 
         sym (ap (λ m. m % length ps) e ∙ mod_once_round 0 (length ps) (omega arith)))
 
 -- the list ends with the point before place k
-others-last : (ps : List Point) (k : ℕ) → k < length ps → 2 ≤ length ps →
+pub others-last : (ps : List Point) (k : ℕ) → k < length ps → 2 ≤ length ps →
     get_or (others_from ps k) (length ps - 2) origin ≡ point_round ps (k + length ps - 1)
 others-last ps zero within two =
     let l = length-drop 1 ps in
@@ -63,7 +63,7 @@ others-last ps (suc j) within two =
     ∙ ap (λ m. get_or ps m origin) (sym (ap (λ m. m % length ps) e ∙ mod_once_round j (length ps) (omega arith)))
 
 -- the last point of a list stands at the place before its end
-last_from-place : (z : Point) (zs : List Point) (d : Point) → last_from z zs ≡ get_or (z ∷ zs) (length zs) d
+pub last_from-place : (z : Point) (zs : List Point) (d : Point) → last_from z zs ≡ get_or (z ∷ zs) (length zs) d
 last_from-place z [] d = refl
 last_from-place z (y ∷ zs) d = last_from-place y zs d
 

@@ -14,6 +14,7 @@ pub mod AtNodes
 pub mod BalancedSigns
 pub mod BalancedSteps
 pub mod BeforeTheSteps
+pub mod BegunElsewhere
 pub mod BelowAnchors
 pub mod BelowHoles
 pub mod BesideAcross
@@ -60,12 +61,14 @@ pub mod EdgesTell
 pub mod Ends
 pub mod Entries
 pub mod ExactRounds
+pub mod FarPoints
 pub mod FilledEdges
 pub mod FirstInShape
 pub mod FoundEntries
 pub mod FoundHoles
 pub mod FoundNumbers
 pub mod FoundWindings
+pub mod FourInARow
 pub mod FreeHoles
 pub mod GreatestBelow
 pub mod GreatestTaken
@@ -73,6 +76,7 @@ pub mod GroupSteps
 pub mod GroupedCuts
 pub mod GroupedWalks
 pub mod HalfPlanes
+pub mod Halves
 pub mod HeldChains
 pub mod HoleGroups
 pub mod HoleParents
@@ -90,6 +94,7 @@ pub mod KeepingBalance
 pub mod KeptContours
 pub mod KeptWalks
 pub mod LaterEntries
+pub mod LeadOn
 pub mod LeadingOn
 pub mod LeastSteps
 pub mod LeftmostPoints
@@ -123,6 +128,7 @@ pub mod NextOfHoles
 pub mod NextSteps
 pub mod NextUnder
 pub mod NextWindings
+pub mod NoSpikes
 pub mod NoTwoShapes
 pub mod NodeEnds
 pub mod NodeForms
@@ -136,6 +142,7 @@ pub mod OneArrangement
 pub mod OneHoleRound
 pub mod OneRound
 pub mod OneShape
+pub mod OneThinning
 pub mod OrbitSteps
 pub mod OrbitWalks
 pub mod OrbitsApart
@@ -219,6 +226,8 @@ pub mod Stretches
 pub mod Strip
 pub mod Telescopes
 pub mod Tests
+pub mod ThinnedOnce
+pub mod ThinnedRound
 pub mod ThreeTurns
 pub mod TiedStarts
 pub mod Totals
@@ -238,3 +247,4 @@ pub mod WholeCuts
 pub mod WholeOnEdges
 pub mod WholePlaces
 pub mod WithinHalf
+pub mod WithoutSpikes

@@ -1,15 +1,21 @@
 -- The rounds that a solver takes leave the same pieces one after another, and end together: an arrangement takes none.
-use Rattle.std.proofs.Common.{◌≡◌, inl, inr, true, List, [], ◌∷◌, ◌++◌, sym, subst, ◌∙◌}
+use Rattle.std.proofs.Common.{◌≡◌, inl, inr, true, false, List, [], ◌∷◌, ◌++◌, sym, subst, ◌∙◌}
 use Rattle.std.specs.Bool.{⊤}
-use Rattle.std.proofs.lemmas.List.Elements.{All-contains, All-head, All-tail}
-use Rattle.overlay_geom.specs.Edges.{CountedEdge, ends_of}
-use Rattle.overlay_geom.specs.Merged.{IsMerged}
+use Rattle.std.specs.List.Sorted.{IsPermutation}
+use Rattle.std.proofs.lemmas.List.Sorted.{IsPermutation-sym}
+use Rattle.std.proofs.lemmas.List.Elements.{All-contains, All-head, All-tail, All-weaker}
+use Rattle.overlay_geom.specs.Edges.{CountedEdge, ends_of, counts_nothing}
+use Rattle.overlay_geom.specs.Merged.{IsMerged, joined_edge}
 use Rattle.overlay_geom.specs.Plane.{Point, PlanePoint, Step, point_lt, steps_through}
 use Rattle.overlay_geom.specs.Settled.{IsSettled}
 use Rattle.overlay_geom.specs.declared.solver.Solver.TheVariants.{Rounds, Snapping}
 use Rattle.overlay_geom.proofs.MergedOnce.{IsMerged-unique}
+use Rattle.overlay_geom.proofs.Merging.{JoinAlike, IsMerged-alike, IsMerged-from_alike}
+use Rattle.overlay_geom.proofs.Shuffled.{alike_shuffled}
+use Rattle.overlay_plane.specs.Arrangements.{IsReachedBy}
 use Rattle.overlay_plane.specs.Cutting.{pieces_through, piece_along}
 use Rattle.overlay_plane.specs.Determined.{RoundAs, OneArrangement, OneSnappedArrangement}
+use Rattle.overlay_plane.specs.Determined.{OneSnappedArrangementOfShuffled}
 use Rattle.overlay_plane.specs.EdgeLists.{IsForwardBy}
 use Rattle.overlay_plane.specs.Meetings.{MeetInWholePoints}
 use Rattle.overlay_plane.specs.RoundLists.{AreEachRounds, IsSnapRound}
@@ -75,7 +81,7 @@ one_arrangement whole_at rounds others old new newer so so' reached reached' =
 -- ---- snap rounding
 
 -- each piece that a round leaves leads forward
-pieces_forward : (r : Round) → IsForwardBy ends_of (pieces_of r)
+pub pieces_forward : (r : Round) → IsForwardBy ends_of (pieces_of r)
 pieces_forward r = all_of_entries (λ g. point_lt g.a g.b ≡ true) (pieces_of r) (λ g has.
     let from = Contains-from_flat_map (pieces_through (whole_cuts r)) r.edges g has in
     let e : CountedEdge = from.0 in
@@ -98,3 +104,52 @@ pub one_snapped_arrangement : OneSnappedArrangement
 one_snapped_arrangement rounds others old new newer forward reached reached' =
     one_reached IsSnapRound (IsForwardBy ends_of) (any_round Snapping) one_of_snaps pieces_forward old rounds others new
     newer forward reached.cut reached'.cut reached.merged reached'.merged reached.settled reached'.settled
+
+-- ---- lists with the same edges in another order
+
+-- what is merged from a list is merged from any that joins edges alike
+merged_alike : (old other new : List CountedEdge) → JoinAlike old other → IsMerged old new → IsMerged other new
+merged_alike old other new alike merged =
+    IsMerged-from_alike other new merged.ascending (All-weaker (λ e. (e ≡ joined_edge old (ends_of e))
+    × (counts_nothing e ≡ false)) (λ e. counts_nothing e ≡ false) (λ e at. at.1) new merged.joined)
+    (record { at = λ e. (IsMerged-alike old new merged).at e ∙ sym (alike.at e) })
+
+-- a snap round of the list is one of the other
+snap_alike : (old other : List CountedEdge) (r : Round) → JoinAlike old other → IsSnapRound old r → IsSnapRound other r
+snap_alike old other r alike (inl (whole, round)) = inl (
+  whole,
+  record {
+    merged = merged_alike old other r.edges alike round.merged;
+    unsettled = round.unsettled;
+    cut = round.cut;
+    rounding = round.rounding;
+  },
+)
+snap_alike old other r alike (inr (not_whole, snap)) = inr (
+  not_whole,
+  record {
+    merged = merged_alike old other r.edges alike snap.merged;
+    unsettled = snap.unsettled;
+    cut = snap.cut;
+    rounding = snap.rounding;
+  },
+)
+
+-- so what is reached from the list is reached from the other
+reached_alike : (old other new : List CountedEdge) (rounds : List Round) → JoinAlike old other →
+    IsReachedBy Snapping rounds old new → IsReachedBy Snapping rounds other new
+reached_alike old other new [] alike reached = record {
+  cut = tt;
+  merged = merged_alike old other new alike reached.merged;
+  settled = reached.settled;
+}
+reached_alike old other new (r ∷ rounds) alike reached = record {
+  cut = (snap_alike old other r alike reached.cut.0, reached.cut.1);
+  merged = reached.merged;
+  settled = reached.settled;
+}
+
+pub one_arrangement_of_shuffled : OneSnappedArrangementOfShuffled
+one_arrangement_of_shuffled rounds others old other new newer forward shuffled reached reached' =
+    one_snapped_arrangement rounds others old new newer forward reached
+    (reached_alike other old newer others (alike_shuffled other old (IsPermutation-sym old other shuffled)) reached')

@@ -1,10 +1,10 @@
 -- A snap keeps the windings round a point whose unit square no edge meets: a step of a chain that leads across the
 -- vertical line through the point passes below it exactly where the edge does.
-use Rattle.std.proofs.Common.{◌≡◌, ◌⊎◌, inl, inr, true, pos, ◌-ℤ◌, ◌*ℤ◌, ◌<ℤ◌, ◌≤ℤ◌, int_lt, [], ◌∷◌, ◌++◌}
+use Rattle.std.proofs.Common.{◌≡◌, true, ◌-ℤ◌, ◌*ℤ◌, ◌<ℤ◌, ◌≤ℤ◌, List, [], ◌∷◌, ◌++◌}
 use Rattle.std.proofs.Common.{Contains, refl, sym, ap, ◌∙◌, subst}
 use Rattle.std.specs.List.{All}
 use Rattle.std.proofs.lemmas.List.Elements.{All-contains}
-use Rattle.overlay_geom.specs.Plane.{Point, PlanePoint, Edge, IsOn, side, in_plane, point_lt}
+use Rattle.overlay_geom.specs.Plane.{Point, PlanePoint, Edge, IsOn, in_plane, point_lt}
 use Rattle.overlay_geom.specs.Edges.{CountedEdge, ends_of, subj_of, clip_of}
 use Rattle.overlay_geom.specs.Rounding.{nearest_point}
 use Rattle.overlay_geom.proofs.AlongEdge.{over_le}
@@ -20,36 +20,19 @@ use Rattle.overlay_plane.proofs.Ends.{start_on, end_on}
 use Rattle.overlay_plane.proofs.PieceCounts.{subj_of_piece, clip_of_piece}
 use Rattle.overlay_plane.proofs.RoundedAlong.{start_up_to_rounded, rounded_up_to_end}
 use Rattle.overlay_plane.proofs.SnapStops.{nearest_itself, IsRounded, rounded_places, rounded_after}
-use Rattle.overlay_plane.proofs.SquareSides.{IsBelowSquare, IsAboveSquare, below_or_above, not_on_both_sides}
-use Rattle.overlay_plane.proofs.StepsAcross.{CrossesAt, step_crosses}
+use Rattle.overlay_plane.proofs.SquareSides.{IsInColumn, IsBelowSquare, IsAboveSquare, below_or_above}
+use Rattle.overlay_plane.proofs.SquareSides.{not_on_both_sides}
+use Rattle.overlay_plane.proofs.StepsAcross.{CrossesSquare, on_one_side, step_crosses}
 use Rattle.overlay_plane.proofs.Telescopes.{rises_along, last_from-append}
-use Rattle.overlay_plane.proofs.Tests.{lt_from_test, ge_from_test, test_from_lt, test_from_ge}
+use Rattle.overlay_plane.proofs.Tests.{lt_from_test, ge_from_test}
 use Rattle.overlay_plane.proofs.WholeCuts.{ends_of_merged, forward_merged}
 use Rattle.overlay_plane.proofs.WholeOnEdges.{forward_from_test}
 
 module _ (e : Edge) (before : IsBefore e.a e.b) (p : PlanePoint) (misses : ¬ (MeetsSquareRound e p)) where
-  -- edges that cross p's vertical line as points of e tell pass p on one side
-  on_one_side : (f g : Edge) → CrossesAt e p f → CrossesAt e p g →
-      int_lt (pos 0) (side f p) ≡ int_lt (pos 0) (side g p)
-  on_one_side f g by_f by_g = by (below_or_above e p misses by_f.at by_f.on by_f.column)
-      (below_or_above e p misses by_g.at by_g.on by_g.column)
-    where
-      by : IsBelowSquare p by_f.at ⊎ IsAboveSquare p by_f.at → IsBelowSquare p by_g.at ⊎ IsAboveSquare p by_g.at →
-          int_lt (pos 0) (side f p) ≡ int_lt (pos 0) (side g p)
-      by (inl f_below) (inl g_below) = test_from_lt (pos 0) (side f p) (by_f.below f_below)
-          ∙ sym (test_from_lt (pos 0) (side g p) (by_g.below g_below))
-      by (inl f_below) (inr g_above) = absurd (not_on_both_sides e p misses by_f.at by_g.at by_f.on by_g.on
-          by_f.column by_g.column f_below g_above)
-      by (inr f_above) (inl g_below) = absurd (not_on_both_sides e p misses by_g.at by_f.at by_g.on by_f.on
-          by_g.column by_f.column g_below f_above)
-      by (inr f_above) (inr g_above) =
-          test_from_ge (pos 0) (side f p) (let lt = by_f.above f_above in omega linear)
-          ∙ sym (test_from_ge (pos 0) (side g p) (let lt = by_g.above g_above in omega linear))
-
   -- e itself crosses it so where a step between whole points nearest points of e leads across
   edge_crosses : (q r : PlanePoint) → IsOn e q → IsOn e r → ((nearest_point q).x *ℤ p.d) ≤ℤ p.x →
-      p.x <ℤ ((nearest_point r).x *ℤ p.d) → CrossesAt e p e
-  edge_crosses q r on_q on_r from to = subst (CrossesAt e p)
+      p.x <ℤ ((nearest_point r).x *ℤ p.d) → CrossesSquare e p e
+  edge_crosses q r on_q on_r from to = subst (CrossesSquare e p)
       (λ i. record { a = nearest_itself e.a i; b = nearest_itself e.b i })
       (step_crosses e p (in_plane e.a) (in_plane e.b) (start_on e) (end_on e)
       (subst (λ (w : Point). (w.x *ℤ p.d) ≤ℤ p.x) (sym (nearest_itself e.a))
@@ -68,23 +51,30 @@ module _ (e : Edge) (before : IsBefore e.a e.b) (p : PlanePoint) (misses : ¬ (M
       between right left =
           let from = ge_from_test p.x ((nearest_point q).x *ℤ p.d) right in
           let to = lt_from_test p.x ((nearest_point r).x *ℤ p.d) left in
-          on_one_side (record { a = nearest_point q; b = nearest_point r }) e
+          on_one_side (IsInColumn p) (IsBelowSquare p) (IsAboveSquare p) e p (below_or_above e p misses)
+          (not_on_both_sides e p misses) (record { a = nearest_point q; b = nearest_point r }) e
           (step_crosses e p q r on_q on_r from to) (edge_crosses q r on_q on_r from to)
+
+-- a chain through points of one kind winds round p as the edge, where a step between two of them passes p as the edge
+pub chain_winds_alike : (Good : Point → Type 0) (points : CountedEdge → List Point) (e : CountedEdge) →
+    IsBefore e.a e.b → (p : PlanePoint) → Good e.a → All Good (points e ++ e.b ∷ []) →
+    ((u v : Point) → Good u → Good v → IsCrossedAlike (ends_of e) p u v) → WindsAsBefore points p e
+chain_winds_alike Good points e before p good_a good_after alike =
+    rises_along (winding_part p) (left_above (ends_of e) p) Good
+    (λ u v at_u at_v. winding_part-where_alike (ends_of e) p u v (alike u v at_u at_v) (alike v u at_v at_u))
+    e.a (points e ++ e.b ∷ []) good_a good_after
+    ∙ ap (λ v. left_above (ends_of e) p v -ℤ left_above (ends_of e) p e.a) (last_from-append e.a (points e) e.b)
+    ∙ sym (below_where_alike (ends_of e) p e.a e.b before.x (λ right left. refl))
 
 -- the chain of a snapped edge winds round p as the edge
 chain_winds : (r : Round) → ((p : PlanePoint) → r.whole_at p ≡ nearest_point p) → (e : CountedEdge) →
     IsBefore e.a e.b → All (IsOn (ends_of e)) (r.cuts e) → (p : PlanePoint) → ¬ (MeetsSquareRound (ends_of e) p) →
     WindsAsBefore (whole_cuts r) p e
 chain_winds r rounding e before on p misses =
-    rises_along (winding_part p) (left_above (ends_of e) p) (IsRounded (ends_of e))
-    (λ u v at_u at_v. winding_part-where_alike (ends_of e) p u v
-    (crossed_alike (ends_of e) before p misses u v at_u at_v)
-    (crossed_alike (ends_of e) before p misses v u at_v at_u))
-    e.a (whole_cuts r e ++ e.b ∷ []) (in_plane e.a, start_on (ends_of e), nearest_itself e.a)
+    chain_winds_alike (IsRounded (ends_of e)) (whole_cuts r) e before p
+    (in_plane e.a, start_on (ends_of e), nearest_itself e.a)
     (subst (All (IsRounded (ends_of e))) (rounded_places r rounding e) (rounded_after r rounding e on))
-    ∙ ap (λ v. left_above (ends_of e) p v -ℤ left_above (ends_of e) p e.a)
-    (last_from-append e.a (whole_cuts r e) e.b)
-    ∙ sym (below_where_alike (ends_of e) p e.a e.b before.x (λ right left. refl))
+    (crossed_alike (ends_of e) before p misses)
 
 -- the law
 pub snaps_keep_windings : SnapsKeepWindings

@@ -29,16 +29,17 @@ use Rattle.overlay_plane.proofs.WayAlong.{part_of_second, some_part, mixed_betwe
 use Rattle.overlay_plane.proofs.WholeCuts.{forward_merged}
 use Rattle.overlay_plane.proofs.WholeOnEdges.{forward_from_test}
 use Rattle.overlay_plane.proofs.WithinHalf.{within_half_exchanged, within_half_elsewhere, rounded_mixture}
-use Rattle.overlay_plane.proofs.WithinHalf.{rounded_mixture_near}
+use Rattle.overlay_plane.proofs.WithinHalf.{rounded_mixture_near, whole_mixture, whole_mixture_near, IsHalfFrom}
+use Rattle.overlay_plane.proofs.WithinHalf.{half_from_nearest}
 
 -- ---- steps
 
 -- the step's two ends as an edge, from the larger
-abbrev turned : Edge → Edge
+abbrev pub turned : Edge → Edge
 turned f = record { a = f.b; b = f.a }
 
 -- a point on an edge is on it with the ends exchanged too
-on_turned : (f : Edge) (q : PlanePoint) → IsOn f q → IsOn (turned f) q
+pub on_turned : (f : Edge) (q : PlanePoint) → IsOn f q → IsOn (turned f) q
 on_turned f q on = record {
   on_line =
       let identity = solve 7 (λ ax ay bx by x y d. sideE bx by ax ay x y d ≗ ⊝ sideE ax ay bx by x y d) tt f.a.x f.a.y
@@ -68,7 +69,7 @@ mean_turned f q m =
     }
 
 -- a point of a step is a mean of its ends, whichever way the step leads
-mean_of_step : (f : Edge) (q : PlanePoint) → point_eq f.a f.b ≡ false → IsOn f q → MeanOfEnds f q
+pub mean_of_step : (f : Edge) (q : PlanePoint) → point_eq f.a f.b ≡ false → IsOn f q → MeanOfEnds f q
 mean_of_step f q long on = by (point_lt f.a f.b) refl
   where
     by : (t : Bool) → point_lt f.a f.b ≡ t → MeanOfEnds f q
@@ -93,19 +94,23 @@ at_mean a b n da db u v x d sum mean =
 abbrev step_edge : PlanePoint → PlanePoint → Edge
 step_edge p q = record { a = nearest_point p; b = nearest_point q }
 
--- each point of it is near a point of an edge on which the two lie
-near_step : (e : Edge) (p q : PlanePoint) → IsOn e p → IsOn e q → (h : PlanePoint) →
-    point_eq (nearest_point p) (nearest_point q) ≡ false → IsOn (step_edge p q) h →
+-- v is at most 1/2 away from a point of e
+abbrev pub IsTakenFrom : Edge → Point → Type 0
+IsTakenFrom e v = (p : PlanePoint) × IsOn e p × IsHalfFrom p v
+
+-- each point of a step between whole points, each at most 1/2 away from a point of an edge, is near one of the edge
+near_step : (e : Edge) (p q : PlanePoint) → IsOn e p → IsOn e q → (u v : Point) → IsHalfFrom p u → IsHalfFrom q v →
+    (h : PlanePoint) → point_eq u v ≡ false → IsOn (record { a = u; b = v }) h →
     (m : PlanePoint) × IsOn e m × AreWithinHalf m h
-near_step e p q on_p on_q h long on = (
+near_step e p q on_p on_q u v near_u near_v h long on = (
   mixture s t p q some,
   mixture_on e s t p q some s_nonneg t_nonneg on_p on_q,
-  within_half_elsewhere (mixture s t p q some) (rounded_mixture s t p q some) h same
-      (rounded_mixture_near s t p q some s_nonneg t_nonneg),
+  within_half_elsewhere (mixture s t p q some) (whole_mixture s t p q some u v) h same
+      (whole_mixture_near s t p q some u v s_nonneg t_nonneg near_u near_v),
 )
   where
-    mean : MeanOfEnds (step_edge p q) h
-    mean = mean_of_step (step_edge p q) h long on
+    mean : MeanOfEnds (record { a = u; b = v }) h
+    mean = mean_of_step (record { a = u; b = v }) h long on
 
     s : ℤ
     s = mean.of_a *ℤ q.d
@@ -128,29 +133,27 @@ near_step e p q on_p on_q h long on = (
         (omega linear) in
         omega linear
 
-    same : SamePlace (rounded_mixture s t p q some) h
+    same : SamePlace (whole_mixture s t p q some u v) h
     same = (
-      at_mean mean.of_a mean.of_b mean.both p.d q.d (nearest_point p).x (nearest_point q).x h.x h.d mean.sum
-          mean.mean_x,
-      at_mean mean.of_a mean.of_b mean.both p.d q.d (nearest_point p).y (nearest_point q).y h.y h.d mean.sum
-          mean.mean_y,
+      at_mean mean.of_a mean.of_b mean.both p.d q.d u.x v.x h.x h.d mean.sum mean.mean_x,
+      at_mean mean.of_a mean.of_b mean.both p.d q.d u.y v.y h.y h.d mean.sum mean.mean_y,
     )
 
--- this holds for each step between whole points nearest to points of the edge
-near_chain_step : (e : Edge) (s : Step) → IsBetweenGood (IsRounded e) s → (h : PlanePoint) → IsOnStep s h →
+-- this holds for each long step between such points
+pub near_taken_step : (e : Edge) (s : Step) → IsBetweenGood (IsTakenFrom e) s → (h : PlanePoint) → IsOnStep s h →
     (m : PlanePoint) × IsOn e m × AreWithinHalf m h
-near_chain_step e s good h on =
-    let from = good.from in
-    let to = good.to in
-    near_step e from.0 to.0 from.1 to.1 h
-    (subst (λ v. point_eq v (nearest_point to.0) ≡ false) (sym from.2)
-    (subst (λ v. point_eq s.from v ≡ false) (sym to.2) good.long))
-    (subst (λ (f : Edge). IsOn f h) (λ i. record { a = sym from.2 i; b = sym to.2 i }) on)
+near_taken_step e s good h on = near_step e good.from.0 good.to.0 good.from.1 good.to.1 s.from s.to good.from.2
+    good.to.2
+    h good.long on
+
+-- a whole point nearest to a point of the edge is so taken
+taken_of_rounded : (e : Edge) (v : Point) → IsRounded e v → IsTakenFrom e v
+taken_of_rounded e v (p, on, is) = (p, on, subst (IsHalfFrom p) is (half_from_nearest p))
 
 -- ---- points of the edge
 
 -- a point is near itself
-near_itself : (p : PlanePoint) → AreWithinHalf p p
+pub near_itself : (p : PlanePoint) → AreWithinHalf p p
 near_itself p =
     let none_x = solve 2 (λ x d. number (pos 2) ⊗ (x ⊗ d ⊖ x ⊗ d) ≗ number (pos 0)) tt p.x p.d in
     let none_y = solve 2 (λ y d. number (pos 2) ⊗ (y ⊗ d ⊖ y ⊗ d) ≗ number (pos 0)) tt p.y p.d in
@@ -304,9 +307,15 @@ module _ (r : Round) (rounding : (p : PlanePoint) → r.whole_at p ≡ nearest_p
   -- the chain and the edge stay within half a unit
   stays_within_half : StaysWithinHalf r e
   stays_within_half = record {
-    chain_near = λ s has h on_s. near_chain_step (ends_of e) s
-        (All-contains (IsBetweenGood (IsRounded (ends_of e))) (chain_of r e) s (chain_between_rounded r rounding e on)
-        has) h on_s;
+    chain_near = λ s has h on_s.
+        let good = All-contains (IsBetweenGood (IsRounded (ends_of e))) (chain_of r e) s
+        (chain_between_rounded r rounding e on) has in
+        near_taken_step (ends_of e) s
+        (record {
+          long = good.long;
+          from = taken_of_rounded (ends_of e) s.from good.from;
+          to = taken_of_rounded (ends_of e) s.to good.to;
+        }) h on_s;
     edge_near = near_chain;
   }
 

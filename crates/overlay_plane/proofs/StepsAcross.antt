@@ -1,16 +1,20 @@
--- A step between the whole points nearest two points of an edge leads across the vertical line through a point of the
--- plane: a point of the edge in the column of the unit square round it tells on which side of it the step passes.
-use Rattle.std.proofs.Common.{◌≡◌, ℤ, pos, ◌+ℤ◌, ◌-ℤ◌, ◌*ℤ◌, ◌<ℤ◌, ◌≤ℤ◌}
+-- A step between whole points at most 1/2 away from two points of an edge leads across the vertical line through a
+-- point
+-- of the plane: a point of the edge in the column of the unit square round it tells on which side of it the step
+-- passes.
+use Rattle.std.proofs.Common.{◌≡◌, ◌⊎◌, inl, inr, ℤ, pos, ◌+ℤ◌, ◌-ℤ◌, ◌*ℤ◌, ◌<ℤ◌, ◌≤ℤ◌, int_lt, sym, ◌∙◌}
 use Rattle.overlay_geom.specs.Plane.{Point, PlanePoint, Edge, IsOn, side}
 use Rattle.overlay_geom.specs.Rounding.{nearest_point}
 use Rattle.overlay_geom.proofs.AlongEdge.{sideE}
 use Rattle.overlay_geom.proofs.Identities.{solve, number, ◌⊕◌, ◌⊗◌, ◌⊖◌, ◌≗◌}
-use Rattle.overlay_geom.proofs.Rounded.{nearest-within, nearest-strict}
+use Rattle.overlay_geom.proofs.Rounded.{nearest-strict}
 use Rattle.overlay_geom.proofs.Signs.{linear, mul-pos, mul-nonneg, mul-lt, mul-le, mul-zero, pos_of_mul-pos}
 use Rattle.overlay_geom.proofs.Signs.{neg_of_mul-neg}
 use Rattle.overlay_plane.proofs.Mixtures.{mixture, mixture_on}
-use Rattle.overlay_plane.proofs.SquareSides.{IsInColumn, IsBelowSquare, IsAboveSquare}
-use Rattle.overlay_plane.proofs.WithinHalf.{halves_mixed, less_than_half_mixed}
+use Rattle.overlay_plane.proofs.SquareSides.{IsInColumn, IsBelowSquare, IsAboveSquare, IsInClosedColumn}
+use Rattle.overlay_plane.proofs.SquareSides.{IsHighAboveSquare}
+use Rattle.overlay_plane.proofs.Tests.{test_from_lt, test_from_ge}
+use Rattle.overlay_plane.proofs.WithinHalf.{IsHalfFrom, half_from_nearest, halves_mixed, less_than_half_mixed}
 
 -- ---- numbers x / d, c / n and z / n, where the second is at most 1/2 above the third, or less than 1/2 below it
 
@@ -56,27 +60,70 @@ by_above y d n c z positive lt high =
     number (pos 2) ⊗ (z ⊗ d ⊖ y ⊗ n)) tt y d n c z in
     neg_of_mul-neg (pos 2) (y *ℤ n -ℤ c *ℤ d) (record { lt = tt }) (omega linear)
 
+-- each so where the second may be 1/2 below the third
+at_closed_right : (x d n c z : ℤ) → pos 0 <ℤ d → x *ℤ n ≡ c *ℤ d → (pos 2 *ℤ z -ℤ n) ≤ℤ (pos 2 *ℤ c) →
+    (pos 2 *ℤ (z *ℤ d -ℤ x *ℤ n)) ≤ℤ (d *ℤ n)
+at_closed_right x d n c z positive same le =
+    let over = mul-le d (pos 2 *ℤ z -ℤ pos 2 *ℤ c) n (omega linear) (omega linear) in
+    let identity = solve 5
+    (λ x d n c z. number (pos 2) ⊗ (z ⊗ d ⊖ x ⊗ n) ≗ d ⊗ (number (pos 2) ⊗ z ⊖ number (pos 2) ⊗ c) ⊖
+    number (pos 2) ⊗ (x ⊗ n ⊖ c ⊗ d)) tt x d n c z in
+    let none = mul-zero (pos 2) (x *ℤ n -ℤ c *ℤ d) (omega linear) in
+    omega linear
+
+by_high_above : (y d n c z : ℤ) → pos 0 <ℤ d → (pos 2 *ℤ z -ℤ n) ≤ℤ (pos 2 *ℤ c) →
+    (d *ℤ n) <ℤ (pos 2 *ℤ (z *ℤ d -ℤ y *ℤ n)) → (y *ℤ n -ℤ c *ℤ d) <ℤ pos 0
+by_high_above y d n c z positive le high =
+    let over = mul-le d (pos 2 *ℤ z -ℤ n) (pos 2 *ℤ c) (omega linear) le in
+    let identity = solve 5
+    (λ y d n c z. number (pos 2) ⊗ (y ⊗ n ⊖ c ⊗ d) ≗ d ⊗ (number (pos 2) ⊗ z ⊖ n) ⊖ d ⊗ (number (pos 2) ⊗ c) ⊕ d ⊗ n ⊖
+    number (pos 2) ⊗ (z ⊗ d ⊖ y ⊗ n)) tt y d n c z in
+    neg_of_mul-neg (pos 2) (y *ℤ n -ℤ c *ℤ d) (record { lt = tt }) (omega linear)
+
 -- ---- one step across the point
 
--- e has a point in the column of the square round p: where it is below the square, f passes below p, and where above,
--- above
-pub record CrossesAt (e : Edge) (p : PlanePoint) (f : Edge) : Type 0 where
-  pub at : PlanePoint
-  pub on : IsOn e at
-  pub column : IsInColumn p at
-  pub below : IsBelowSquare p at → pos 0 <ℤ side f p
-  pub above : IsAboveSquare p at → side f p <ℤ pos 0
+module _ (Column Below Above : PlanePoint → Type 0) where
+  -- e has a point in the column of the square round p: where it is below the square, f passes below p, and where above,
+  -- above
+  pub record CrossesAt (e : Edge) (p : PlanePoint) (f : Edge) : Type 0 where
+    pub at : PlanePoint
+    pub on : IsOn e at
+    pub column : Column at
+    pub below : Below at → pos 0 <ℤ side f p
+    pub above : Above at → side f p <ℤ pos 0
 
--- the step from the whole point nearest q to that nearest r leads across p's vertical line
-module _ (e : Edge) (p q r : PlanePoint) (on_q : IsOn e q) (on_r : IsOn e r)
-    (from : ((nearest_point q).x *ℤ p.d) ≤ℤ p.x) (to : p.x <ℤ ((nearest_point r).x *ℤ p.d)) where
-  -- its two ends
-  abbrev u : Point
-  u = nearest_point q
+  module _ (e : Edge) (p : PlanePoint) (below_or_above : (q : PlanePoint) → IsOn e q → Column q → Below q ⊎ Above q)
+      (not_on_both_sides : (q r : PlanePoint) → IsOn e q → IsOn e r → Column q → Column r → Below q → Above r → ⊥)
+    where
+      -- edges that cross p's vertical line as points of e tell pass p on one side
+      pub on_one_side : (f g : Edge) → CrossesAt e p f → CrossesAt e p g →
+          int_lt (pos 0) (side f p) ≡ int_lt (pos 0) (side g p)
+      on_one_side f g by_f by_g = by (below_or_above by_f.at by_f.on by_f.column)
+          (below_or_above by_g.at by_g.on by_g.column)
+        where
+          by : Below by_f.at ⊎ Above by_f.at → Below by_g.at ⊎ Above by_g.at →
+              int_lt (pos 0) (side f p) ≡ int_lt (pos 0) (side g p)
+          by (inl f_below) (inl g_below) = test_from_lt (pos 0) (side f p) (by_f.below f_below)
+              ∙ sym (test_from_lt (pos 0) (side g p) (by_g.below g_below))
+          by (inl f_below) (inr g_above) = absurd (not_on_both_sides by_f.at by_g.at by_f.on by_g.on by_f.column
+              by_g.column f_below g_above)
+          by (inr f_above) (inl g_below) = absurd (not_on_both_sides by_g.at by_f.at by_g.on by_f.on by_g.column
+              by_f.column g_below f_above)
+          by (inr f_above) (inr g_above) =
+              test_from_ge (pos 0) (side f p) (let lt = by_f.above f_above in omega linear)
+              ∙ sym (test_from_ge (pos 0) (side g p) (let lt = by_g.above g_above in omega linear))
 
-  abbrev v : Point
-  v = nearest_point r
+-- a point in the column of the half-open square tells
+abbrev pub CrossesSquare : Edge → PlanePoint → Edge → Type 0
+CrossesSquare e p f = CrossesAt (IsInColumn p) (IsBelowSquare p) (IsAboveSquare p) e p f
 
+-- a point in the column of the closed square tells
+abbrev pub CrossesClosedSquare : Edge → PlanePoint → Edge → Type 0
+CrossesClosedSquare e p f = CrossesAt (IsInClosedColumn p) (IsBelowSquare p) (IsHighAboveSquare p) e p f
+
+-- a step from u, which is at most 1/2 away from q, to v, which is so from r, leads across p's vertical line
+module _ (e : Edge) (p q r : PlanePoint) (on_q : IsOn e q) (on_r : IsOn e r) (u v : Point) (near_u : IsHalfFrom q u)
+    (near_v : IsHalfFrom r v) (from : (u.x *ℤ p.d) ≤ℤ p.x) (to : p.x <ℤ (v.x *ℤ p.d)) where
   -- the weight of q in a point of e between q and r: p's vertical line divides the step in these parts
   abbrev s : ℤ
   s = (v.x *ℤ p.d -ℤ p.x) *ℤ r.d
@@ -133,41 +180,71 @@ module _ (e : Edge) (p q r : PlanePoint) (on_q : IsOn e q) (on_r : IsOn e r)
   scale-positive : pos 0 <ℤ (p.d *ℤ (q.d *ℤ r.d))
   scale-positive = mul-pos p.d (q.d *ℤ r.d) p.positive (mul-pos q.d r.d q.positive r.positive)
 
-  -- that point is in the column of the square round p
-  between_in_column : IsInColumn p between
-  between_in_column = record {
-    from_left = at_left p.x p.d size (weighed u.x v.x) between.x p.positive on_vertical
-        (halves_mixed s t q.x q.d r.x r.d u.x v.x s_nonneg t_nonneg (nearest-within q.x q.d q.positive)
-        (nearest-within r.x r.d r.positive)).1;
-    to_right = at_right p.x p.d size (weighed u.x v.x) between.x p.positive on_vertical
-        (less_than_half_mixed s t q.x q.d r.x r.d u.x v.x s_positive t_nonneg (nearest-strict q.x q.d q.positive)
-        (nearest-strict r.x r.d r.positive));
-  }
+  -- how far the step's point may be from that point
+  near_x : ((pos 2 *ℤ between.x -ℤ size) ≤ℤ (pos 2 *ℤ weighed u.x v.x))
+      × ((pos 2 *ℤ weighed u.x v.x) ≤ℤ (pos 2 *ℤ between.x +ℤ size))
+  near_x = halves_mixed s t q.x q.d r.x r.d u.x v.x s_nonneg t_nonneg near_u.in_x near_v.in_x
+
+  near_y : ((pos 2 *ℤ between.y -ℤ size) ≤ℤ (pos 2 *ℤ weighed u.y v.y))
+      × ((pos 2 *ℤ weighed u.y v.y) ≤ℤ (pos 2 *ℤ between.y +ℤ size))
+  near_y = halves_mixed s t q.y q.d r.y r.d u.y v.y s_nonneg t_nonneg near_u.in_y near_v.in_y
 
   -- where it is below the square, the step passes below p
   passes_below : IsBelowSquare p between → pos 0 <ℤ side (record { a = u; b = v }) p
   passes_below low =
-      let lower = by_below p.y p.d size (weighed u.y v.y) between.y p.positive
-      (halves_mixed s t q.y q.d r.y r.d u.y v.y s_nonneg t_nonneg (nearest-within q.y q.d q.positive)
-      (nearest-within r.y r.d r.positive)).1 low in
+      let lower = by_below p.y p.d size (weighed u.y v.y) between.y p.positive near_y.1 low in
       let same = lower_by_side in
       pos_of_mul-pos (p.d *ℤ (q.d *ℤ r.d)) (side (record { a = u; b = v }) p) scale-positive (omega linear)
 
-  -- and where it is above the square, above p
-  passes_above : IsAboveSquare p between → side (record { a = u; b = v }) p <ℤ pos 0
-  passes_above high =
-      let higher = by_above p.y p.d size (weighed u.y v.y) between.y p.positive
-      (less_than_half_mixed s t q.y q.d r.y r.d u.y v.y s_positive t_nonneg (nearest-strict q.y q.d q.positive)
-      (nearest-strict r.y r.d r.positive)) high in
+  -- where it is high above the square, above p
+  passes_high_above : IsHighAboveSquare p between → side (record { a = u; b = v }) p <ℤ pos 0
+  passes_high_above high =
+      let higher = by_high_above p.y p.d size (weighed u.y v.y) between.y p.positive near_y.0 high in
       let same = lower_by_side in
       neg_of_mul-neg (p.d *ℤ (q.d *ℤ r.d)) (side (record { a = u; b = v }) p) scale-positive (omega linear)
 
-  -- the step crosses p's vertical line as a point of e tells
-  pub step_crosses : CrossesAt e p (record { a = u; b = v })
-  step_crosses = record {
+  -- the step crosses p's vertical line as a point of e in the closed column tells
+  pub near_step_crosses : CrossesClosedSquare e p (record { a = u; b = v })
+  near_step_crosses = record {
     at = between;
     on = mixture_on e s t q r some s_nonneg t_nonneg on_q on_r;
-    column = between_in_column;
+    column = record {
+      from_left = at_left p.x p.d size (weighed u.x v.x) between.x p.positive on_vertical near_x.1;
+      to_right = at_closed_right p.x p.d size (weighed u.x v.x) between.x p.positive on_vertical near_x.0;
+    };
     below = passes_below;
-    above = passes_above;
+    above = passes_high_above;
   }
+
+  -- where both points are less than 1/2 below and left of q and r, so does a point in the half-open column
+  module _ (left_u : (pos 2 *ℤ q.x -ℤ q.d) <ℤ (pos 2 *ℤ u.x *ℤ q.d))
+      (left_v : (pos 2 *ℤ r.x -ℤ r.d) <ℤ (pos 2 *ℤ v.x *ℤ r.d))
+      (low_u : (pos 2 *ℤ q.y -ℤ q.d) <ℤ (pos 2 *ℤ u.y *ℤ q.d))
+      (low_v : (pos 2 *ℤ r.y -ℤ r.d) <ℤ (pos 2 *ℤ v.y *ℤ r.d)) where
+    -- where that point is above the square, the step passes above p
+    passes_above : IsAboveSquare p between → side (record { a = u; b = v }) p <ℤ pos 0
+    passes_above high =
+        let higher = by_above p.y p.d size (weighed u.y v.y) between.y p.positive
+        (less_than_half_mixed s t q.y q.d r.y r.d u.y v.y s_positive t_nonneg low_u low_v) high in
+        let same = lower_by_side in
+        neg_of_mul-neg (p.d *ℤ (q.d *ℤ r.d)) (side (record { a = u; b = v }) p) scale-positive (omega linear)
+
+    pub strict_step_crosses : CrossesSquare e p (record { a = u; b = v })
+    strict_step_crosses = record {
+      at = between;
+      on = mixture_on e s t q r some s_nonneg t_nonneg on_q on_r;
+      column = record {
+        from_left = at_left p.x p.d size (weighed u.x v.x) between.x p.positive on_vertical near_x.1;
+        to_right = at_right p.x p.d size (weighed u.x v.x) between.x p.positive on_vertical
+            (less_than_half_mixed s t q.x q.d r.x r.d u.x v.x s_positive t_nonneg left_u left_v);
+      };
+      below = passes_below;
+      above = passes_above;
+    }
+
+-- so does the step from the whole point nearest q to that nearest r
+pub step_crosses : (e : Edge) (p q r : PlanePoint) → IsOn e q → IsOn e r → ((nearest_point q).x *ℤ p.d) ≤ℤ p.x →
+    p.x <ℤ ((nearest_point r).x *ℤ p.d) → CrossesSquare e p (record { a = nearest_point q; b = nearest_point r })
+step_crosses e p q r on_q on_r from to = strict_step_crosses e p q r on_q on_r (nearest_point q) (nearest_point r)
+    (half_from_nearest q) (half_from_nearest r) from to (nearest-strict q.x q.d q.positive)
+    (nearest-strict r.x r.d r.positive) (nearest-strict q.y q.d q.positive) (nearest-strict r.y r.d r.positive)

@@ -1,7 +1,7 @@
 -- Points of the plane at most 1/2 apart in x and in y: in either order, over any denominators, and mixed alike.
 use lib.IntN.{*ℤ_comm}
 use Rattle.std.proofs.Common.{◌≡◌, ℤ, pos, ◌+ℤ◌, ◌-ℤ◌, ◌*ℤ◌, ◌<ℤ◌, ◌≤ℤ◌}
-use Rattle.overlay_geom.specs.Plane.{PlanePoint, SamePlace, in_plane}
+use Rattle.overlay_geom.specs.Plane.{Point, PlanePoint, SamePlace, in_plane}
 use Rattle.overlay_geom.specs.Rounding.{nearest_point, IsWithinHalf}
 use Rattle.overlay_geom.proofs.Identities.{solve, number, ◌⊕◌, ◌⊗◌, ◌⊖◌, ◌≗◌}
 use Rattle.overlay_geom.proofs.Rounded.{nearest-within}
@@ -118,24 +118,52 @@ over_one z w d c positive same low high =
     let no_more = mul-zero d (c -ℤ d) (omega linear) in
     (omega linear, omega linear)
 
-module _ (s t : ℤ) (p q : PlanePoint) (some : pos 0 <ℤ (s *ℤ p.d +ℤ t *ℤ q.d)) where
-  -- the whole points nearest p and q, mixed as these are in their mixture
-  abbrev pub rounded_mixture : PlanePoint
-  rounded_mixture =
-      let size = size_mixed (s *ℤ p.d) (t *ℤ q.d) in
-      mixture (s *ℤ p.d) (t *ℤ q.d) (in_plane (nearest_point p)) (in_plane (nearest_point q)) (omega linear)
+-- v is at most 1/2 away from p, in x and in y
+pub record IsHalfFrom (p : PlanePoint) (v : Point) : Type 0 where
+  pub in_x : IsWithinHalf v.x p.x p.d
+  pub in_y : IsWithinHalf v.y p.y p.d
 
-  -- they are within half a unit of it
-  pub rounded_mixture_near : pos 0 ≤ℤ s → pos 0 ≤ℤ t → AreWithinHalf (mixture s t p q some) rounded_mixture
-  rounded_mixture_near s_nonneg t_nonneg =
-      let in_x = halves_mixed s t p.x p.d q.x q.d (nearest_point p).x (nearest_point q).x s_nonneg t_nonneg
-      (nearest-within p.x p.d p.positive) (nearest-within q.x q.d q.positive) in
-      let in_y = halves_mixed s t p.y p.d q.y q.d (nearest_point p).y (nearest_point q).y s_nonneg t_nonneg
-      (nearest-within p.y p.d p.positive) (nearest-within q.y q.d q.positive) in
-      let x = over_one (s *ℤ p.x +ℤ t *ℤ q.x)
-      ((s *ℤ p.d) *ℤ (nearest_point p).x +ℤ (t *ℤ q.d) *ℤ (nearest_point q).x) (s *ℤ p.d +ℤ t *ℤ q.d)
+-- so is the whole point nearest p
+pub half_from_nearest : (p : PlanePoint) → IsHalfFrom p (nearest_point p)
+half_from_nearest p = record {
+  in_x = nearest-within p.x p.d p.positive;
+  in_y = nearest-within p.y p.d p.positive;
+}
+
+-- and v itself is no way from v
+pub half_from_itself : (v : Point) → IsHalfFrom (in_plane v) v
+half_from_itself v = record { in_x = no_way v.x; in_y = no_way v.y }
+  where
+    no_way : (z : ℤ) → IsWithinHalf z z (pos 1)
+    no_way z =
+        let identity = solve 1 (λ z. number (pos 2) ⊗ z ⊗ number (pos 1) ≗ number (pos 2) ⊗ z) tt z in
+        (omega linear, omega linear)
+
+module _ (s t : ℤ) (p q : PlanePoint) (some : pos 0 <ℤ (s *ℤ p.d +ℤ t *ℤ q.d)) (u v : Point) where
+  -- two whole points, mixed as p and q are in their mixture
+  abbrev pub whole_mixture : PlanePoint
+  whole_mixture =
+      let size = size_mixed (s *ℤ p.d) (t *ℤ q.d) in
+      mixture (s *ℤ p.d) (t *ℤ q.d) (in_plane u) (in_plane v) (omega linear)
+
+  -- where each is at most 1/2 away from p or q, they are within half a unit of that
+  pub whole_mixture_near : pos 0 ≤ℤ s → pos 0 ≤ℤ t → IsHalfFrom p u → IsHalfFrom q v →
+      AreWithinHalf (mixture s t p q some) whole_mixture
+  whole_mixture_near s_nonneg t_nonneg near_u near_v =
+      let in_x = halves_mixed s t p.x p.d q.x q.d u.x v.x s_nonneg t_nonneg near_u.in_x near_v.in_x in
+      let in_y = halves_mixed s t p.y p.d q.y q.d u.y v.y s_nonneg t_nonneg near_u.in_y near_v.in_y in
+      let x = over_one (s *ℤ p.x +ℤ t *ℤ q.x) ((s *ℤ p.d) *ℤ u.x +ℤ (t *ℤ q.d) *ℤ v.x) (s *ℤ p.d +ℤ t *ℤ q.d)
       (s *ℤ p.d *ℤ pos 1 +ℤ t *ℤ q.d *ℤ pos 1) some (size_mixed (s *ℤ p.d) (t *ℤ q.d)) in_x.0 in_x.1 in
-      let y = over_one (s *ℤ p.y +ℤ t *ℤ q.y)
-      ((s *ℤ p.d) *ℤ (nearest_point p).y +ℤ (t *ℤ q.d) *ℤ (nearest_point q).y) (s *ℤ p.d +ℤ t *ℤ q.d)
+      let y = over_one (s *ℤ p.y +ℤ t *ℤ q.y) ((s *ℤ p.d) *ℤ u.y +ℤ (t *ℤ q.d) *ℤ v.y) (s *ℤ p.d +ℤ t *ℤ q.d)
       (s *ℤ p.d *ℤ pos 1 +ℤ t *ℤ q.d *ℤ pos 1) some (size_mixed (s *ℤ p.d) (t *ℤ q.d)) in_y.0 in_y.1 in
       record { right = x.0; left = x.1; up = y.0; down = y.1 }
+
+module _ (s t : ℤ) (p q : PlanePoint) (some : pos 0 <ℤ (s *ℤ p.d +ℤ t *ℤ q.d)) where
+  -- the whole points nearest p and q, mixed as these are
+  abbrev pub rounded_mixture : PlanePoint
+  rounded_mixture = whole_mixture s t p q some (nearest_point p) (nearest_point q)
+
+  -- they are within half a unit of the mixture
+  pub rounded_mixture_near : pos 0 ≤ℤ s → pos 0 ≤ℤ t → AreWithinHalf (mixture s t p q some) rounded_mixture
+  rounded_mixture_near s_nonneg t_nonneg = whole_mixture_near s t p q some (nearest_point p) (nearest_point q) s_nonneg
+      t_nonneg (half_from_nearest p) (half_from_nearest q)

@@ -1,6 +1,7 @@
 -- Arrangements are determined: by snap rounding outright, and by rounds once it is told how each point of the plane is
 -- rounded.
 use Rattle.std.specs.Prelude.{◌≡◌, List, All}
+use Rattle.std.specs.List.Sorted.{IsPermutation}
 use Rattle.overlay_geom.specs.Edges.{CountedEdge, ends_of}
 use Rattle.overlay_geom.specs.Plane.{Point, PlanePoint}
 use Rattle.overlay_geom.specs.declared.solver.Solver.TheVariants.{Rounds, Snapping}
@@ -22,3 +23,9 @@ OneArrangement = (whole_at : PlanePoint → Point) (rounds others : List Round) 
 abbrev pub OneSnappedArrangement : Type 0
 OneSnappedArrangement = (rounds others : List Round) (old new newer : List CountedEdge) → IsForwardBy ends_of old →
     IsReachedBy Snapping rounds old new → IsReachedBy Snapping others old newer → new ≡ newer
+
+-- so are arrangements of two lists with the same edges, each in an order of its own
+abbrev pub OneSnappedArrangementOfShuffled : Type 0
+OneSnappedArrangementOfShuffled = (rounds others : List Round) (old other new newer : List CountedEdge) →
+    IsForwardBy ends_of old → IsPermutation old other → IsReachedBy Snapping rounds old new →
+    IsReachedBy Snapping others other newer → new ≡ newer

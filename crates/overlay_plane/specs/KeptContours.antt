@@ -4,7 +4,7 @@
 use Rattle.std.specs.Prelude.{◌≡◌, ℕ, Bool, true, false, ℤ, List, length, All, AllPairs, Option, Some, None, slice_get}
 use Rattle.std.specs.Prelude.{slice_index_or}
 use Rattle.std.specs.List.Sorted.{IsPermutation}
-use Rattle.overlay_geom.specs.Plane.{Point, PlanePoint, Step, edge_of, edge_eq, winding}
+use Rattle.overlay_geom.specs.Plane.{Point, PlanePoint, Step, edge_of, edge_eq, points_of, winding}
 use Rattle.overlay_geom.specs.Edges.{CountedEdge}
 use Rattle.overlay_geom.specs.Settled.{IsSettledBy}
 use Rattle.overlay_plane.specs.Turn.{Hand, other_hand}
@@ -19,6 +19,7 @@ use Rattle.overlay_plane.specs.BoundContours.{IsParent, AreShapesFound, NoHoleIs
 use Rattle.overlay_plane.specs.BoundContours.{shapes_bound}
 use Rattle.overlay_plane.specs.Groups.{IsSimpleContour}
 use Rattle.overlay_plane.specs.ShapeWindings.{points_of_shapes, steps_of_shapes, AreKeptOrThinned}
+use Rattle.overlay_plane.specs.Thinning.{HasNoSpikes}
 
 -- walks that can be bound: each is a contour, and walks along no edge twice. No two of their filled-above edges are
 -- equal, nor two of their filled-below edges, and different edges meet in ends alone
@@ -48,6 +49,13 @@ KeptContoursAreSimple = (holds : ℤ → ℤ → Bool) (subj clip : CountedEdge 
     (keeps : List Step → Bool) (contours : List Contour) →
     AreKeptContours holds subj clip es filled true keeps contours →
     All IsSimpleContour (walks_in contours)
+
+-- the way goes on at each point of a kept contour that is collinear with its neighbours
+abbrev pub KeptContoursHaveNoSpikes : Type 0
+KeptContoursHaveNoSpikes = (holds : ℤ → ℤ → Bool) (subj clip : CountedEdge → ℤ) (es : List CountedEdge) (filled : Hand)
+    (in_groups : Bool) (keeps : List Step → Bool) (contours : List Contour) →
+    AreKeptContours holds subj clip es filled in_groups keeps contours →
+    All (λ w. HasNoSpikes (points_of w)) (walks_in contours)
 
 -- the walks of the shapes to which they are bound can be bound again, for the holes round islands
 abbrev pub KeptShapesCanBeBound : Type 0

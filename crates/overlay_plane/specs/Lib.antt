@@ -17,6 +17,7 @@ pub mod DerivedData
 pub mod Determined
 pub mod EdgeLists
 pub mod EdgePredicates
+pub mod FarPoints
 pub mod GreatestBelow
 pub mod Groups
 pub mod HalfPlanes

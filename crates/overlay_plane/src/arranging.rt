@@ -2,6 +2,7 @@
 
 ghost use Rattle.overlay_plane.specs.Arrangements.{ArrangementsHoldChains, WholeMeetingsAreExact};
 ghost use Rattle.overlay_plane.specs.Arrangements.{ArrangementsKeepBalance, ArrangedStaysArranged};
+ghost use Rattle.overlay_plane.specs.FarPoints.{ArrangementsKeepFarPoints, FarPointsWindAsWanted};
 ghost use Rattle.overlay_plane.specs.MarkedChains.{MarkedChainsStay};
 
 /// The chains of the edges keep their ends, stay near, and make the counts of the arrangement.
@@ -28,4 +29,16 @@ pub fn arranged_stays_arranged()
 /// An arrangement has an edge along each step of a marked edge's chain, and that edge has the mark too.
 pub fn marked_chains_stay()
     ensures { MarkedChainsStay }
+{}
+
+/// Far from the edges nothing changes: where k rounds move points, an arrangement has no edge at a point more than k/2
+/// away from all edges, in x or in y, and winds round it as they did.
+pub fn arrangements_keep_far_points()
+    ensures { ArrangementsKeepFarPoints }
+{}
+
+/// Steps that wind as rules want of an arrangement, off its edges, wind as they want of the edges as they were given,
+/// at each point far from these.
+pub fn far_points_wind_as_wanted()
+    ensures { FarPointsWindAsWanted }
 {}

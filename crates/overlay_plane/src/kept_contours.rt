@@ -2,6 +2,7 @@
 //! bound.
 
 ghost use Rattle.overlay_plane.specs.KeptContours.{KeptContoursCanBeBound, KeptContoursAreSimple};
+ghost use Rattle.overlay_plane.specs.KeptContours.{KeptContoursHaveNoSpikes};
 ghost use Rattle.overlay_plane.specs.KeptContours.{KeptShapesCanBeBound, AllContoursTakeEachOnce, AllHolesHaveShapes};
 ghost use Rattle.overlay_plane.specs.KeptContours.{AllParentsAreFound, AllShapesHaveEachStep, AllShapesWind};
 
@@ -13,6 +14,11 @@ pub fn kept_contours_can_be_bound()
 /// With groups, no kept contour visits a point twice.
 pub fn kept_contours_are_simple()
     ensures { KeptContoursAreSimple }
+{}
+
+/// At each point of a kept contour that is collinear with its neighbours the way goes on.
+pub fn kept_contours_have_no_spikes()
+    ensures { KeptContoursHaveNoSpikes }
 {}
 
 /// The walks of the shapes to which kept contours are bound can be bound too.

@@ -1,5 +1,5 @@
 -- The laws are proved in proofs/OneArrangement.antt.
-use Rattle.overlay_plane.proofs.OneArrangement.{one_arrangement, one_snapped_arrangement}
+use Rattle.overlay_plane.proofs.OneArrangement.{one_arrangement, one_snapped_arrangement, one_arrangement_of_shuffled}
 use Rattle.overlay_plane.proofs.only_arrangement.one_arrangement.Goals as goal
 
 pub returns-clause-rounds : goal.returns-clause-rounds
@@ -7,3 +7,6 @@ returns-clause-rounds c = one_arrangement
 
 pub returns-clause-snapped : goal.returns-clause-snapped
 returns-clause-snapped c = one_snapped_arrangement
+
+pub returns-clause-shuffled : goal.returns-clause-shuffled
+returns-clause-shuffled c = one_arrangement_of_shuffled
