@@ -17,6 +17,7 @@ use Rattle.overlay_plane.proofs.AfterRounds.{arrangements_keep_balance, arranged
 use Rattle.overlay_plane.proofs.DerivedLists.{given_weaker}
 use Rattle.overlay_plane.proofs.Entries.{Contains-map}
 use Rattle.overlay_plane.proofs.ExactRounds.{whole_meetings_are_exact}
+use Rattle.overlay_plane.proofs.FarPoints.{arrangements_keep_far_points, moving_few}
 use Rattle.overlay_plane.proofs.HeldChains.{arrangements_hold_chains}
 use Rattle.overlay_plane.proofs.MovedPoints.{moving_rounds}
 use Rattle.overlay_plane.specs.Arrangements.{IsReachedBy, IsSplit, StaysUnsettled, WeighsTooMuch}
@@ -31,24 +32,31 @@ use Rattle.overlay_plane.specs.Rounds.{chain_of, pieces_of}
 pub forward_content : (limit : ℕ) (es : List CountedEdge) → IsContent limit es → IsForwardBy ends_of es
 forward_content limit es content = λ k d l. (content.held k d l).forward
 
--- a content that was split is arranged
-abbrev pub arranged_of_split : (limit : ℕ) (solver : Solver) (old new : List CountedEdge) → IsContent limit old →
+-- forward edges that were split are arranged
+abbrev pub arranged_forward : (solver : Solver) (old new : List CountedEdge) → IsForwardBy ends_of old →
     IsSplit solver (most_rounds solver) old new → IsArranged solver old new
-arranged_of_split limit solver old new content split =
+arranged_forward solver old new forward split =
     let moving = moving_rounds split.rounds in
-    let forward = forward_content limit old content in
     record {
       rounds = split.rounds;
       few = split.few;
       reached = split.reached;
       moving = moving.0;
       moved = moving.1;
+      few_moving = omega (arith, split.few, moving_few split.rounds moving.0 moving.1);
       chains = arrangements_hold_chains solver split.rounds moving.0 old new forward split.reached moving.1;
       exact = λ whole. whole_meetings_are_exact.exact solver split.rounds moving.0 old new forward whole
           split.reached moving.1;
+      far = arrangements_keep_far_points solver split.rounds moving.0 old new forward split.reached moving.1;
       balanced = arrangements_keep_balance solver split.rounds old new split.reached;
       stays = λ was. arranged_stays_arranged was.0 solver was.2 split.rounds was.1 old new was.3 split.reached;
     }
+
+-- so is a content
+abbrev pub arranged_of_split : (limit : ℕ) (solver : Solver) (old new : List CountedEdge) → IsContent limit old →
+    IsSplit solver (most_rounds solver) old new → IsArranged solver old new
+arranged_of_split limit solver old new content split = arranged_forward solver old new
+    (forward_content limit old content) split
 
 -- the content is arranged if an answer tells that it was split
 pub arranged_answer : {T E : Type 0} (limit : ℕ) (solver : Solver) (answer : Result T E) (old new : List CountedEdge) →

@@ -10,6 +10,7 @@ use Rattle.overlay_plane.specs.Balance.{HasBalancedCounts}
 use Rattle.overlay_plane.specs.Carried.{Carried, edges_in}
 use Rattle.overlay_plane.specs.ChainLinks.{ChainsHold}
 use Rattle.overlay_plane.specs.DerivedData.{AreDerived}
+use Rattle.overlay_plane.specs.FarPoints.{KeepsFarPoints}
 use Rattle.overlay_plane.specs.Meetings.{MeetInWholePoints}
 use Rattle.overlay_plane.specs.Rounds.{Round, MovingRounds}
 
@@ -31,11 +32,15 @@ pub record IsArranged (solver : Solver) (old new : List CountedEdge) : Type 0 wh
   -- the number of rounds that moved some point
   pub moving : ℕ
   pub moved : MovingRounds rounds moving
+  pub few_moving : moving ≤ most_rounds solver
   -- the chains of the edges keep their ends, stay within half a unit for each moving round, and make the counts
   pub chains : ChainsHold rounds moving old new
   -- where the edges meet only in whole points or overlap, there is at most one round, no point moves, and no winding
   -- changes
   pub exact : MeetInWholePoints old → IsExact rounds moving old new
+  -- at each point more than half a unit for each moving round away from the edges, in x or in y, there is no edge, and
+  -- no winding changes
+  pub far : KeepsFarPoints moving old new
   pub balanced : HasBalancedCounts old → HasBalancedCounts new
   -- an arrangement stays as it is
   pub stays : WasArranged old → new ≡ old

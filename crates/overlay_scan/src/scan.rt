@@ -16,7 +16,7 @@ use std::cmp::Ordering;
 /// edge is given by its two ends, the smaller end first.
 ///
 /// Each call but `clear` moves the line to an x, which does not fall until `clear`. Edges that end at or before x are
-/// expired: they no longer count, and the call drops them.
+/// expired: they no longer count, and any call may drop them.
 pub trait Scan<I: IntNumber, V: Copy> {
     // The entries from bottom to top, and the position of the line.
     ghost content: { Self → Sweep V };

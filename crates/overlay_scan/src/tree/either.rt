@@ -1,6 +1,6 @@
 //! Live edges in a list that turns into a tree.
 
-ghost use Rattle.std.specs.Prelude.{◌≡◌, [], None, Some, OnOk, OnErr, IsOkUnless};
+ghost use Rattle.std.specs.Prelude.{◌≡◌, [], None, Some, OnOk, OnErr, IsOkUnless, cond, nat_lt};
 ghost use Rattle.overlay_geom.specs.Lines.{plain_line};
 ghost use Rattle.overlay_scan.specs.Scan.{empty_sweep, live_at, moved_to};
 ghost use Rattle.overlay_scan.specs.Scan.{MayMoveTo, IsOver, IsAsked, IsSweep, IsPutIn};
@@ -71,6 +71,20 @@ impl<I: IntNumber, V: Copy, A: Allocator> EitherScan<I, V, A> {
         EitherScan {
             kept: Kept::Listed(ScanList::default(alloc)),
             most: count,
+        }
+    }
+
+    /// Makes a scan without edges for a `count` of things whose edges it will hold. From `tree_from` things on it is a
+    /// tree from the first edge on. With fewer it is a list, which turns as that of `default` does. It will take its
+    /// memory from the allocator, and takes none yet.
+    pub fn for_count(alloc: A, count: usize, tree_from: usize) -> Self
+        ensures empty { either_sweep I.whole result ≡ empty_sweep }
+        ensures list { result ≡ in_list [] None (cond (nat_lt count tree_from) 2000 0) }
+    {
+        if count < tree_from {
+            EitherScan::default(alloc)
+        } else {
+            EitherScan::turning_at(alloc, 0)
         }
     }
 
