@@ -41,7 +41,7 @@ as_subject s =
         ≡ edge_with (edge_of s).a (edge_of s).b (boolean_counts k)
 
 -- the counted edge of a clip's step
-as_clip : (s : Step) → clip_edge s ≡ edge_for Clip s
+pub as_clip : (s : Step) → clip_edge s ≡ edge_for Clip s
 as_clip s =
     elim (is_forward s) as (λ t. Same (cond t (pos 1) (negsuc 0))
     (cond t (count_for Clip (pos 1)) (count_for Clip (negsuc 0))))

@@ -1,6 +1,7 @@
--- What a builder holds after a call is determined, where all points of paths are taken. Left open is which of several
--- points on one line is dropped first, and whether memory is refused.
+-- What a builder holds after a call is determined where all points of paths are taken. Elsewhere the order of edges is
+-- left open, since a thinned path may begin at another point. So is whether memory is refused.
 use Rattle.std.specs.Prelude.{◌≡◌, Bool, true, false, List, All, Result, IsErrOf}
+use Rattle.std.specs.List.Sorted.{IsPermutation}
 use Rattle.overlay_geom.specs.Edges.{CountedEdge, weight}
 use Rattle.overlay_geom.specs.declared.error.OverlayError.{OverlayError}
 use Rattle.overlay_geom.specs.declared.error.OverlayError.TheVariants.{Memory}
@@ -23,6 +24,11 @@ AreTakenWhole paths = All (λ p. takes_all p.kind ≡ true) paths
 abbrev pub OneContent : Type 0 → Type 0
 OneContent E = (paths : List (AddedPath E)) → AreTakenWhole paths → (old new newer : List E) → AddsPaths paths old new →
     AddsPaths paths old newer → new ≡ newer
+
+-- two contents to which paths lead have the same edges, whichever collinear points were dropped first
+abbrev pub ContentsAreShuffled : Type 0 → Type 0
+ContentsAreShuffled E = (paths : List (AddedPath E)) → (old new newer : List E) → AddsPaths paths old new →
+    AddsPaths paths old newer → IsPermutation new newer
 
 -- two builders to which the paths were added are one, and so are the answers, where memory is not refused
 abbrev pub OneAdding : Type 0

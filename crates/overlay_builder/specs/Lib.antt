@@ -5,4 +5,5 @@ pub mod GivenPaths
 pub mod Held
 pub mod Passing
 pub mod PathLists
+pub mod PathWindings
 pub mod Paths

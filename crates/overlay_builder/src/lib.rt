@@ -6,6 +6,7 @@ pub mod boolean;
 pub mod builder_core;
 pub mod only_contents;
 pub mod path;
+pub mod path_windings;
 pub mod points;
 mod single_step;
 pub mod solver;

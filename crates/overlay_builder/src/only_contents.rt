@@ -1,10 +1,11 @@
 //! What a builder holds is the only content that the contracts of its calls allow.
 
-ghost use Rattle.overlay_builder.specs.Determined.{OneContent, OneAdding};
+ghost use Rattle.overlay_builder.specs.Determined.{OneContent, ContentsAreShuffled, OneAdding};
 
-/// Two contents to which paths lead are equal, where all points of the paths are taken.
+/// Two contents to which paths lead have the same edges. They are equal where all points of the paths are taken.
 pub fn one_content<E>()
-    ensures { OneContent E }
+    ensures shuffled { ContentsAreShuffled E }
+    ensures whole { OneContent E }
 {}
 
 /// Two builders to which such paths were added are equal, and so are the answers, where memory is not refused.
