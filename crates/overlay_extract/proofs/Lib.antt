@@ -15,6 +15,7 @@ pub mod EachSlice
 pub mod FilledEntries
 pub mod FoundEdges
 pub mod FoundLoops
+pub mod GivenRegion
 pub mod GoingOn
 pub mod GroupsInShapes
 pub mod Hierarchies

@@ -1,9 +1,9 @@
--- The edges determine the shapes of an overlay, before collinear points are dropped, and their links.
+-- The edges determine the shapes of an overlay, the contours in one list, and the links of shapes.
 use Rattle.std.proofs.Common.{◌≡◌, ℕ, Bool, true, false, List, map, Option, refl, sym, ap, subst, ◌∙◌}
 use Rattle.std.proofs.lemmas.Bool.{both_ways}
 use Rattle.std.specs.Prelude.{Contains}
 use Rattle.std.specs.List.{AllZip}
-use Rattle.std.proofs.lemmas.List.Elements.{All-contains}
+use Rattle.std.proofs.lemmas.List.Elements.{All-contains, All-map}
 use Rattle.overlay_geom.specs.Plane.{Point, points_of}
 use Rattle.overlay_geom.specs.Edges.{CountedEdge, subj_of, clip_of}
 use Rattle.overlay_geom.specs.Thinned.{IsKeptOrThinned}
@@ -13,27 +13,39 @@ use Rattle.overlay_plane.specs.Islands.{ChildLink, IsLink, AreLinks, link_lt}
 use Rattle.overlay_plane.specs.Regions.{IsRuled}
 use Rattle.overlay_plane.specs.RoledContours.{Contour, group_contours_from, IsCutBy}
 use Rattle.overlay_plane.specs.ShapeWindings.{points_of_shapes, AreKeptOrThinned}
+use Rattle.overlay_plane.specs.Thinning.{HasNoSpikes}
 use Rattle.overlay_plane.specs.Turn.{Hand}
 use Rattle.overlay_plane.proofs.CutWindings.{selected_alternate}
+use Rattle.overlay_plane.proofs.EdgeOrder.{distinct_from_ascending}
 use Rattle.overlay_plane.proofs.Entries.{all_of_entries}
 use Rattle.overlay_plane.proofs.KeptContours.{kept_contours_can_be_bound}
-use Rattle.overlay_arrange.proofs.RuledContents.{ruled_content}
-use Rattle.overlay_extract.specs.Determined.{AreArrangedWithBalance, ShowOneList, ShowOneContours}
-use Rattle.overlay_extract.specs.Determined.{ResultsShowOneList, OneResult, ContoursShowOneList, OneListOfContours}
-use Rattle.overlay_extract.specs.Determined.{OneListOfLinks}
+use Rattle.overlay_plane.proofs.LeadOn.{arranged_lead_on}
+use Rattle.overlay_plane.proofs.NoSpikes.{kept_without, shapes_without, one_shown, one_shown_in_shapes}
+use Rattle.overlay_arrange.proofs.RuledContents.{none_of_zero}
+use Rattle.overlay_extract.specs.Determined.{AreArrangedWithBalance, OneResult, OneListOfContours, OneListOfLinks}
 use Rattle.overlay_extract.specs.Results.{Asked, region_asked, filled_asked, selected_of, is_kept}
 use Rattle.overlay_extract.specs.Results.{IsResult, IsContoursResult}
 use Rattle.overlay_extract.proofs.LinkOrder.{link_lt-order}
 use Rattle.overlay_extract.proofs.OneBound.{one_bound}
 use Rattle.overlay_extract.proofs.OneCut.{one_cut_by}
-use Rattle.overlay_extract.proofs.Results.{same_contours, same_shapes}
 use Rattle.overlay_extract.proofs.SameAscending.{same_ascending}
 
 -- an arrangement is a ruled list
 pub ruled_of : (q : Asked) (es : List CountedEdge) → AreArrangedWithBalance es →
     IsRuled (region_asked q) subj_of clip_of es
-ruled_of q es are = ruled_content are.limit es are.content are.arranged.reached.merged.ascending
-    are.arranged.reached.settled (are.arranged.balanced are.balanced) q.fill q.rule
+ruled_of q es are =
+    let reached = are.arranged.reached in
+    let balanced = are.arranged.balanced are.balanced in
+    record {
+      planar = record {
+        forward = arranged_lead_on are.old es are.arranged.rounds reached.merged are.forward;
+        settled = reached.settled;
+        distinct = distinct_from_ascending es reached.merged.ascending;
+      };
+      subj_balanced = balanced.subj;
+      clip_balanced = balanced.clip;
+      none = none_of_zero q.fill q.rule;
+    }
 
 module _ (q : Asked) (es : List CountedEdge) (are : AreArrangedWithBalance es) where
   -- its selected steps alternate
@@ -67,47 +79,34 @@ module _ (q : Asked) (es : List CountedEdge) (are : AreArrangedWithBalance es) w
         shapes_bound (contours_bound a.contours a.shapes) ≡ shapes_bound (contours_bound b.contours b.shapes)
     same_bound = bound_alike q.ogc a.contours b.contours a.cut b.cut a.shapes b.shapes a.found b.found
 
-    show_one : ShowOneList q.preserve_output_collinear first second
-    show_one = record {
-      given = points_of_shapes (shapes_bound (contours_bound a.contours a.shapes));
-      shown = a.shown;
-      shown_too = subst (λ ss. AreKeptOrThinned q.preserve_output_collinear (points_of_shapes ss) second)
-          (sym same_bound) b.shown;
-    }
+    pub same_result : first ≡ second
+    same_result = one_shown_in_shapes q.preserve_output_collinear given first second
+        (shapes_without (region_asked q) subj_of clip_of es (filled_asked q) q.ogc (is_kept q) a.contours
+        (record { ruled = ruled_of q es are; cut = a.cut }) a.shapes a.found) a.shown
+        (subst (λ ss. AreKeptOrThinned q.preserve_output_collinear (points_of_shapes ss) second) (sym same_bound)
+        b.shown)
+      where
+        given : List (List (List Point))
+        given = points_of_shapes (shapes_bound (contours_bound a.contours a.shapes))
 
   module _ (first second : List (List Point)) (a : IsContoursResult q es first) (b : IsContoursResult q es second) where
     -- likewise of contours in one list
     same_list : a.contours ≡ b.contours
     same_list = cut_alike false a.contours b.contours a.cut b.cut
 
-    show_one_list : ShowOneContours q.preserve_output_collinear first second
-    show_one_list = record {
-      given = map points_of (walks_in a.contours);
-      shown = a.shown;
-      shown_too = subst
-          (λ cs. AllZip (IsKeptOrThinned q.preserve_output_collinear) (map points_of (walks_in cs)) second)
-          (sym same_list) b.shown;
-    }
+    pub same_contours : first ≡ second
+    same_contours = one_shown q.preserve_output_collinear (map points_of (walks_in a.contours)) first second
+        (All-map HasNoSpikes points_of (walks_in a.contours)
+        (kept_without (region_asked q) subj_of clip_of es (filled_asked q) false (is_kept q) a.contours
+        (record { ruled = ruled_of q es are; cut = a.cut }))) a.shown
+        (subst (λ cs. AllZip (IsKeptOrThinned q.preserve_output_collinear) (map points_of (walks_in cs)) second)
+        (sym same_list) b.shown)
 
-pub results_show_one_list : ResultsShowOneList
-results_show_one_list = show_one
-
--- with all points kept, both results are the shapes that they show
 pub one_result : OneResult
-one_result q es are first second keep a b =
-    let show = show_one q es are first second a b in
-    same_shapes show.given first (subst (λ k. AreKeptOrThinned k show.given first) keep show.shown)
-    ∙ sym (same_shapes show.given second (subst (λ k. AreKeptOrThinned k show.given second) keep show.shown_too))
-
-pub contours_show_one_list : ContoursShowOneList
-contours_show_one_list = show_one_list
+one_result = same_result
 
 pub one_list_of_contours : OneListOfContours
-one_list_of_contours q es are first second keep a b =
-    let show = show_one_list q es are first second a b in
-    same_contours show.given first (subst (λ k. AllZip (IsKeptOrThinned k) show.given first) keep show.shown)
-    ∙ sym (same_contours show.given second
-    (subst (λ k. AllZip (IsKeptOrThinned k) show.given second) keep show.shown_too))
+one_list_of_contours = same_contours
 
 -- ---- links
 

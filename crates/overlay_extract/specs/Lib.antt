@@ -3,6 +3,7 @@ pub mod ChildLinks
 pub mod ClosedWalks
 pub mod Determined
 pub mod FilledSides
+pub mod GivenRegion
 pub mod HolePlaces
 pub mod InShapes
 pub mod Laws

@@ -5,7 +5,7 @@ pub mod bind;
 mod by_start;
 mod filled_above_edges;
 pub mod islands;
-mod known_shapes;
+pub(crate) mod known_shapes;
 pub mod placed;
 pub mod places;
 mod side;

@@ -13,7 +13,8 @@ use crate::assemble::assembled;
 use crate::binding::placed::placed_contours;
 use crate::child_link::ChildLink;
 use crate::in_shapes::in_shapes;
-use crate::links::links;
+use crate::limits::TREE_FROM_PARENTS;
+use crate::links::link_from;
 use overlay_arrange::count::EdgeCount;
 use overlay_arrange::graph::Graph;
 use overlay_arrange::options::IntOverlayOptions;
@@ -21,7 +22,6 @@ use overlay_arrange::overlay_rule::OverlayRule;
 use overlay_geom::error::OverlayError;
 use overlay_geom::flat::shapes::FlatShapesBuffer;
 use overlay_geom::number::IntNumber;
-use overlay_scan::tree::either::EitherScan;
 use overlay_walk::buffer::BooleanExtractionBuffer;
 use std::alloc::Allocator;
 
@@ -99,13 +99,8 @@ pub fn extract_shape_hierarchy<I: IntNumber, C: EdgeCount, A: Allocator + Clone>
         keeps_points,
     )?;
     let ordered = in_shapes(alloc.clone()?, &placed.contours, &placed.places)?;
-    let mut scan = EitherScan::default(alloc.clone()?);
-    let links = links(
-        alloc.clone()?,
-        &mut scan,
-        &ordered,
-        options.output_direction,
-    )?;
+    let direction = options.output_direction;
+    let links = link_from(alloc.clone()?, &ordered, direction, TREE_FROM_PARENTS)?;
     let shapes = FlatShapesBuffer::from_shapes(alloc.clone()?, &shapes)?;
     Ok(FlatShapeHierarchy { shapes, links })
 }

@@ -10,6 +10,7 @@ pub mod flat_shapes;
 pub mod hierarchy;
 pub mod in_shapes;
 pub mod laws;
+mod limits;
 pub mod links;
 pub mod only_answers;
 pub mod slicing;

@@ -11,12 +11,35 @@ ghost use Rattle.overlay_extract.specs.ChildLinks.{plain_link, HaveOtherChildren
 ghost use Rattle.overlay_extract.specs.Links.{link_at, links_from};
 
 use crate::binding::islands::holes_round;
+use crate::binding::known_shapes::shape_count;
 use crate::child_link::{ChildLink, sort_links};
 use overlay_arrange::options::ContourDirection;
 use overlay_geom::number::IntNumber;
 use overlay_scan::scan::Scan;
+use overlay_scan::tree::either::EitherScan;
 use overlay_walk::contour::Contour;
 use std::alloc::{AllocError, Allocator};
+
+/// Returns the links that [`links`] gives, for a limit of the caller's. Where there are `tree_from` holes or more, the
+/// live edges stand in a tree from the first one on. Else they stand in a list, which turns into a tree when it would
+/// hold many. The answer does not depend on it.
+pub fn link_from<I: IntNumber, A: Allocator + Clone>(
+    alloc: A,
+    contours: &[Contour<I, A>],
+    direction: ContourDirection,
+    tree_from: usize,
+) -> Result<Vec<ChildLink, A>, AllocError>
+    requires long { All (All (IsLong I.limit)) (walks_in (plain_contours I.whole contours.now)) }
+    requires bindable { CanBeBound (filled_hand direction) (walks_in (plain_contours I.whole contours.now)) }
+    requires in_shapes { AreInShapes (plain_contours I.whole contours.now) }
+    ensures links { IfOk result (λ v. AreLinks (filled_hand direction) (plain_contours I.whole contours.now)
+        (map plain_link v.items)) }
+    ensures children { IfOk result (λ v. HaveOtherChildren (map plain_link v.items)) }
+{
+    let holes = contours.len() - shape_count(contours);
+    let mut scan = EitherScan::for_count(alloc.clone()?, holes, tree_from);
+    links(alloc, &mut scan, contours, direction)
+}
 
 /// Returns the links of contours that all stand in shapes, shape by shape, in order. Each shape in a hole of another
 /// shape has a link: the other shape, the place of the hole among the contours, and the shape. The scan is empty at

@@ -20,6 +20,7 @@ use crate::binding::sweep::parents_by_sweep;
 use overlay_arrange::options::ContourDirection;
 use overlay_geom::number::IntNumber;
 use overlay_scan::scan::Scan;
+use overlay_scan::tree::either::EitherScan;
 use overlay_walk::contour::Contour;
 use std::alloc::{AllocError, Allocator};
 
@@ -30,6 +31,25 @@ fn all_in_first<A: Allocator>(alloc: A, count: usize) -> Result<Vec<Option<usize
     let mut numbers = Vec::new(alloc);
     numbers.resize(count, Some(0))?;
     Ok(numbers)
+}
+
+/// Returns the list that [`bind_contours`] gives, for a limit of the caller's. Where there are `tree_from` outlines or
+/// more, the live edges stand in a tree from the first one on. Else they stand in a list, which turns into a tree when
+/// it would hold many. The answer does not depend on it.
+pub fn bind_from<I: IntNumber, A: Allocator + Clone>(
+    alloc: A,
+    contours: &[Contour<I, A>],
+    direction: ContourDirection,
+    tree_from: usize,
+) -> Result<Vec<Option<usize>, A>, AllocError>
+    requires long { All (All (IsLong I.limit)) (walks_in (plain_contours I.whole contours.now)) }
+    requires bindable { CanBeBound (filled_hand direction) (walks_in (plain_contours I.whole contours.now)) }
+    ensures found { IfOk result
+        (λ v. AreShapesFound (filled_hand direction) (plain_contours I.whole contours.now) v.items) }
+{
+    let shapes = shape_count(contours);
+    let mut scan = EitherScan::for_count(alloc.clone()?, shapes, tree_from);
+    bind_contours(alloc, &mut scan, contours, direction)
 }
 
 /// Returns a list with an entry for each contour. The entry of a hole whose shape is to be found is the number of its

@@ -12,14 +12,14 @@ ghost use Rattle.overlay_extract.specs.Placed.{ArePlacedSomehow, ArePlacedResult
 ghost use Rattle.overlay_extract.specs.Places.{place_lists};
 ghost use Rattle.overlay_walk.specs.Asked.{asked};
 
-use crate::binding::bind::bind_contours;
+use crate::binding::bind::bind_from;
 use crate::binding::places::{ShapePlaces, shape_places};
+use crate::limits::TREE_FROM_PARENTS;
 use overlay_arrange::count::EdgeCount;
 use overlay_arrange::graph::Graph;
 use overlay_arrange::options::{ContourDirection, IntOverlayOptions};
 use overlay_arrange::overlay_rule::OverlayRule;
 use overlay_geom::number::IntNumber;
-use overlay_scan::tree::either::EitherScan;
 use overlay_walk::buffer::BooleanExtractionBuffer;
 use overlay_walk::contour::Contour;
 use overlay_walk::kept_contours::{kept_contours, kept_contours_of};
@@ -104,7 +104,6 @@ fn places_found<I: IntNumber, A: Allocator + Clone>(
     ensures placed { IfOk result (λ v.
         ArePlacedSomehow (filled_hand direction) (plain_contours I.whole contours.now) (place_lists v.items)) }
 {
-    let mut scan = EitherScan::default(alloc.clone()?);
-    let found = bind_contours(alloc.clone()?, &mut scan, contours, direction)?;
+    let found = bind_from(alloc.clone()?, contours, direction, TREE_FROM_PARENTS)?;
     shape_places(alloc, contours, &found)
 }

@@ -8,14 +8,14 @@ ghost use Rattle.overlay_extract.specs.Slices.{AreSliceContours, AreSlices};
 ghost use Rattle.overlay_walk.specs.GroupedContours.{plain_contours};
 ghost use Rattle.overlay_walk.specs.Steps.{IsLong};
 
-use crate::binding::bind::bind_contours;
+use crate::binding::bind::bind_from;
+use crate::limits::TREE_FROM_PARENTS;
 use crate::slicing::loops::filled_loops;
 use crate::slicing::roles::contours_of_loops;
 use overlay_arrange::count::EdgeCount;
 use overlay_arrange::graph::Graph;
 use overlay_arrange::options::ContourDirection;
 use overlay_geom::number::{IntNumber, UIntNumber, WideIntNumber};
-use overlay_scan::tree::either::EitherScan;
 use overlay_walk::area::large_walks;
 use overlay_walk::contour::Contour;
 use std::alloc::{AllocError, Allocator};
@@ -44,13 +44,8 @@ pub fn slice_contours<I: IntNumber, C: EdgeCount, A: Allocator + Clone>(
 {
     let contours = kept_loops(graph, min_output_area)?;
     let alloc = graph.allocator().clone()?;
-    let mut scan = EitherScan::default(alloc.clone()?);
-    let shapes = bind_contours(
-        alloc,
-        &mut scan,
-        &contours,
-        ContourDirection::CounterClockwise,
-    )?;
+    let direction = ContourDirection::CounterClockwise;
+    let shapes = bind_from(alloc, &contours, direction, TREE_FROM_PARENTS)?;
     Ok(SliceContours { contours, shapes })
 }
 

@@ -50,8 +50,8 @@ in_shapes-requires-clause-begun g c =
     (places_begun q (graph_edges c.args.graph.now) (plain_contours whole c.in_ok-placed.placed.contours.items)
     (place_lists c.in_ok-placed.placed.places.items) c.in_ok-placed.ensures.placed)
 
-pub links-requires-clause-long : goal.links-requires-clause-long
-links-requires-clause-long g c =
+pub link_from-requires-clause-long : goal.link_from-requires-clause-long
+link_from-requires-clause-long g c =
     let whole = g.I.IntNumber.whole in
     let q = asked g.I.Wide.WideIntNumber.width g.I.WideUInt.UIntNumber.natural c.args.graph.now.fill_rule
     c.args.overlay_rule c.args.options in
@@ -67,8 +67,8 @@ links-requires-clause-long g c =
     (ordered_have q es cs places c.in_ok-placed.ensures.placed (All (IsLong g.I.IntNumber.limit))
     c.in_ok-placed.ensures.long)
 
-pub links-requires-clause-bindable : goal.links-requires-clause-bindable
-links-requires-clause-bindable g c =
+pub link_from-requires-clause-bindable : goal.link_from-requires-clause-bindable
+link_from-requires-clause-bindable g c =
     let whole = g.I.IntNumber.whole in
     let q = asked g.I.Wide.WideIntNumber.width g.I.WideUInt.UIntNumber.natural c.args.graph.now.fill_rule
     c.args.overlay_rule c.args.options in
@@ -83,8 +83,8 @@ links-requires-clause-bindable g c =
     subst (λ ds. CanBeBound (filled_hand c.args.options.output_direction) (walks_in ds)) (sym same)
     (ordered_bindable q es cs places c.in_ok-placed.ensures.placed)
 
-pub links-requires-clause-in_shapes : goal.links-requires-clause-in_shapes
-links-requires-clause-in_shapes g c =
+pub link_from-requires-clause-in_shapes : goal.link_from-requires-clause-in_shapes
+link_from-requires-clause-in_shapes g c =
     let whole = g.I.IntNumber.whole in
     let q = asked g.I.Wide.WideIntNumber.width g.I.WideUInt.UIntNumber.natural c.args.graph.now.fill_rule
     c.args.overlay_rule c.args.options in

@@ -4,8 +4,8 @@ use Rattle.overlay_extract.proofs.KeptLoops.{slices_can_be_bound}
 use Rattle.overlay_walk.specs.GroupedContours.{plain_contours}
 use Rattle.overlay_extract.proofs.slicing.slices.slice_contours.Goals as goal
 
-pub bind_contours-requires-clause-bindable : goal.bind_contours-requires-clause-bindable
-bind_contours-requires-clause-bindable g c =
+pub bind_from-requires-clause-bindable : goal.bind_from-requires-clause-bindable
+bind_from-requires-clause-bindable g c =
     let graph = c.args.graph.now in
     rw c.deref.ensures.value (slices_can_be_bound g.I.IntNumber.limit g.I.Wide.WideIntNumber.width
     (g.I.WideUInt.UIntNumber.natural c.args.min_output_area) graph.fill_rule (graph_edges graph)
