@@ -17,6 +17,7 @@ use Rattle.overlay_plane.proofs.LinksKept.{IsLong}
 use Rattle.overlay_plane.proofs.NearChains.{long_forward}
 use Rattle.overlay_plane.proofs.StepsAlong.{long_through}
 use Rattle.overlay_arrange.specs.Arranged.{IsArranged, most_rounds}
+use Rattle.overlay_arrange.proofs.ArrangedLists.{arranged_forward}
 use Rattle.overlay_arrange.specs.Content.{count_for, edge_for, edge_with}
 use Rattle.overlay_arrange.specs.Counts.{boolean_counts}
 use Rattle.overlay_arrange.specs.declared.options.ShapeType.{ShapeType}
@@ -31,7 +32,7 @@ use Rattle.overlay_relate.specs.Exchanged.{other_shape, exchanged_path, exchange
 use Rattle.overlay_relate.specs.Exchanged.{ExchangingKeepsArrangements}
 use Rattle.overlay_relate.specs.PredicateLaws.{exchanged}
 use Rattle.overlay_relate.proofs.ExchangedMerges.{weight_exchanged}
-use Rattle.overlay_relate.proofs.ExchangedRounds.{split_exchanged, split_shuffled, arranged_forward}
+use Rattle.overlay_relate.proofs.ExchangedRounds.{split_exchanged, split_shuffled}
 
 -- ---- the exchanged paths
 

@@ -14,15 +14,9 @@ use Rattle.overlay_geom.specs.declared.solver.Solver.{Solver}
 use Rattle.overlay_geom.specs.declared.solver.Solver.TheVariants.{Rounds, Snapping}
 use Rattle.overlay_plane.specs.Arrangements.{IsReachedBy, IsSplit}
 use Rattle.overlay_plane.specs.Cutting.{piece_along, pieces_through}
-use Rattle.overlay_plane.specs.EdgeLists.{IsForwardBy}
 use Rattle.overlay_plane.specs.Meetings.{MeetsAnother}
 use Rattle.overlay_plane.specs.RoundLists.{IsRoundBy, AreRounds}
 use Rattle.overlay_plane.specs.Rounds.{Round, IsCutAt, IsRound, pieces_of, after_rounds}
-use Rattle.overlay_plane.proofs.AfterRounds.{arrangements_keep_balance, arranged_stays_arranged}
-use Rattle.overlay_plane.proofs.ExactRounds.{whole_meetings_are_exact}
-use Rattle.overlay_plane.proofs.HeldChains.{arrangements_hold_chains}
-use Rattle.overlay_plane.proofs.MovedPoints.{moving_rounds}
-use Rattle.overlay_arrange.specs.Arranged.{IsArranged, most_rounds}
 use Rattle.overlay_relate.specs.PredicateLaws.{exchanged}
 use Rattle.overlay_relate.proofs.ExchangedMeetings.{settled_back, settled_exchanged, meets_exchanged, meets_back}
 use Rattle.overlay_relate.proofs.ExchangedMeetings.{whole_back, whole_exchanged}
@@ -158,22 +152,4 @@ split_shuffled solver most old other new same h =
       cut = (round_shuffled solver old other r same reached.cut.0, reached.cut.1);
       merged = reached.merged;
       settled = reached.settled;
-    }
-
--- forward edges that were split are arranged
-pub arranged_forward : (solver : Solver) (old new : List CountedEdge) → IsForwardBy ends_of old →
-    IsSplit solver (most_rounds solver) old new → IsArranged solver old new
-arranged_forward solver old new forward split =
-    let moving = moving_rounds split.rounds in
-    record {
-      rounds = split.rounds;
-      few = split.few;
-      reached = split.reached;
-      moving = moving.0;
-      moved = moving.1;
-      chains = arrangements_hold_chains solver split.rounds moving.0 old new forward split.reached moving.1;
-      exact = λ whole. whole_meetings_are_exact.exact solver split.rounds moving.0 old new forward whole
-          split.reached moving.1;
-      balanced = arrangements_keep_balance solver split.rounds old new split.reached;
-      stays = λ was. arranged_stays_arranged was.0 solver was.2 split.rounds was.1 old new was.3 split.reached;
     }

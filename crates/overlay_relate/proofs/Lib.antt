@@ -29,6 +29,7 @@ pub mod NextEdge
 pub mod NextEnds
 pub mod OnEdges
 pub mod OneLocation
+pub mod OneTruth
 pub mod OnWalls
 pub mod Parities
 pub mod PredicateBuilders

@@ -1,12 +1,14 @@
 -- Locations and relations are the only ones.
-use Rattle.std.specs.Prelude.{◌≡◌, ℤ, Bool, List}
-use Rattle.overlay_geom.specs.Plane.{Point, PlanePoint, Edge}
+use Rattle.std.specs.Prelude.{◌≡◌, ◌↔◌, ℤ, Bool, List, All, IsTrue}
+use Rattle.overlay_geom.specs.Plane.{Point, PlanePoint, Edge, in_plane, IsOff}
 use Rattle.overlay_geom.specs.Edges.{CountedEdge}
-use Rattle.overlay_relate.specs.Answers.{AnswersWhere}
+use Rattle.overlay_plane.specs.Predicates.{IsDisjoint}
+use Rattle.overlay_relate.specs.Answers.{AnswersWhere, AnswersWhether}
 use Rattle.overlay_relate.specs.Bounded.{IsLocatedUnder}
 use Rattle.overlay_relate.specs.Locations.{IsLocatedIn, IsLocatedAmong, IsLocatedBy}
-use Rattle.overlay_relate.specs.PredicateQueries.{AreRelations}
+use Rattle.overlay_relate.specs.PredicateQueries.{AreRelations, Holds}
 use Rattle.overlay_relate.specs.declared.location.PointLocation.{PointLocation}
+use Rattle.overlay_relate.specs.declared.predicate.Predicate.{Predicate}
 use Rattle.overlay_relate.specs.declared.relations.Relations.{Relations}
 
 -- two lists of locations of the same points, in one shape, are one
@@ -34,3 +36,19 @@ OneLocationBy = (es : List Edge) (p : PlanePoint) (l m : PointLocation) → IsLo
 abbrev pub OneAnswerOfRelations : Type 0
 OneAnswerOfRelations = (filled : ℤ → Bool) (es : List CountedEdge) (first second : Relations) →
     AreRelations filled es first → AreRelations filled es second → first ≡ second
+
+-- two answers that tell of one predicate of one arrangement are one
+abbrev pub OneAnswerOfPredicate : Type 0
+OneAnswerOfPredicate = (p : Predicate) (filled : ℤ → Bool) (es : List CountedEdge) (first second : Bool) →
+    IsTrue first ↔ Holds p filled es → IsTrue second ↔ Holds p filled es → first ≡ second
+
+-- and two that tell whether subject and clip are disjoint
+abbrev pub OneAnswerOfDisjoint : Type 0
+OneAnswerOfDisjoint = (filled : ℤ → Bool) (es : List CountedEdge) (first second : Bool) →
+    IsTrue first ↔ IsDisjoint filled es → IsTrue second ↔ IsDisjoint filled es → first ≡ second
+
+-- two lists that tell of points off all edges whether they are inside are one
+abbrev pub OneListOfInsides : Type 0
+OneListOfInsides = (es : List Edge) (is_inside : PlanePoint → Bool) (queries : List Point) (first second : List Bool) →
+    All (λ q. IsOff es (in_plane q)) queries → AnswersWhether es is_inside queries first →
+    AnswersWhether es is_inside queries second → first ≡ second

@@ -7,6 +7,7 @@ pub mod JoinedRuns
 pub mod Joining
 pub mod ListedVectors
 pub mod OneVectorShapes
+pub mod OneVectors
 pub mod SideFills
 pub mod VectorContours
 pub mod VectorShapes

@@ -2,6 +2,7 @@
 
 ghost use Rattle.overlay_vector.specs.JoinedRuns.{JoinedEdgesStandForTheirs};
 ghost use Rattle.overlay_vector.specs.OneVectorShapes.{VectorShapesShowOneList, OneListOfVectorShapes};
+ghost use Rattle.overlay_vector.specs.OneVectors.{OneListOfVectors};
 ghost use Rattle.overlay_vector.specs.SideFills.{TurningTwiceKeepsFills};
 
 use overlay_arrange::data::OverlayEdgeData;
@@ -22,4 +23,9 @@ pub fn reversed_twice_keeps_four_bits()
 pub fn one_list_of_vector_shapes<D: OverlayEdgeData>()
     ensures shown { VectorShapesShowOneList D.reverses D.eq }
     ensures kept { OneListOfVectorShapes D.reverses D.eq }
+{}
+
+/// Two answers as edges, which list the selected edges of one arrangement with data, are equal.
+pub fn one_list_of_vectors<D: OverlayEdgeData>()
+    ensures { OneListOfVectors D }
 {}
