@@ -1,0 +1,64 @@
+-- Clips and slices of the same paths by snap rounding are one: their contents have the same edges, so there is one
+-- arrangement.
+use Rattle.std.proofs.Common.{◌≡◌, true, List, [], ◌∷◌, ◌++◌, map, subst}
+use Rattle.std.specs.List.{All}
+use Rattle.std.proofs.lemmas.List.Elements.{All-nil, All-cons, All-append}
+use Rattle.overlay_geom.specs.Edges.{CountedEdge}
+use Rattle.overlay_geom.specs.Plane.{Point, point_lt}
+use Rattle.overlay_geom.specs.declared.solver.Solver.TheVariants.{Snapping}
+use Rattle.overlay_plane.proofs.NearChains.{long_forward}
+use Rattle.overlay_plane.proofs.OneArrangement.{one_arrangement_of_shuffled}
+use Rattle.overlay_arrange.specs.Arranged.{IsArranged}
+use Rattle.overlay_arrange.specs.declared.options.ContourDirection.TheVariants.{CounterClockwise}
+use Rattle.overlay_builder.specs.PathLists.{AddedPath, HoldsPaths}
+use Rattle.overlay_builder.proofs.LeadOn.{HasForwardEdges, paths_lead_on}
+use Rattle.overlay_builder.proofs.ShuffledContents.{contents_are_shuffled}
+use Rattle.overlay_extract.proofs.OneSlicing.{one_slicing}
+use Rattle.overlay_string.specs.ClipPaths.{ArePathsOf}
+use Rattle.overlay_string.specs.ClipPieces.{clip_pieces}
+use Rattle.overlay_string.specs.OneAnswer.{OneClipOfStrings, OneSlicingAlongStrings}
+use Rattle.overlay_string.specs.OneShot.{shape_and_strings}
+use Rattle.overlay_string.specs.StringPaths.{shape_contour, shape_contours, open_string, open_strings}
+use Rattle.overlay_string.specs.StringSlices.{IsSlicedWhole}
+use Rattle.overlay_string.proofs.OneClip.{one_clip}
+
+-- ---- one arrangement
+
+-- the edges of contours and of strings lead forward
+contours_lead : (shape : List (List Point)) → All HasForwardEdges (shape_contours shape)
+contours_lead [] = All-nil HasForwardEdges
+contours_lead (ps ∷ shape) = All-cons HasForwardEdges (shape_contour ps) (shape_contours shape)
+    (record { leads = λ s long. long_forward s long }) (contours_lead shape)
+
+strings_lead : (strings : List (List Point)) → All HasForwardEdges (open_strings strings)
+strings_lead [] = All-nil HasForwardEdges
+strings_lead (ps ∷ strings) = All-cons HasForwardEdges (open_string ps) (open_strings strings)
+    (record { leads = λ s long. long_forward s long }) (strings_lead strings)
+
+one_arrangement_of_strings : (shape strings : List (List Point)) (content other es fs : List CountedEdge) →
+    HoldsPaths (shape_and_strings shape strings) content → HoldsPaths (shape_and_strings shape strings) other →
+    IsArranged Snapping content es → IsArranged Snapping other fs → es ≡ fs
+one_arrangement_of_strings shape strings content other es fs holds holds' arranged arranged' =
+    one_arrangement_of_shuffled arranged.rounds arranged'.rounds content other es fs
+    (paths_lead_on paths [] content (All-append HasForwardEdges (shape_contours shape) (open_strings strings)
+    (contours_lead shape) (strings_lead strings)) holds.added (All-nil (λ e. point_lt e.a e.b ≡ true)))
+    (contents_are_shuffled paths [] content other holds.added holds'.added) arranged.reached arranged'.reached
+  where
+    paths : List (AddedPath CountedEdge)
+    paths = shape_and_strings shape strings
+
+-- ---- answers
+
+pub one_clip_of_strings : OneClipOfStrings
+one_clip_of_strings fill rule shape strings first second a b =
+    let same = one_arrangement_of_strings shape strings a.content b.content a.clipped.arrangement b.clipped.arrangement
+    a.holds b.holds a.clipped.arranged b.clipped.arranged in
+    one_clip (clip_pieces fill rule b.clipped.arrangement) first second
+    (subst (λ es. ArePathsOf (clip_pieces fill rule es) first) same a.clipped.paths_of) b.clipped.paths_of
+
+pub one_slicing_along_strings : OneSlicingAlongStrings
+one_slicing_along_strings width fill shape strings first second a b =
+    let same = one_arrangement_of_strings shape strings a.content b.content a.sliced.arrangement b.sliced.arrangement
+    a.holds b.holds a.sliced.arranged b.sliced.arranged in
+    one_slicing width 0 fill CounterClockwise b.sliced.arrangement first second
+    (subst (λ es. IsSlicedWhole width fill es first) same a.sliced.sliced) b.sliced.sliced

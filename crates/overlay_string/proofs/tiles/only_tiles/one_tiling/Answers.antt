@@ -1,6 +1,0 @@
--- The law is proved in proofs/OneGrid.antt.
-use Rattle.overlay_string.proofs.OneGrid.{one_tiling}
-use Rattle.overlay_string.proofs.tiles.only_tiles.one_tiling.Goals as goal
-
-pub returns : goal.returns
-returns c = one_tiling

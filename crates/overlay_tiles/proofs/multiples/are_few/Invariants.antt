@@ -1,0 +1,15 @@
+-- As many multiples are counted as there are before the next one.
+use Rattle.std.proofs.Common.{◌≡◌, ◌≤◌, ℤ, List, length}
+use Rattle.overlay_tiles.specs.Spans.{plain_span}
+use Rattle.overlay_tiles.proofs.FrontMultiples.{AreFirst, way_left}
+use Rattle.overlay_tiles.proofs.multiples.are_few.Given as goal
+
+abbrev pub invariant-loop-next : goal.invariant-loop-next
+invariant-loop-next g l =
+    let whole = g.I.IntNumber.whole in
+    (l.count ≤ 1000)
+    × ((zs : List ℤ) × (length zs ≡ l.count)
+    × AreFirst whole (whole l.fn.step) (plain_span whole l.fn.span) zs l.next)
+
+abbrev pub decreases-loop-next : goal.decreases-loop-next
+decreases-loop-next g l = way_left g.I.IntNumber.whole (g.I.IntNumber.whole l.fn.span.greatest) l.next
