@@ -1,4 +1,4 @@
-//! The union of two contours.
+//! The union of two contours, by snap rounding.
 
 ghost use Rattle.overlay_geom.specs.Points.{plain_points, AllInRange};
 
@@ -9,6 +9,7 @@ use i_overlay::i_shape::int::path::PathRef;
 use i_overlay::i_shape::int::shape::IntShapes;
 use i_overlay::overlay_rule::OverlayRule;
 use i_overlay::single::SingleIntOverlay;
+use i_overlay::solver::Solver;
 use std::alloc::Global;
 
 /// Returns the shapes that two contours fill together.
@@ -20,6 +21,7 @@ pub fn union_of(
     requires left { AllInRange 1073741823 (plain_points (λ z. z) left.now) }
     requires right { AllInRange 1073741823 (plain_points (λ z. z) right.now) }
 {
-    let right = PathRef::new(right);
-    PathRef::new(left).overlay(alloc, &right, OverlayRule::Union, FillRule::NonZero)
+    let (left, right) = (PathRef::new(left), PathRef::new(right));
+    let (rule, fill) = (OverlayRule::Union, FillRule::NonZero);
+    left.overlay_with_solver(alloc, &right, rule, fill, Solver::SNAPPED)
 }

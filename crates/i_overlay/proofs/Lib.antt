@@ -1,10 +1,11 @@
-mod Rows
 pub mod AddedAlone
 pub mod Builders
 pub mod ClosedPoints
 pub mod DirectionRead
+pub mod GivenRegions
 pub mod HeldAlone
 pub mod LeastPoints
+pub mod OneAnswer
 pub mod OneOutcome
 pub mod OneQuery
 pub mod OneShots
@@ -13,6 +14,7 @@ pub mod Outcomes
 pub mod Queries
 pub mod Relations
 pub mod ReversedContours
+mod Rows
 pub mod SimpleEdges
 pub mod SimpleWindings
 pub mod SimplifiedContours

@@ -5,7 +5,6 @@ use Rattle.overlay_geom.specs.declared.error.OverlayError.{OverlayError}
 use Rattle.overlay_geom.specs.Edges.{CountedEdge}
 use Rattle.overlay_geom.specs.Plane.{Point}
 use Rattle.overlay_geom.specs.declared.solver.Solver.{Solver}
-use Rattle.overlay_geom.specs.declared.solver.Solver.TheVariants.{Rounds}
 use Rattle.overlay_plane.specs.Predicates.{Intersects, IsDisjoint, IsFillable}
 use Rattle.overlay_arrange.specs.Arranged.{IsArranged}
 use Rattle.overlay_arrange.specs.Rules.{is_filled}
@@ -38,20 +37,20 @@ answer_of_paths solver by (Ok b) relation fill paths content edges holds arrange
 answer_of_paths solver by (Err e) relation fill paths content edges holds arranged fillable tells = tt
 
 -- so it is where the builder is new, and holds the paths of a subject and of a clip
-pub answer_of_two : (limit : ℕ) (relation : (ℤ → Bool) → List CountedEdge → Type 0) (subj clip : List (List Point))
-    (old new : PredicateBuilder) (r : Result Bool OverlayError)
+pub answer_of_two : (solver : Solver) (limit : ℕ) (relation : (ℤ → Bool) → List CountedEdge → Type 0)
+    (subj clip : List (List Point)) (old new : PredicateBuilder) (r : Result Bool OverlayError)
     → HoldsPaths (added_paths false (subject_and_clip subj clip)) old.edges
-    → old ≡ record (empty_builder EvenOdd Rounds) { edges = old.edges }
-    → TellsRelation limit relation old new r → TellsOfTwo relation subj clip r
-answer_of_two limit relation subj clip old new r holds made told =
+    → old ≡ record (empty_builder EvenOdd solver) { edges = old.edges }
+    → TellsRelation limit relation old new r → TellsOfTwo solver relation subj clip r
+answer_of_two solver limit relation subj clip old new r holds made told =
     let paths = subject_and_clip subj clip in
     let by = ap (λ o. o.solver) made in
     let rule = ap (λ o. o.fill_rule) made in
     record {
-      answer = answer_of_paths Rounds by r relation EvenOdd paths old.edges new.edges holds told.query.arranged
+      answer = answer_of_paths solver by r relation EvenOdd paths old.edges new.edges holds told.query.arranged
           (subst (λ fill. OnOk r (IsFillable (is_filled fill) new.edges)) rule told.fillable)
           (subst (λ fill. IfOk r (λ b. IsTrue b ↔ relation (is_filled fill) new.edges)) rule told.answer);
-      err = query_refused Rounds by limit paths (held_by old) (held_by new) r holds (ap (λ o. o.failed) made)
+      err = query_refused solver by limit paths (held_by old) (held_by new) r holds (ap (λ o. o.failed) made)
           told.query;
     }
 

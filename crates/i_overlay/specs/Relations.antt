@@ -5,7 +5,6 @@ use Rattle.overlay_geom.specs.Plane.{Point}
 use Rattle.overlay_geom.specs.Points.{AllInRange}
 use Rattle.overlay_geom.specs.declared.error.OverlayError.{OverlayError}
 use Rattle.overlay_geom.specs.declared.solver.Solver.{Solver}
-use Rattle.overlay_geom.specs.declared.solver.Solver.TheVariants.{Rounds}
 use Rattle.overlay_plane.specs.Predicates.{IsWithin, IsFillable}
 use Rattle.overlay_arrange.specs.Arranged.{IsArranged}
 use Rattle.overlay_arrange.specs.Rules.{is_filled}
@@ -29,18 +28,18 @@ pub record TellsOfPaths (solver : Solver) (relation : (ℤ → Bool) → List Co
   pub fillable : IsFillable (is_filled fill) edges
   pub tells : IsTrue answer ↔ relation (is_filled fill) edges
 
--- ---- a relation of a subject and a clip, by rounds and under EvenOdd
+-- ---- a relation of a subject and a clip, under EvenOdd
 
 -- the points of both are in the coordinate range
 pub record AreBothInRange (limit : ℕ) (subj clip : List (List Point)) : Type 0 where
   pub subj_in_range : All (AllInRange limit) subj
   pub clip_in_range : All (AllInRange limit) clip
 
--- the answer tells whether the relation holds of their paths, and a refusal is one of those paths
-pub record TellsOfTwo (relation : (ℤ → Bool) → List CountedEdge → Type 0) (subj clip : List (List Point))
-    (result : Result Bool OverlayError) : Type 0 where
-  pub answer : IfOk result (TellsOfPaths Rounds relation EvenOdd (subject_and_clip subj clip))
-  pub err : IfErr result (MayRefusePaths Rounds (subject_and_clip subj clip))
+-- the answer tells whether the relation holds of their paths by the solver, and a refusal is one of those paths
+pub record TellsOfTwo (solver : Solver) (relation : (ℤ → Bool) → List CountedEdge → Type 0)
+    (subj clip : List (List Point)) (result : Result Bool OverlayError) : Type 0 where
+  pub answer : IfOk result (TellsOfPaths solver relation EvenOdd (subject_and_clip subj clip))
+  pub err : IfErr result (MayRefusePaths solver (subject_and_clip subj clip))
 
 -- ---- all relations
 

@@ -15,6 +15,7 @@ pub mod hierarchy;
 pub mod i_float;
 pub mod i_shape;
 pub mod integer;
+pub mod only_answers;
 pub mod only_queries;
 pub mod only_simplified;
 pub mod overlay;

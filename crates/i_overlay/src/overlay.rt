@@ -1,5 +1,6 @@
 //! The overlay builder: contours are added, and queries are answered.
 
+ghost use Rattle.std.specs.List.{flat_map};
 ghost use Rattle.std.specs.Prelude.{◌≡◌, false, [], map, Some, IfOk, OnOk, OnErr, IsOkUnless};
 ghost use Rattle.overlay_arrange.specs.Content.{IsAscending};
 ghost use Rattle.overlay_arrange.specs.Graphs.{graph_edges};
@@ -7,8 +8,11 @@ ghost use Rattle.overlay_arrange.specs.Vectors.{plain_vector, vector_of};
 ghost use Rattle.overlay_geom.specs.Flat.{paths_in};
 ghost use Rattle.overlay_geom.specs.Packed.{IsPacked};
 ghost use Rattle.overlay_geom.specs.Paths.{plain_shapes};
+ghost use Rattle.overlay_geom.specs.Plane.{steps_of};
 ghost use Rattle.overlay_geom.specs.Settled.{IsSettled};
 ghost use Rattle.i_overlay.specs.Queries.{BuilderAnswers, BuilderExtracts};
+ghost use Rattle.overlay_plane.specs.ShapeWindings.{steps_of_shapes};
+ghost use Rattle.overlay_extract.specs.GivenRegion.{WindsRoundGiven};
 ghost use Rattle.overlay_extract.specs.Results.{asked, IsResult, IsContoursResult};
 
 use crate::solver::Solver;
@@ -143,6 +147,9 @@ impl<I: OverlayInt, A: Allocator + Clone> Overlay<I, A> {
         ensures result { IfOk result (λ v. IsResult
             (asked I.Wide.width I.WideUInt.natural fill_rule overlay_rule self.old.options)
             self.new.edges (plain_shapes I.whole v.items)) }
+        ensures given { IfOk result (λ v. WindsRoundGiven
+            (asked I.Wide.width I.WideUInt.natural fill_rule overlay_rule self.old.options)
+            self.old.solver self.old.edges self.new.edges (steps_of_shapes (plain_shapes I.whole v.items))) }
         ensures empty { self.new.edges ≡ [] → IfOk result (λ v. v.items ≡ []) }
     {
         self.core.arrange(self.solver, &mut ())?;
@@ -170,6 +177,10 @@ impl<I: OverlayInt, A: Allocator + Clone> Overlay<I, A> {
         ensures result { OnOk result (IsContoursResult
             (asked I.Wide.width I.WideUInt.natural fill_rule overlay_rule self.old.options)
             self.new.edges (paths_in I.whole output.new.points.items output.new.ranges.items)) }
+        ensures given { OnOk result (WindsRoundGiven
+            (asked I.Wide.width I.WideUInt.natural fill_rule overlay_rule self.old.options)
+            self.old.solver self.old.edges self.new.edges
+            (flat_map steps_of (paths_in I.whole output.new.points.items output.new.ranges.items))) }
         ensures packed { OnOk result (IsPacked output.new.points.items output.new.ranges.items) }
         ensures no_points { OnErr result (output.new.points.items ≡ []) }
         ensures no_ranges { OnErr result (output.new.ranges.items ≡ []) }

@@ -1,9 +1,12 @@
 //! How two resources lie to each other: predicates in one call, and the builder that answers them, one or all.
 
+ghost use Rattle.overlay_geom.specs.declared.solver.Solver.TheVariants.{Rounds};
 ghost use Rattle.overlay_plane.specs.Predicates.{Intersects, InteriorsIntersect, Touches, PointIntersects};
 ghost use Rattle.overlay_plane.specs.Predicates.{IsWithin, IsDisjoint};
 ghost use Rattle.i_overlay.specs.Relations.{AreBothInRange, TellsOfTwo};
 
+use crate::solver::Solver;
+use overlay_arrange::fill_rule::FillRule;
 use overlay_geom::error::OverlayError;
 use overlay_geom::integer::OverlayInt;
 use overlay_geom::resource::IntShapeResource;
@@ -14,9 +17,10 @@ use std::alloc::Allocator;
 /// Predicates of two resources, each of its own type, under the fill rule EvenOdd. Each path is a closed
 /// contour, and points on one line are dropped. This resource is the subject, and `other` the clip. The
 /// points of both are in the coordinate range. Each answer is that of `PredicateOverlay` on a new builder:
-/// of the edges after splitting.
+/// of the edges after splitting. A call without a solver takes `Solver::ABSOLUTE`.
 ///
-/// Refusals are `Memory`, `NotSettled` and `TooManyEdges`; nothing of the caller's is changed.
+/// Refusals are `Memory`, `NotSettled` (never with `Solver::SNAPPED`) and `TooManyEdges`; nothing of the caller's is
+/// changed.
 pub trait IntRelate<I: OverlayInt>: IntShapeResource<I> {
     /// Returns whether the two have a common point.
     fn intersects<R1: IntShapeResource<I>, A: Allocator + Clone>(
@@ -25,7 +29,17 @@ pub trait IntRelate<I: OverlayInt>: IntShapeResource<I> {
         other: &R1,
     ) -> Result<bool, OverlayError>
         requires { AreBothInRange I.limit (Self.paths self.now) (R1.paths other.now) }
-        ensures { TellsOfTwo Intersects (Self.paths self.now) (R1.paths other.now) result };
+        ensures { TellsOfTwo Rounds Intersects (Self.paths self.now) (R1.paths other.now) result };
+
+    /// As `intersects`, with edges split by `solver`.
+    fn intersects_with_solver<R1: IntShapeResource<I>, A: Allocator + Clone>(
+        &self,
+        alloc: A,
+        other: &R1,
+        solver: Solver,
+    ) -> Result<bool, OverlayError>
+        requires { AreBothInRange I.limit (Self.paths self.now) (R1.paths other.now) }
+        ensures { TellsOfTwo solver Intersects (Self.paths self.now) (R1.paths other.now) result };
 
     /// Returns whether both fill some point off the edges.
     fn interiors_intersect<R1: IntShapeResource<I>, A: Allocator + Clone>(
@@ -34,7 +48,17 @@ pub trait IntRelate<I: OverlayInt>: IntShapeResource<I> {
         other: &R1,
     ) -> Result<bool, OverlayError>
         requires { AreBothInRange I.limit (Self.paths self.now) (R1.paths other.now) }
-        ensures { TellsOfTwo InteriorsIntersect (Self.paths self.now) (R1.paths other.now) result };
+        ensures { TellsOfTwo Rounds InteriorsIntersect (Self.paths self.now) (R1.paths other.now) result };
+
+    /// As `interiors_intersect`, with edges split by `solver`.
+    fn interiors_intersect_with_solver<R1: IntShapeResource<I>, A: Allocator + Clone>(
+        &self,
+        alloc: A,
+        other: &R1,
+        solver: Solver,
+    ) -> Result<bool, OverlayError>
+        requires { AreBothInRange I.limit (Self.paths self.now) (R1.paths other.now) }
+        ensures { TellsOfTwo solver InteriorsIntersect (Self.paths self.now) (R1.paths other.now) result };
 
     /// Returns whether the two have a common point, and their interiors have none.
     fn touches<R1: IntShapeResource<I>, A: Allocator + Clone>(
@@ -43,7 +67,17 @@ pub trait IntRelate<I: OverlayInt>: IntShapeResource<I> {
         other: &R1,
     ) -> Result<bool, OverlayError>
         requires { AreBothInRange I.limit (Self.paths self.now) (R1.paths other.now) }
-        ensures { TellsOfTwo Touches (Self.paths self.now) (R1.paths other.now) result };
+        ensures { TellsOfTwo Rounds Touches (Self.paths self.now) (R1.paths other.now) result };
+
+    /// As `touches`, with edges split by `solver`.
+    fn touches_with_solver<R1: IntShapeResource<I>, A: Allocator + Clone>(
+        &self,
+        alloc: A,
+        other: &R1,
+        solver: Solver,
+    ) -> Result<bool, OverlayError>
+        requires { AreBothInRange I.limit (Self.paths self.now) (R1.paths other.now) }
+        ensures { TellsOfTwo solver Touches (Self.paths self.now) (R1.paths other.now) result };
 
     /// Returns whether the two meet in single points alone.
     fn point_intersects<R1: IntShapeResource<I>, A: Allocator + Clone>(
@@ -52,7 +86,17 @@ pub trait IntRelate<I: OverlayInt>: IntShapeResource<I> {
         other: &R1,
     ) -> Result<bool, OverlayError>
         requires { AreBothInRange I.limit (Self.paths self.now) (R1.paths other.now) }
-        ensures { TellsOfTwo PointIntersects (Self.paths self.now) (R1.paths other.now) result };
+        ensures { TellsOfTwo Rounds PointIntersects (Self.paths self.now) (R1.paths other.now) result };
+
+    /// As `point_intersects`, with edges split by `solver`.
+    fn point_intersects_with_solver<R1: IntShapeResource<I>, A: Allocator + Clone>(
+        &self,
+        alloc: A,
+        other: &R1,
+        solver: Solver,
+    ) -> Result<bool, OverlayError>
+        requires { AreBothInRange I.limit (Self.paths self.now) (R1.paths other.now) }
+        ensures { TellsOfTwo solver PointIntersects (Self.paths self.now) (R1.paths other.now) result };
 
     /// Returns whether this resource lies within the other.
     fn within<R1: IntShapeResource<I>, A: Allocator + Clone>(
@@ -61,7 +105,17 @@ pub trait IntRelate<I: OverlayInt>: IntShapeResource<I> {
         other: &R1,
     ) -> Result<bool, OverlayError>
         requires { AreBothInRange I.limit (Self.paths self.now) (R1.paths other.now) }
-        ensures { TellsOfTwo IsWithin (Self.paths self.now) (R1.paths other.now) result };
+        ensures { TellsOfTwo Rounds IsWithin (Self.paths self.now) (R1.paths other.now) result };
+
+    /// As `within`, with edges split by `solver`.
+    fn within_with_solver<R1: IntShapeResource<I>, A: Allocator + Clone>(
+        &self,
+        alloc: A,
+        other: &R1,
+        solver: Solver,
+    ) -> Result<bool, OverlayError>
+        requires { AreBothInRange I.limit (Self.paths self.now) (R1.paths other.now) }
+        ensures { TellsOfTwo solver IsWithin (Self.paths self.now) (R1.paths other.now) result };
 
     /// Returns whether the two have no common point.
     fn disjoint<R1: IntShapeResource<I>, A: Allocator + Clone>(
@@ -70,7 +124,17 @@ pub trait IntRelate<I: OverlayInt>: IntShapeResource<I> {
         other: &R1,
     ) -> Result<bool, OverlayError>
         requires { AreBothInRange I.limit (Self.paths self.now) (R1.paths other.now) }
-        ensures { TellsOfTwo IsDisjoint (Self.paths self.now) (R1.paths other.now) result };
+        ensures { TellsOfTwo Rounds IsDisjoint (Self.paths self.now) (R1.paths other.now) result };
+
+    /// As `disjoint`, with edges split by `solver`.
+    fn disjoint_with_solver<R1: IntShapeResource<I>, A: Allocator + Clone>(
+        &self,
+        alloc: A,
+        other: &R1,
+        solver: Solver,
+    ) -> Result<bool, OverlayError>
+        requires { AreBothInRange I.limit (Self.paths self.now) (R1.paths other.now) }
+        ensures { TellsOfTwo solver IsDisjoint (Self.paths self.now) (R1.paths other.now) result };
 
     /// Returns whether the other resource lies within this resource: `within` of the two exchanged.
     fn covers<R1: IntShapeResource<I>, A: Allocator + Clone>(
@@ -79,7 +143,17 @@ pub trait IntRelate<I: OverlayInt>: IntShapeResource<I> {
         other: &R1,
     ) -> Result<bool, OverlayError>
         requires { AreBothInRange I.limit (R1.paths other.now) (Self.paths self.now) }
-        ensures { TellsOfTwo IsWithin (R1.paths other.now) (Self.paths self.now) result };
+        ensures { TellsOfTwo Rounds IsWithin (R1.paths other.now) (Self.paths self.now) result };
+
+    /// As `covers`, with edges split by `solver`.
+    fn covers_with_solver<R1: IntShapeResource<I>, A: Allocator + Clone>(
+        &self,
+        alloc: A,
+        other: &R1,
+        solver: Solver,
+    ) -> Result<bool, OverlayError>
+        requires { AreBothInRange I.limit (R1.paths other.now) (Self.paths self.now) }
+        ensures { TellsOfTwo solver IsWithin (R1.paths other.now) (Self.paths self.now) result };
 }
 
 impl<I: OverlayInt, R0: IntShapeResource<I>> IntRelate<I> for R0 {
@@ -88,7 +162,19 @@ impl<I: OverlayInt, R0: IntShapeResource<I>> IntRelate<I> for R0 {
         alloc: A,
         other: &R1,
     ) -> Result<bool, OverlayError> {
-        let mut overlay = PredicateOverlay::from_subj_and_clip(alloc, self, other)?;
+        self.intersects_with_solver(alloc, other, Solver::ABSOLUTE)
+    }
+
+    fn intersects_with_solver<R1: IntShapeResource<I>, A: Allocator + Clone>(
+        &self,
+        alloc: A,
+        other: &R1,
+        solver: Solver,
+    ) -> Result<bool, OverlayError> {
+        let rule = FillRule::EvenOdd;
+        let mut overlay = PredicateOverlay::from_subj_and_clip_custom(
+            alloc, self, other, rule, solver,
+        )?;
         overlay.intersects()
     }
 
@@ -97,7 +183,19 @@ impl<I: OverlayInt, R0: IntShapeResource<I>> IntRelate<I> for R0 {
         alloc: A,
         other: &R1,
     ) -> Result<bool, OverlayError> {
-        let mut overlay = PredicateOverlay::from_subj_and_clip(alloc, self, other)?;
+        self.interiors_intersect_with_solver(alloc, other, Solver::ABSOLUTE)
+    }
+
+    fn interiors_intersect_with_solver<R1: IntShapeResource<I>, A: Allocator + Clone>(
+        &self,
+        alloc: A,
+        other: &R1,
+        solver: Solver,
+    ) -> Result<bool, OverlayError> {
+        let rule = FillRule::EvenOdd;
+        let mut overlay = PredicateOverlay::from_subj_and_clip_custom(
+            alloc, self, other, rule, solver,
+        )?;
         overlay.interiors_intersect()
     }
 
@@ -106,7 +204,19 @@ impl<I: OverlayInt, R0: IntShapeResource<I>> IntRelate<I> for R0 {
         alloc: A,
         other: &R1,
     ) -> Result<bool, OverlayError> {
-        let mut overlay = PredicateOverlay::from_subj_and_clip(alloc, self, other)?;
+        self.touches_with_solver(alloc, other, Solver::ABSOLUTE)
+    }
+
+    fn touches_with_solver<R1: IntShapeResource<I>, A: Allocator + Clone>(
+        &self,
+        alloc: A,
+        other: &R1,
+        solver: Solver,
+    ) -> Result<bool, OverlayError> {
+        let rule = FillRule::EvenOdd;
+        let mut overlay = PredicateOverlay::from_subj_and_clip_custom(
+            alloc, self, other, rule, solver,
+        )?;
         overlay.touches()
     }
 
@@ -115,7 +225,19 @@ impl<I: OverlayInt, R0: IntShapeResource<I>> IntRelate<I> for R0 {
         alloc: A,
         other: &R1,
     ) -> Result<bool, OverlayError> {
-        let mut overlay = PredicateOverlay::from_subj_and_clip(alloc, self, other)?;
+        self.point_intersects_with_solver(alloc, other, Solver::ABSOLUTE)
+    }
+
+    fn point_intersects_with_solver<R1: IntShapeResource<I>, A: Allocator + Clone>(
+        &self,
+        alloc: A,
+        other: &R1,
+        solver: Solver,
+    ) -> Result<bool, OverlayError> {
+        let rule = FillRule::EvenOdd;
+        let mut overlay = PredicateOverlay::from_subj_and_clip_custom(
+            alloc, self, other, rule, solver,
+        )?;
         overlay.point_intersects()
     }
 
@@ -124,7 +246,19 @@ impl<I: OverlayInt, R0: IntShapeResource<I>> IntRelate<I> for R0 {
         alloc: A,
         other: &R1,
     ) -> Result<bool, OverlayError> {
-        let mut overlay = PredicateOverlay::from_subj_and_clip(alloc, self, other)?;
+        self.within_with_solver(alloc, other, Solver::ABSOLUTE)
+    }
+
+    fn within_with_solver<R1: IntShapeResource<I>, A: Allocator + Clone>(
+        &self,
+        alloc: A,
+        other: &R1,
+        solver: Solver,
+    ) -> Result<bool, OverlayError> {
+        let rule = FillRule::EvenOdd;
+        let mut overlay = PredicateOverlay::from_subj_and_clip_custom(
+            alloc, self, other, rule, solver,
+        )?;
         overlay.within()
     }
 
@@ -133,7 +267,16 @@ impl<I: OverlayInt, R0: IntShapeResource<I>> IntRelate<I> for R0 {
         alloc: A,
         other: &R1,
     ) -> Result<bool, OverlayError> {
-        let meets = self.intersects(alloc, other)?;
+        self.disjoint_with_solver(alloc, other, Solver::ABSOLUTE)
+    }
+
+    fn disjoint_with_solver<R1: IntShapeResource<I>, A: Allocator + Clone>(
+        &self,
+        alloc: A,
+        other: &R1,
+        solver: Solver,
+    ) -> Result<bool, OverlayError> {
+        let meets = self.intersects_with_solver(alloc, other, solver)?;
         Ok(!meets)
     }
 
@@ -142,7 +285,19 @@ impl<I: OverlayInt, R0: IntShapeResource<I>> IntRelate<I> for R0 {
         alloc: A,
         other: &R1,
     ) -> Result<bool, OverlayError> {
-        let mut exchanged = PredicateOverlay::from_subj_and_clip(alloc, other, self)?;
+        self.covers_with_solver(alloc, other, Solver::ABSOLUTE)
+    }
+
+    fn covers_with_solver<R1: IntShapeResource<I>, A: Allocator + Clone>(
+        &self,
+        alloc: A,
+        other: &R1,
+        solver: Solver,
+    ) -> Result<bool, OverlayError> {
+        let rule = FillRule::EvenOdd;
+        let mut exchanged = PredicateOverlay::from_subj_and_clip_custom(
+            alloc, other, self, rule, solver,
+        )?;
         exchanged.within()
     }
 }

@@ -20,12 +20,13 @@ use overlay_geom::path::IntShapes;
 use overlay_geom::resource::IntShapeResource;
 use std::alloc::Allocator;
 
-/// Simplification of a resource. Each path is a closed contour.
+/// Simplification of a resource. Each path is a closed contour, and the points are in the coordinate range. Each answer
+/// is that of `Overlay::simplify_source` on a new builder. A call without a solver takes `Solver::ABSOLUTE`.
+///
+/// Refusals are `Memory`, `NotSettled` (never with `Solver::SNAPPED`) and `TooManyEdges`; nothing of the caller's is
+/// changed.
 pub trait Simplify<I: OverlayInt>: IntShapeResource<I> {
-    /// The shapes that the resource is simplified to: what `Overlay::simplify_source` answers on a new
-    /// builder with these options. The points are in the coordinate range.
-    ///
-    /// Refusals are `Memory`, `NotSettled` and `TooManyEdges`; nothing of the caller's is changed.
+    /// The shapes that the resource is simplified to, with these options.
     fn simplify<A: Allocator + Clone>(
         &self,
         alloc: A,
@@ -37,6 +38,21 @@ pub trait Simplify<I: OverlayInt>: IntShapeResource<I> {
             (asked I.Wide.width I.WideUInt.natural fill_rule OverlayRule.Subject options)
             options.preserve_input_collinear (Self.paths self.now) (plain_shapes I.whole v.items)) }
         ensures err { IfErr result (MayRefuseAlone options.preserve_input_collinear Rounds
+            (paths_for Subject (Self.paths self.now))) };
+
+    /// As `simplify`, with edges split by `solver`.
+    fn simplify_with_solver<A: Allocator + Clone>(
+        &self,
+        alloc: A,
+        fill_rule: FillRule,
+        options: IntOverlayOptions<I::WideUInt>,
+        solver: Solver,
+    ) -> Result<IntShapes<I, A>, OverlayError>
+        requires { All (AllInRange I.limit) (Self.paths self.now) }
+        ensures result { IfOk result (λ v. IsSimplifiedAlone solver
+            (asked I.Wide.width I.WideUInt.natural fill_rule OverlayRule.Subject options)
+            options.preserve_input_collinear (Self.paths self.now) (plain_shapes I.whole v.items)) }
+        ensures err { IfErr result (MayRefuseAlone options.preserve_input_collinear solver
             (paths_for Subject (Self.paths self.now))) };
 }
 
@@ -54,7 +70,24 @@ impl<I: OverlayInt, R0: IntShapeResource<I>> Simplify<I> for R0 {
         ensures err { IfErr result (MayRefuseAlone options.preserve_input_collinear Rounds
             (paths_for Subject (R0.paths self.now))) }
     {
-        let mut overlay = Overlay::new_custom(alloc, 0, options, Solver::ABSOLUTE)?;
+        self.simplify_with_solver(alloc, fill_rule, options, Solver::ABSOLUTE)
+    }
+
+    fn simplify_with_solver<A: Allocator + Clone>(
+        &self,
+        alloc: A,
+        fill_rule: FillRule,
+        options: IntOverlayOptions<I::WideUInt>,
+        solver: Solver,
+    ) -> Result<IntShapes<I, A>, OverlayError>
+        requires { All (AllInRange I.limit) (R0.paths self.now) }
+        ensures result { IfOk result (λ v. IsSimplifiedAlone solver
+            (asked I.Wide.width I.WideUInt.natural fill_rule OverlayRule.Subject options)
+            options.preserve_input_collinear (R0.paths self.now) (plain_shapes I.whole v.items)) }
+        ensures err { IfErr result (MayRefuseAlone options.preserve_input_collinear solver
+            (paths_for Subject (R0.paths self.now))) }
+    {
+        let mut overlay = Overlay::new_custom(alloc, 0, options, solver)?;
         overlay.simplify_source(self, fill_rule)
     }
 }

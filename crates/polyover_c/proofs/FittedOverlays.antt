@@ -7,6 +7,7 @@ use Rattle.overlay_extract.specs.Results.{asked}
 use Rattle.overlay_geom.specs.Plane.{Point}
 use Rattle.overlay_plane.specs.Islands.{ChildLink}
 use Rattle.i_overlay.specs.OneShot.{MayRefusePaths}
+use Rattle.i_overlay.proofs.OneShots.{result_over_paths, hierarchy_over_paths}
 use Rattle.polyover_c.specs.Asked.{rule_of, fill_of, solver_of, options_of, AreChoices, AreKnown, IsUnknown}
 use Rattle.polyover_c.specs.Given.{Contours, contours_of, paths_given}
 use Rattle.polyover_c.specs.Hierarchies.{IsLinkedOverlay}
@@ -94,15 +95,13 @@ module _ {I U : Type 0} (whole : I → ℤ) (limit rule fill : ℕ) (o : OptionN
       known = known_back rule fill o a.known;
       subject_given = given_back whole limit subject ss s a.subject_given;
       clip_given = given_back whole limit clip cs c a.clip_given;
-      is_result = record {
-        content = a.is_result.content;
-        edges = a.is_result.edges;
-        holds = subst (λ ps. HoldsPaths (added_paths false ps) a.is_result.content) same_paths a.is_result.holds;
-        arranged = a.is_result.arranged;
-        is_result = result_at_width
-            (asked w64 (λ n. n) (fill_of fill) (rule_of rule) (options_of (without_minimum o)))
-            (natural o.min_area) width refl zero a.is_result.edges shapes a.is_result.is_result;
-      };
+      is_result = result_over_paths (solver_of o.solver)
+          (asked width natural (fill_of fill) (rule_of rule) (options_of o)) (paths_given whole subject clip)
+          a.is_result.content a.is_result.edges shapes
+          (subst (λ ps. HoldsPaths (added_paths false ps) a.is_result.content) same_paths a.is_result.holds)
+          a.is_result.arranged
+          (result_at_width (asked w64 (λ n. n) (fill_of fill) (rule_of rule) (options_of (without_minimum o)))
+          (natural o.min_area) width refl zero a.is_result.edges shapes a.is_result.is_result);
     }
 
     abbrev is_given_narrow : List (List (List Point)) → Type 0
@@ -144,15 +143,13 @@ module _ {I U : Type 0} (whole : I → ℤ) (limit rule fill : ℕ) (o : OptionN
       known = known_back rule fill o a.known;
       subject_given = given_back whole limit subject ss s a.subject_given;
       clip_given = given_back whole limit clip cs c a.clip_given;
-      is_hierarchy = record {
-        content = a.is_hierarchy.content;
-        edges = a.is_hierarchy.edges;
-        holds = subst (λ ps. HoldsPaths (added_paths false ps) a.is_hierarchy.content) same_paths a.is_hierarchy.holds;
-        arranged = a.is_hierarchy.arranged;
-        is_hierarchy = hierarchy_at_width
-            (asked w64 (λ n. n) (fill_of fill) (rule_of rule) (options_of (without_minimum o)))
-            (natural o.min_area) width refl zero a.is_hierarchy.edges shapes links a.is_hierarchy.is_hierarchy;
-      };
+      is_hierarchy = hierarchy_over_paths (solver_of o.solver)
+          (asked width natural (fill_of fill) (rule_of rule) (options_of o)) (paths_given whole subject clip)
+          a.is_hierarchy.content a.is_hierarchy.edges shapes links
+          (subst (λ ps. HoldsPaths (added_paths false ps) a.is_hierarchy.content) same_paths a.is_hierarchy.holds)
+          a.is_hierarchy.arranged
+          (hierarchy_at_width (asked w64 (λ n. n) (fill_of fill) (rule_of rule) (options_of (without_minimum o)))
+          (natural o.min_area) width refl zero a.is_hierarchy.edges shapes links a.is_hierarchy.is_hierarchy);
     }
 
     abbrev is_given_linked : List (List (List Point)) → List ChildLink → Type 0

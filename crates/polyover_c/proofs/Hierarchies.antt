@@ -12,8 +12,10 @@ use Rattle.overlay_extract.specs.declared.child_link.ChildLink.{ChildLink as Lin
 use Rattle.overlay_geom.specs.Plane.{Point}
 use Rattle.i_overlay.specs.Builder.{Builder}
 use Rattle.i_overlay.specs.Queries.{BuilderExtracts}
+use Rattle.i_overlay.proofs.OneShots.{hierarchy_over_paths}
 use Rattle.polyover_c.proofs.Overlays.{same_asked}
-use Rattle.polyover_c.specs.Given.{Contours}
+use Rattle.polyover_c.specs.Asked.{rule_of, fill_of, solver_of, options_of}
+use Rattle.polyover_c.specs.Given.{Contours, paths_given}
 use Rattle.polyover_c.specs.Hierarchies.{IsLinkedOverlay}
 use Rattle.polyover_c.specs.Linked.{link_of, link_at, LinkedFlat, AreFlatLinked}
 use Rattle.polyover_c.specs.Overlays.{IsAskedOverlay}
@@ -40,16 +42,14 @@ hierarchy_answered whole limit rule fill options subject clip r f b is v new wid
         known = is.known;
         subject_given = is.subject_given;
         clip_given = is.clip_given;
-        is_hierarchy = record {
-          content = b.edges;
-          edges = new.edges;
-          holds = is.holds;
-          arranged = subst (λ t. IsArranged t b.edges new.edges) is.solver_asked extracts.query.arranged;
-          is_hierarchy = subst (λ a. IsHierarchy a new.edges shapes (map link_at flat.links))
-              (same_asked whole limit rule fill options subject clip r f b is width natural)
-              (subst (IsHierarchy (asked width natural f r b.options) new.edges shapes)
-              (sym (ap (map link_at) same_links ∙ links_at links)) hierarchy);
-        };
+        is_hierarchy = hierarchy_over_paths (solver_of options.solver)
+            (asked width natural (fill_of fill) (rule_of rule) (options_of options)) (paths_given whole subject clip)
+            b.edges new.edges shapes (map link_at flat.links) is.holds
+            (subst (λ t. IsArranged t b.edges new.edges) is.solver_asked extracts.query.arranged)
+            (subst (λ a. IsHierarchy a new.edges shapes (map link_at flat.links))
+            (same_asked whole limit rule fill options subject clip r f b is width natural)
+            (subst (IsHierarchy (asked width natural f r b.options) new.edges shapes)
+            (sym (ap (map link_at) same_links ∙ links_at links)) hierarchy));
       };
       flattened = flattened;
     }

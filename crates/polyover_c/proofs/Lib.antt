@@ -14,6 +14,7 @@ pub mod Located
 pub mod NarrowedAnswers
 pub mod NarrowedCalls
 pub mod NarrowedPaths
+pub mod OneAnswer
 pub mod OneFault
 pub mod OnePacking
 pub mod OnePut

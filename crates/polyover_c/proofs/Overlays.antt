@@ -123,15 +123,11 @@ module _ {I U : Type 0} (whole : I → ℤ) (limit rule fill : ℕ) (options : O
             known = is.known;
             subject_given = is.subject_given;
             clip_given = is.clip_given;
-            is_result = record {
-              content = b.edges;
-              edges = gives.after.edges;
-              holds = is.holds;
-              arranged = subst (λ t. IsArranged t b.edges gives.after.edges) is.solver_asked
-                  gives.extracts.query.arranged;
-              is_result = subst (λ a. IsResult a gives.after.edges shapes) (same_asked width natural)
-                  gives.is_result;
-            };
+            is_result = one_shot.result_over_paths (solver_of options.solver)
+                (asked width natural (fill_of fill) (rule_of rule) (options_of options))
+                (paths_given whole subject clip) b.edges gives.after.edges shapes is.holds
+                (subst (λ t. IsArranged t b.edges gives.after.edges) is.solver_asked gives.extracts.query.arranged)
+                (subst (λ a. IsResult a gives.after.edges shapes) (same_asked width natural) gives.is_result);
           };
           flattened = flattened;
         }

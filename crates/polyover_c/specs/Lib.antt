@@ -14,6 +14,7 @@ pub mod Linked
 pub mod Listed
 pub mod Located
 pub mod Narrowed
+pub mod OneAnswer
 pub mod Options
 pub mod Overlays
 pub mod Prepared

@@ -22,6 +22,7 @@ pub mod links;
 mod locate;
 mod narrowed;
 mod numbers;
+pub mod only_answers;
 pub mod only_faults;
 pub mod only_puts;
 pub mod options;

@@ -4,12 +4,10 @@ pub mod Endings
 pub mod Located
 pub mod OneExit
 pub mod OneInsides
-pub mod OneShown
 pub mod OneText
 pub mod OneUnresolved
 pub mod Queries
 pub mod Refusals
-pub mod RuledPaths
 pub mod Slices
 pub mod Subjects
 pub mod TurnsTaken

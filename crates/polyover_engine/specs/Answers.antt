@@ -31,9 +31,9 @@ use Rattle.polyover_engine.specs.declared.exit.Exit.{Exit}
 use Rattle.polyover_engine.specs.declared.exit.Exit.TheVariants.{Answered, Refused, BadInput, Io}
 use Rattle.overlay_string.specs.OneShot.{AreClippedOfPaths, MayRefusePaths as MayRefuseStrings}
 use Rattle.overlay_string.specs.StringSlices.{AreSlicedOfPaths}
-use Rattle.overlay_string.specs.Grids.{FitsGrid}
-use Rattle.overlay_string.specs.Spans.{points_of_paths}
-use Rattle.overlay_string.specs.Tiles.{AreTiles, MayRefuseTiles}
+use Rattle.overlay_tiles.specs.Grids.{FitsGrid}
+use Rattle.overlay_tiles.specs.Spans.{points_of_paths}
+use Rattle.overlay_tiles.specs.Tiles.{AreTiles, MayRefuseTiles}
 use Rattle.polyover_engine.specs.Clips.{clip_rule_of, shape_and_lines}
 use Rattle.polyover_engine.specs.Subjects.{subject_of, IsFirstUnresolved}
 

@@ -1,8 +1,7 @@
--- The text of an answer is determined by the arrangement that it is of: where points on one line stay, and else up to
--- which of them is dropped first. Rounds that round each point of the plane alike lead to one arrangement.
-use Rattle.std.specs.Prelude.{◌≡◌, ℕ, true, List, [], ◌∷◌, All}
+-- The text of an answer is determined by the arrangement that it is of. Rounds that round each point of the plane alike
+-- lead to one arrangement.
+use Rattle.std.specs.Prelude.{◌≡◌, ℕ, List, [], ◌∷◌, All}
 use Rattle.overlay_arrange.specs.declared.fill_rule.FillRule.{FillRule}
-use Rattle.overlay_extract.specs.Determined.{ShowOneList}
 use Rattle.overlay_geom.specs.Plane.{IsOff, in_plane}
 use Rattle.overlay_relate.specs.Locations.{shapes_edges}
 use Rattle.polyover_engine.specs.Answers.{Answers}
@@ -16,29 +15,17 @@ use Rattle.polyover_text.specs.declared.query.Query.TheVariants.{Slice, Tiles, C
 
 -- ---- overlays
 
--- two answers of an overlay of one arrangement show one list of shapes
-abbrev pub ShapesShowOneList : Type 0
-ShapesShowOneList = (fs : GivenFigures) (query : OverlayQuery) (first second : List ℕ)
-    (a : Answers fs (Overlay query) first) (b : Answers fs (Overlay query) second) → a.1.edges ≡ b.1.edges →
-    ShowOneList query.output.preserve_output_collinear a.0 b.0
-
--- so where points on one line stay they have one text
+-- two answers of an overlay of one arrangement have one text
 abbrev pub OneTextOfOverlay : Type 0
 OneTextOfOverlay = (fs : GivenFigures) (query : OverlayQuery) (first second : List ℕ)
     (a : Answers fs (Overlay query) first) (b : Answers fs (Overlay query) second) → a.1.edges ≡ b.1.edges →
-    query.output.preserve_output_collinear ≡ true → first ≡ second
+    first ≡ second
 
--- two hierarchies of one arrangement show one list of shapes, and have the same links
-abbrev pub HierarchiesShowOneList : Type 0
-HierarchiesShowOneList = (fs : GivenFigures) (query : OverlayQuery) (first second : List ℕ)
-    (a : Answers fs (Hierarchy query) first) (b : Answers fs (Hierarchy query) second) → a.2.edges ≡ b.2.edges →
-    ShowOneList query.output.preserve_output_collinear a.0 b.0 × (a.1 ≡ b.1)
-
--- so where points on one line stay they have one text
+-- so have two hierarchies
 abbrev pub OneTextOfHierarchy : Type 0
 OneTextOfHierarchy = (fs : GivenFigures) (query : OverlayQuery) (first second : List ℕ)
     (a : Answers fs (Hierarchy query) first) (b : Answers fs (Hierarchy query) second) → a.2.edges ≡ b.2.edges →
-    query.output.preserve_output_collinear ≡ true → first ≡ second
+    first ≡ second
 
 -- ---- edges, relations, and what lines leave or slice
 

@@ -1,21 +1,17 @@
 //! The text that answers a query is the only text that its contract allows of one arrangement.
 
-ghost use Rattle.polyover_engine.specs.OneText.{ShapesShowOneList, OneTextOfOverlay};
-ghost use Rattle.polyover_engine.specs.OneText.{HierarchiesShowOneList, OneTextOfHierarchy};
+ghost use Rattle.polyover_engine.specs.OneText.{OneTextOfOverlay, OneTextOfHierarchy};
 ghost use Rattle.polyover_engine.specs.OneText.{OneTextOfEdges, OneTextOfRelations, OneTextOfClip};
 ghost use Rattle.polyover_engine.specs.OneText.{OneTextOfSlices, OneTextOfTiles, OneTextOfInsides};
 
-/// Two answers of an overlay of one arrangement show one list of shapes. They have one text where points on one line
-/// stay.
+/// Two answers of an overlay of one arrangement have one text.
 pub fn one_text_of_overlay()
-    ensures shown { ShapesShowOneList }
-    ensures kept { OneTextOfOverlay }
+    ensures { OneTextOfOverlay }
 {}
 
-/// So do two hierarchies, whose links are equal.
+/// So have two hierarchies.
 pub fn one_text_of_hierarchy()
-    ensures shown { HierarchiesShowOneList }
-    ensures kept { OneTextOfHierarchy }
+    ensures { OneTextOfHierarchy }
 {}
 
 /// The edges and the relations of one arrangement have one text.

@@ -3,11 +3,13 @@
 ghost use Rattle.std.specs.Prelude.{◌≡◌, false, map, Some, IfOk, OnOk, IsOkUnless};
 ghost use Rattle.overlay_arrange.specs.Content.{IsAscending};
 ghost use Rattle.overlay_extract.specs.ChildLinks.{plain_link};
+ghost use Rattle.overlay_extract.specs.GivenRegion.{WindsRoundGiven};
 ghost use Rattle.overlay_extract.specs.PlacedResults.{IsHierarchy};
 ghost use Rattle.overlay_extract.specs.Results.{asked};
 ghost use Rattle.overlay_geom.specs.Flat.{shapes_in};
 ghost use Rattle.overlay_geom.specs.FlatShapes.{AreShapesPacked};
 ghost use Rattle.overlay_geom.specs.Settled.{IsSettled};
+ghost use Rattle.overlay_plane.specs.ShapeWindings.{steps_of_shapes};
 ghost use Rattle.i_overlay.specs.Queries.{BuilderExtracts};
 
 use crate::overlay::Overlay;
@@ -41,6 +43,11 @@ impl<I: OverlayInt, A: Allocator + Clone> Overlay<I, A> {
             (asked I.Wide.width I.WideUInt.natural fill_rule overlay_rule self.old.options) self.new.edges
             (shapes_in I.whole h.shapes.points.items h.shapes.contour_ranges.items h.shapes.shape_ranges.items)
             (map plain_link h.links.items)) }
+        ensures given { IfOk result (λ h. WindsRoundGiven
+            (asked I.Wide.width I.WideUInt.natural fill_rule overlay_rule self.old.options)
+            self.old.solver self.old.edges self.new.edges
+            (steps_of_shapes (shapes_in I.whole h.shapes.points.items h.shapes.contour_ranges.items
+            h.shapes.shape_ranges.items))) }
         ensures packed { IfOk result
             (λ h. AreShapesPacked h.shapes.points.items h.shapes.contour_ranges.items h.shapes.shape_ranges.items) }
     {

@@ -1,9 +1,6 @@
--- The laws are proved in proofs/OneSimplified.antt.
-use Rattle.i_overlay.proofs.OneSimplified.{simplified_contours_alike, one_simplified_list}
+-- The law is proved in proofs/OneSimplified.antt.
+use Rattle.i_overlay.proofs.OneSimplified.{one_simplified_list}
 use Rattle.i_overlay.proofs.only_simplified.one_simplified_list.Goals as goal
 
-pub returns-clause-shown : goal.returns-clause-shown
-returns-clause-shown c = simplified_contours_alike
-
-pub returns-clause-kept : goal.returns-clause-kept
-returns-clause-kept c = one_simplified_list
+pub returns : goal.returns
+returns c = one_simplified_list

@@ -7,9 +7,9 @@ use Rattle.overlay_geom.specs.Paths.{plain_shapes}
 use Rattle.overlay_geom.specs.Points.{AllInRange}
 use Rattle.overlay_geom.specs.Numbers.{greatest_of_64_bits}
 use Rattle.overlay_geom.specs.declared.solver.Solver.TheVariants.{Rounds}
-use Rattle.overlay_string.specs.Grids.{FitsGrid}
-use Rattle.overlay_string.specs.Spans.{points_of_paths}
-use Rattle.overlay_string.specs.Tiles.{AreTiles, MayRefuseTiles}
+use Rattle.overlay_tiles.specs.Grids.{FitsGrid}
+use Rattle.overlay_tiles.specs.Spans.{points_of_paths}
+use Rattle.overlay_tiles.specs.Tiles.{AreTiles, MayRefuseTiles}
 use Rattle.polyover_text.specs.Printed.{lines_of_shapes}
 use Rattle.polyover_text.specs.Statements.{contours_at, figures_at}
 use Rattle.polyover_engine.specs.Borrowed.{points_of_each}

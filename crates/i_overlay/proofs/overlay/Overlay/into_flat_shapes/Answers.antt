@@ -1,10 +1,13 @@
 -- The shapes are those of the arranged edges; over no edges there is none.
-use Rattle.std.proofs.Common.{◌≡◌, is_err, sym, subst, rules}
+use Rattle.std.proofs.Common.{◌≡◌, is_err, refl, sym, subst, rules}
+use Rattle.std.proofs.lemmas.Result.{IfOk-weaker}
 use Rattle.std.specs.Prelude.{Some, Err, IfOk}
 use Rattle.overlay_builder.specs.Held.{plain_held}
 use Rattle.overlay_extract.specs.Results.{asked, IsResult}
 use Rattle.overlay_geom.specs.Flat.{shapes_in}
 use Rattle.i_overlay.specs.UsedUp.{GivesFlatShapes}
+use Rattle.overlay_plane.specs.ShapeWindings.{steps_of_shapes}
+use Rattle.i_overlay.proofs.GivenRegions.{given_round}
 use Rattle.i_overlay.proofs.Queries.{extracted_from, refused_before}
 use Rattle.i_overlay.proofs.UsedUp.{no_flat_shapes}
 use Rattle.i_overlay.proofs.overlay.Overlay.into_flat_shapes.Goals as goal
@@ -20,6 +23,7 @@ returns-in_err-arrange-clause-answers g c =
       after = record c.args.self { edges = mid.edges; failed = mid.failed };
       extracts = refused_before g.I.IntNumber.limit c.self.view_is mid e c.in_err-arrange.ensures.query;
       is_result = tt;
+      given = tt;
       empty = λ none. tt;
     })
 
@@ -37,6 +41,12 @@ returns-clause-answers g c =
       extracts = extracted_from g.I.IntNumber.limit c.self.view_is mid c.in_ok-arrange.field-0
           c.in_ok-arrange.ensures.query r c.extracted.ensures.err;
       is_result = result;
+      given = given_round g.I.IntNumber.limit c.self.view_is mid c.in_ok-arrange.field-0
+          c.in_ok-arrange.ensures.query
+          (λ b. asked g.I.Wide.WideIntNumber.width g.I.WideUInt.UIntNumber.natural c.args.fill_rule
+          c.args.overlay_rule b.options)
+          (λ v. steps_of_shapes (shapes_in whole v.points.items v.contour_ranges.items v.shape_ranges.items)) mid.edges
+          refl r (IfOk-weaker r _ _ (λ v is. is.winds) c.extracted.ensures.result);
       empty = no_flat_shapes whole (asked g.I.Wide.WideIntNumber.width g.I.WideUInt.UIntNumber.natural
           c.args.fill_rule c.args.overlay_rule c.args.self.options) mid.edges r result;
     }

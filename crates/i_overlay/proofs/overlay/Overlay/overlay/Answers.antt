@@ -1,10 +1,14 @@
--- Over no edges there is no shape; and a refusal is remembered.
+-- Over no edges there is no shape; a refusal is remembered; and the shapes wind as asked of the edges before, far from
+-- these.
 use Rattle.std.proofs.Common.{◌≡◌, [], sym, ap, ◌∙◌}
-use Rattle.overlay_geom.specs.Paths.{paths_of_shape}
+use Rattle.std.proofs.lemmas.Result.{IfOk-weaker}
+use Rattle.overlay_geom.specs.Paths.{paths_of_shape, plain_shapes}
 use Rattle.overlay_plane.specs.Carried.{edges_in}
+use Rattle.overlay_plane.specs.ShapeWindings.{steps_of_shapes}
 use Rattle.overlay_builder.specs.Held.{plain_held}
 use Rattle.overlay_extract.specs.Results.{asked}
 use Rattle.overlay_extract.proofs.NoShapes.{no_shapes_held}
+use Rattle.i_overlay.proofs.GivenRegions.{given_round}
 use Rattle.i_overlay.proofs.Queries.{extracted}
 use Rattle.i_overlay.proofs.overlay.Overlay.overlay.Goals as goal
 
@@ -27,3 +31,14 @@ returns-clause-answers g c =
     c.in_ok-arrange.ensures.query core.edges core.failed c.extract-shapes.result
     (ap (λ h. h.failed) c.set_failed.ensures ∙ c.is_err.ensures.value) e.err c.self-2.view_is e.kept
     (ap (λ h. edges_in h.edges) c.set_failed.ensures) e.buffer
+
+pub returns-clause-given : goal.returns-clause-given
+returns-clause-given g c =
+    let e = c.extract-shapes.ensures in
+    given_round g.I.IntNumber.limit c.self.view_is (plain_held c.arrange.new.self) c.in_ok-arrange.field-0
+    c.in_ok-arrange.ensures.query
+    (λ b. asked g.I.Wide.WideIntNumber.width g.I.WideUInt.UIntNumber.natural c.args.fill_rule c.args.overlay_rule
+    b.options)
+    (λ v. steps_of_shapes (plain_shapes g.I.IntNumber.whole v.items)) (edges_in c.set_failed.new.self.edges)
+    (ap (λ h. edges_in h.edges) c.set_failed.ensures ∙ ap (λ b. b.edges) c.self-2.view_is ∙ ap (λ b. b.edges) e.kept)
+    c.extract-shapes.result (IfOk-weaker c.extract-shapes.result _ _ (λ v is. is.winds) e.result)

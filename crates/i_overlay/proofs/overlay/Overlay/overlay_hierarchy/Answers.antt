@@ -1,7 +1,13 @@
--- The shapes and links are those of the arranged edges; and a refusal is remembered.
+-- The shapes and links are those of the arranged edges; a refusal is remembered; and the shapes wind as asked of the
+-- edges before, far from these.
 use Rattle.std.proofs.Common.{ap, ◌∙◌}
+use Rattle.std.proofs.lemmas.Result.{IfOk-weaker}
+use Rattle.overlay_geom.specs.Flat.{shapes_in}
 use Rattle.overlay_plane.specs.Carried.{edges_in}
+use Rattle.overlay_plane.specs.ShapeWindings.{steps_of_shapes}
 use Rattle.overlay_builder.specs.Held.{plain_held}
+use Rattle.overlay_extract.specs.Results.{asked}
+use Rattle.i_overlay.proofs.GivenRegions.{given_round}
 use Rattle.i_overlay.proofs.Queries.{extracted}
 use Rattle.i_overlay.proofs.overlay.Overlay.overlay_hierarchy.Goals as goal
 
@@ -13,3 +19,17 @@ returns-clause-answers g c =
     c.in_ok-arrange.ensures.query core.edges core.failed c.extract_hierarchy-hierarchy.result
     (ap (λ h. h.failed) c.set_failed.ensures ∙ c.is_err.ensures.value) e.err c.self-2.view_is e.kept
     (ap (λ h. edges_in h.edges) c.set_failed.ensures) e.buffer
+
+pub returns-clause-given : goal.returns-clause-given
+returns-clause-given g c =
+    let e = c.extract_hierarchy-hierarchy.ensures in
+    given_round g.I.IntNumber.limit c.self.view_is (plain_held c.arrange.new.self) c.in_ok-arrange.field-0
+    c.in_ok-arrange.ensures.query
+    (λ b. asked g.I.Wide.WideIntNumber.width g.I.WideUInt.UIntNumber.natural c.args.fill_rule c.args.overlay_rule
+    b.options)
+    (λ h. steps_of_shapes (shapes_in g.I.IntNumber.whole h.shapes.points.items h.shapes.contour_ranges.items
+    h.shapes.shape_ranges.items))
+    (edges_in c.set_failed.new.self.edges)
+    (ap (λ h. edges_in h.edges) c.set_failed.ensures ∙ ap (λ b. b.edges) c.self-2.view_is ∙ ap (λ b. b.edges) e.kept)
+    c.extract_hierarchy-hierarchy.result
+    (IfOk-weaker c.extract_hierarchy-hierarchy.result _ _ (λ h is. is.is_result.winds) e.hierarchy)

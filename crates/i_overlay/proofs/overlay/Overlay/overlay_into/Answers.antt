@@ -1,7 +1,14 @@
--- The contours are written from the arranged edges; and a refusal is remembered.
+-- The contours are written from the arranged edges; a refusal is remembered; and they wind as asked of the edges
+-- before, far from these.
 use Rattle.std.proofs.Common.{ap, ◌∙◌}
+use Rattle.std.proofs.lemmas.Result.{IfOk-weaker}
+use Rattle.std.specs.List.{flat_map}
+use Rattle.overlay_geom.specs.Flat.{paths_in}
+use Rattle.overlay_geom.specs.Plane.{steps_of}
 use Rattle.overlay_plane.specs.Carried.{edges_in}
 use Rattle.overlay_builder.specs.Held.{plain_held}
+use Rattle.overlay_extract.specs.Results.{asked}
+use Rattle.i_overlay.proofs.GivenRegions.{given_round}
 use Rattle.i_overlay.proofs.Queries.{extracted}
 use Rattle.i_overlay.proofs.overlay.Overlay.overlay_into.Goals as goal
 
@@ -13,3 +20,16 @@ returns-clause-answers g c =
     c.in_ok-arrange.ensures.query core.edges core.failed c.extract_into-written.result
     (ap (λ h. h.failed) c.set_failed.ensures ∙ c.is_err.ensures.value) e.err c.self-2.view_is e.kept
     (ap (λ h. edges_in h.edges) c.set_failed.ensures) e.buffer
+
+pub returns-clause-given : goal.returns-clause-given
+returns-clause-given g c =
+    let e = c.extract_into-written.ensures in
+    let output = c.extract_into-written.new.output in
+    given_round g.I.IntNumber.limit c.self.view_is (plain_held c.arrange.new.self) c.in_ok-arrange.field-0
+    c.in_ok-arrange.ensures.query
+    (λ b. asked g.I.Wide.WideIntNumber.width g.I.WideUInt.UIntNumber.natural c.args.fill_rule c.args.overlay_rule
+    b.options)
+    (λ v. flat_map steps_of (paths_in g.I.IntNumber.whole output.points.items output.ranges.items))
+    (edges_in c.set_failed.new.self.edges)
+    (ap (λ h. edges_in h.edges) c.set_failed.ensures ∙ ap (λ b. b.edges) c.self-2.view_is ∙ ap (λ b. b.edges) e.kept)
+    c.extract_into-written.result (IfOk-weaker c.extract_into-written.result _ _ (λ v is. is.winds) e.result)

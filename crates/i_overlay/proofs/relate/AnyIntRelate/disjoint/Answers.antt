@@ -1,11 +1,5 @@
--- Two resources are disjoint where they do not intersect.
-use Rattle.overlay_arrange.specs.declared.fill_rule.FillRule.TheVariants.{EvenOdd}
-use Rattle.overlay_geom.specs.declared.solver.Solver.TheVariants.{Rounds}
-use Rattle.i_overlay.proofs.Relations.{disjoint_of_paths}
+-- The call with a solver answers so.
 use Rattle.i_overlay.proofs.relate.AnyIntRelate.disjoint.Goals as goal
 
 pub returns : goal.returns
-returns g c = record {
-  answer = disjoint_of_paths Rounds EvenOdd _ c.in_ok-meets.meets c.in_ok-meets.ensures.answer;
-  err = tt;
-}
+returns g c = c.disjoint_with_solver.ensures

@@ -1,10 +1,5 @@
--- The new builder answers of the paths that were added to it.
-use Rattle.overlay_plane.specs.Predicates.{PointIntersects}
-use Rattle.i_overlay.proofs.Relations.{answer_of_two}
+-- The call with a solver answers so.
 use Rattle.i_overlay.proofs.relate.AnyIntRelate.point_intersects.Goals as goal
 
 pub returns : goal.returns
-returns g c =
-    let made = c.in_ok-overlay.ensures in
-    answer_of_two g.I.IntNumber.limit PointIntersects _ _ c.in_ok-overlay.overlay c.point_intersects.new.self
-    c.point_intersects.result made.ok made.made c.point_intersects.ensures
+returns g c = c.point_intersects_with_solver.ensures

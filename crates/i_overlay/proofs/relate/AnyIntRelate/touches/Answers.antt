@@ -1,10 +1,5 @@
--- The new builder answers of the paths that were added to it.
-use Rattle.overlay_plane.specs.Predicates.{Touches}
-use Rattle.i_overlay.proofs.Relations.{answer_of_two}
+-- The call with a solver answers so.
 use Rattle.i_overlay.proofs.relate.AnyIntRelate.touches.Goals as goal
 
 pub returns : goal.returns
-returns g c =
-    let made = c.in_ok-overlay.ensures in
-    answer_of_two g.I.IntNumber.limit Touches _ _ c.in_ok-overlay.overlay c.touches.new.self
-    c.touches.result made.ok made.made c.touches.ensures
+returns g c = c.touches_with_solver.ensures

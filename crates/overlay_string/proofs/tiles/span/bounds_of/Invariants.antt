@@ -1,8 +1,0 @@
--- The box so far is that of the paths so far.
-use Rattle.std.proofs.Common.{take}
-use Rattle.overlay_string.specs.Spans.{IsBoxFound, points_of_paths}
-use Rattle.overlay_string.proofs.tiles.span.bounds_of.Given as goal
-
-abbrev pub invariant-loop-index : goal.invariant-loop-index
-invariant-loop-index g l =
-    IsBoxFound g.I.IntNumber.whole (points_of_paths (take l.index (g.R0.IntShapeResource.paths l.resource))) l.bounds
