@@ -1,12 +1,13 @@
 #!/usr/bin/env python3
-"""Writes docs/HEADLINE.md: the contract of `overlay`, and each definition that its winding clause stands on.
+"""Writes docs/HEADLINE.md: the contract of `overlay`, and each definition that its winding clauses stand on.
 
     scripts/headline.py           fails where the page is not what the script would write
     scripts/headline.py --write   writes the page
 
-The definitions are found by their names: from those that the winding clause cites to those that each of them cites.
-TOLD has them in reading order, each with a sentence, and STD has what they take of Rattle's library. The script fails
-where either list lacks a name or has one too many. Run it at the top of the repository.
+The definitions are found by their names: from those that the clause and its record cite to those that each of them
+cites. TOLD has them in reading order, each with a sentence, and STD has what they take of Rattle's library. The script
+fails where either list lacks a name or has one too many. A table has what the contract takes of the coordinate type,
+from the traits of numbers and their implementations. Run it at the top of the repository.
 """
 
 import re
@@ -14,21 +15,20 @@ import sys
 from dataclasses import dataclass, field
 from pathlib import Path
 
+from coordinates import table_of_members
 from specs import CRATES
 
 PAGE = Path("docs", "HEADLINE.md")
 CALL = CRATES / "i_overlay" / "src" / "overlay.rt"
 RESULT = ("overlay_extract.specs.Results", "IsResult")
+GIVEN = ("overlay_extract.specs.GivenRegion", "WindsRoundGiven")
 QUERY = ("i_overlay.specs.Queries", "BuilderExtracts")
-# what the winding clause of the contract cites itself
-ROOTS = [
-    ("overlay_extract.specs.Results", "WindsRoundRegion"),
-    ("overlay_plane.specs.ShapeWindings", "steps_of_shapes"),
-    ("overlay_walk.specs.Asked", "asked"),
-    ("overlay_geom.specs.Paths", "plain_shapes"),
-]
+# the clauses of the contract that tell of windings, each with its record, whose field `winds` does so
+CLAUSES = {"result": RESULT, "given": GIVEN}
+# what contracts see of the builder, `self.old` and `self.new`
+BUILDER = ("i_overlay.specs.Builder", "Builder")
 HEAD = re.compile(r"(?:abbrev pub|pub record|pub data) (\w+)")
-IMPORT = re.compile(r"(?:pub )?use Rattle\.([\w.]+)\.\{(.*)\}$")
+IMPORT = re.compile(r"(?:pub |ghost )?use Rattle\.([\w.]+)\.\{(.*)\};?$")
 WORD = re.compile(r"[^\s(){};,.]+")
 COLUMNS = 120
 
@@ -81,6 +81,9 @@ TOLD = [
     ("What is asked for", [
         ("ContourDirection", "The direction in which outlines run; holes run the other way."),
         ("IntOverlayOptions", "The options of a builder."),
+        ("Solver", "How edges are split where they meet."),
+        ("Builder", "What contracts see of a builder, by the view that `Overlay` has in its source: `self.old` before "
+         "the call, `self.new` after it."),
         ("Asked", "The two rules and the options, as the definitions read them."),
         ("asked", "What the arguments of `overlay` and the builder's options ask for."),
         ("region_asked", "The region asked for: where both rules hold of the windings."),
@@ -89,14 +92,19 @@ TOLD = [
         ("filled_hand", "The side of each step on which the region lies: the left one for counterclockwise output."),
         ("filled_asked", "That side, for the direction that the options ask for."),
     ]),
-    ("The winding clause", [
+    ("The winding clauses", [
         ("once_round", "1 for counterclockwise output, -1 for clockwise."),
         ("wanted_winding", "The winding that is wanted at p: once round the region, and 0 elsewhere."),
         ("WindsRoundRegion", "At each point of the plane off the edges the steps have the winding that is wanted."),
+        ("AreWithinHalves", "Both distances of two points, in x and in y, are at most k/2."),
+        ("IsFarFromEdge", "Each point of an edge is more than k/2 away from p, in x or in y."),
+        ("IsFarFrom", "So is each point of each edge of a list."),
+        ("WindsRoundFarPoints", "At each point far from the given edges the steps have the winding that is wanted of "
+         "these."),
     ]),
     ("How the program's values are read", [
         ("IntPoint", "A point of the program."),
-        ("plain_point", "The whole point of a program's point; `whole` gives the number of a coordinate."),
+        ("plain_point", "The whole point of a program's point; `whole` gives the number of a coordinate: `I.whole`."),
         ("plain_points", "The whole points of a list."),
         ("paths_of_shape", "The whole points of each contour of a shape."),
         ("plain_shapes", "The whole points of each contour of each shape."),
@@ -113,26 +121,35 @@ STD = {
     "List": "lists", "[]": "the empty list", "∷": "an entry before a list", "++": "two lists, one behind the other",
     "map": "a function of each entry",
     "flat_map": "the lists that a function gives of each entry, one behind the other",
-    "Vec": "a vector of the program, whose field `items` is its list", "Width": "a number of bits",
+    "Vec": "a vector of the program, whose field `items` is its list",
+    "Width": "a number of bits, as `w64`", "Option": "a value or none",
+    "IfOk": "`IfOk r P` is `P x` of a result `Ok x`, and true of an error",
 }
 TOP = """# The headline, whole
 
 Made by `scripts/headline.py --write`. The gate compares this page with the sources.
 
-The headline of [README](../README.md#what-is-guaranteed) is one clause of the contract of `Overlay::overlay`. Whoever
-believes the prover, and reads the definitions below, knows what that clause says: nothing else enters it. The order is
-that of reading: each definition cites only those above it and Rattle's library.
+The headline of [README](../README.md#what-is-guaranteed) is two clauses of the contract of `Overlay::overlay`. Whoever
+believes the prover, and reads the definitions below, knows what they say of windings: all that they cite stands here,
+down to Rattle's library. The order is that of reading: each definition cites only those above it and that library.
 
 ## The contract
 
-`self.new.edges` is the arrangement that the builder holds after the call, and `result` is the answer. The second clause
-speaks of both; `winds`, the first field of `IsResult`, is the headline.
+`self.old.edges` is what the builder holds before the call: the edges of the contours that were added. `self.new.edges`
+is the arrangement that it holds after the call, and `result` is the answer. Clause `result` speaks of the arrangement:
+`winds`, the first field of `IsResult`, is the first sentence. Clause `given` speaks of the edges before: `winds` of
+`WindsRoundGiven` is the second sentence. There k is the number of rounds that moved some point, at most one by snap
+rounding (field `few_moving` of `IsArranged`).
 """
 NOTATION = """## Notation
 
 A name that begins with a capital is a statement or a type; any other is a function or a value. `A → B` is a function,
 or "A implies B"; `(x : X) → ..` is "for each x"; `A × B` is "both". `λ x. ..` is a function. `record { .. }` is a
 record, and `r.f` its field f. The definitions take from Rattle's library, beside signs that mean the usual:
+"""
+TYPE = """## The coordinate type
+
+`I` is the type of coordinates, and the contract takes of it:
 """
 REST = """## What the rest of the contract adds
 
@@ -204,16 +221,16 @@ class Specs:
 
 
 def declared(module: str, name: str) -> list[str]:
-    """The declaration of a type of the program, without its comments."""
+    """The declaration of a type of the program, without its comments and attributes."""
     crate = module.split(".")[0]
     for file in sorted(Path(CRATES, crate, "src").rglob("*.rt")):
         if found := re.search(rf"^pub (?:enum|struct) {name}\b.*?^}}", file.read_text(), re.M | re.S):
-            return [it for it in found[0].split("\n") if not it.strip().startswith("//")]
+            return [it for it in found[0].split("\n") if not it.strip().startswith(("//", "#["))]
     raise SystemExit(f"headline: {module} declares no {name}")
 
 
 def told(specs: Specs, found: list[tuple[str, str]]) -> str:
-    """The definitions of the winding clause, under their headings."""
+    """The definitions of the winding clauses, under their headings."""
     names = {name: (module, name) for module, name in found}
     out = ""
     for heading, items in TOLD:
@@ -286,7 +303,7 @@ def notation() -> str:
 
 
 def check_names(specs: Specs, found: list[tuple[str, str]]) -> None:
-    """Fails where the lists of the script have not just the names that the clause stands on."""
+    """Fails where the lists of the script have not just the names that the clauses stand on."""
     ours = {name for module, name in found if not module.startswith("std.") and is_told(specs, module, name)}
     std = {name.strip("◌") for module, name in found if module.startswith("std.")}
     for known, are, what in ((set(STD), std, "STD"), ({it for _, items in TOLD for it, _ in items}, ours, "TOLD")):
@@ -305,19 +322,42 @@ def contract() -> str:
     return "\n".join(it.removeprefix("    ") for it in found[0].rstrip().split("\n"))
 
 
+def up_to_winds(block: Block) -> str:
+    """A record's text up to its field `winds`, and two dots if there is more."""
+    lines = [it.strip() for it in block.text]
+    at = next(place for place, it in enumerate(lines) if it.startswith("pub winds ")) + 1
+    while at < len(lines) and not lines[at].startswith(("pub ", "--")):
+        at += 1
+    return "\n".join([*block.text[:at], *["  .."][: len(lines) - at]])
+
+
+def roots(specs: Specs) -> list[tuple[str, str]]:
+    """What the winding clauses cite themselves: in the contract beside their records, and in the fields of these."""
+    specs.read("contract", [it for it in CALL.read_text().split("\n") if it.startswith("ghost use")])
+    found = [BUILDER]
+    for name, key in CLAUSES.items():
+        clause = re.search(rf"ensures {name} \{{(.*?)\}}$", contract(), re.M | re.S)
+        fields = {name: "\n".join(lines) for _, name, lines in fields_of(specs.blocks[key])}
+        found += [it for it in specs.cited(Block("contract", ""), clause[1] if clause else "") if it != key]
+        found += specs.cited(specs.blocks[key], fields["winds"])
+    return found
+
+
 def made() -> str:
     """The page."""
     specs = Specs()
-    found = specs.closure(ROOTS)
+    found = specs.closure(roots(specs))
     check_names(specs, found)
-    record = "\n".join(specs.blocks[RESULT].text)
-    first = record.split("\n  -- each shape")[0]
+    records = "\n\n".join(up_to_winds(specs.blocks[it]) for it in CLAUSES.values())
     count = sum(1 for it in found if it in specs.blocks)
     lines = sum(len(specs.blocks[it].text) for it in found if it in specs.blocks)
-    out = f"{TOP}\n```rust\n{contract()}\n```\n\n```text\n{first}\n  ..\n```\n"
-    out += f"\nThe winding clause stands on {count} definitions of {lines} lines, and on types of the program.\n"
-    out += notation() + told(specs, found)
-    out += f"\n{REST}\n### `{RESULT[1]}`\n" + rest(specs, RESULT, found, "winds")
+    out = f"{TOP}\n```rust\n{contract()}\n```\n\n```text\n{records}\n```\n"
+    out += f"\nThe winding clauses stand on {count} definitions of {lines} lines, and on types of the program.\n"
+    values = {block.name: block.text[-1].removeprefix(f"{block.name} = ") for block in specs.blocks.values()}
+    out += notation() + f"\n{TYPE}\n" + table_of_members(contract(), values) + told(specs, found)
+    out += f"\n{REST}"
+    for key in CLAUSES.values():
+        out += f"\n### `{key[1]}`\n" + rest(specs, key, found, "winds")
     return out + f"\n### `{QUERY[1]}`\n" + rest(specs, QUERY, found)
 
 

@@ -1,21 +1,87 @@
 //! Calls that leave no builder and take the solver: nothing of the caller's is changed.
 
-use crate::figures::{PATHS, Width};
+use crate::figures::{PATHS, Width, square, squares};
 use crate::one_call::{INSIDE, RULE, count_of};
 use crate::refusals::{Memory, Trial};
 use crate::strings::{bar_at, bars, lines, plate};
 use i_overlay::i_shape::int::path::PathRef;
 use i_overlay::i_shape::int::shape::IntContour;
+use i_overlay::overlay::IntOverlayOptions;
+use i_overlay::overlay_rule::OverlayRule;
+use i_overlay::relate::IntRelate;
+use i_overlay::simplify::Simplify;
+use i_overlay::single::SingleIntOverlay;
 use i_overlay::solver::Solver;
 use i_overlay::string::clip::IntClip;
 use i_overlay::string::slice::IntSlice;
 use overlay_geom::resource::IntShapeResource;
-use overlay_string::tiles::grid::Grid;
-use overlay_string::tiles::slice::slice_by_grid_with_solver;
+use overlay_tiles::grid::Grid;
+use overlay_tiles::slice::slice_by_grid_with_solver;
 use std::process::Abort;
 use std::test::Fail;
 
 const SNAPPED: Solver = Solver::SNAPPED;
+
+fn check_relate<I: Width>(trial: &Trial<'_, impl Abort>) -> Result<(), Fail> {
+    let memory = trial.memory;
+    let (wide, narrow) = (square::<I>(0, 4), square::<I>(1, 2));
+    let (subj, clip) = (PathRef::new(&wide), PathRef::new(&narrow));
+    let told = [
+        trial.refuse_call("IntRelate::intersects_with_solver", || {
+            subj.intersects_with_solver(memory, &clip, SNAPPED)
+        })?,
+        trial.refuse_call("IntRelate::interiors_intersect_with_solver", || {
+            subj.interiors_intersect_with_solver(memory, &clip, SNAPPED)
+        })?,
+        trial.refuse_call("IntRelate::touches_with_solver", || {
+            subj.touches_with_solver(memory, &clip, SNAPPED)
+        })?,
+        trial.refuse_call("IntRelate::point_intersects_with_solver", || {
+            subj.point_intersects_with_solver(memory, &clip, SNAPPED)
+        })?,
+        trial.refuse_call("IntRelate::within_with_solver", || {
+            subj.within_with_solver(memory, &clip, SNAPPED)
+        })?,
+        trial.refuse_call("IntRelate::disjoint_with_solver", || {
+            subj.disjoint_with_solver(memory, &clip, SNAPPED)
+        })?,
+        trial.refuse_call("IntRelate::covers_with_solver", || {
+            subj.covers_with_solver(memory, &clip, SNAPPED)
+        })?,
+    ];
+    assert!(trial.rt; told == [true, true, false, false, false, false, true]);
+    Ok(())
+}
+
+#[test]
+fn relations_by_snap_rounding(rt: HostRuntime) -> Result<(), Fail> {
+    at_a_width!(rt, check_relate)
+}
+
+fn check_overlays<I: Width>(trial: &Trial<'_, impl Abort>) -> Result<(), Fail> {
+    let memory = trial.memory;
+    let shape = squares::<I>(memory, PATHS)?;
+    let wide = square::<I>(0, 4);
+    let one = PathRef::new(&wide);
+    let counts = [
+        count_of(trial, "SingleIntOverlay::overlay_with_solver", || {
+            shape.overlay_with_solver(memory, &one, OverlayRule::Union, RULE, SNAPPED)
+        })?,
+        count_of(trial, "Simplify::simplify_with_solver", || {
+            one.simplify_with_solver(memory, RULE, IntOverlayOptions::default(), SNAPPED)
+        })?,
+        count_of(trial, "Simplify::simplify_with_solver", || {
+            shape.simplify_with_solver(memory, RULE, IntOverlayOptions::default(), SNAPPED)
+        })?,
+    ];
+    assert!(trial.rt; counts == [PATHS + 1, 1, PATHS]);
+    Ok(())
+}
+
+#[test]
+fn overlays_by_snap_rounding(rt: HostRuntime) -> Result<(), Fail> {
+    at_a_width!(rt, check_overlays)
+}
 
 fn check_clips<I: Width>(trial: &Trial<'_, impl Abort>) -> Result<(), Fail> {
     let memory = trial.memory;
@@ -92,7 +158,7 @@ fn check_tiles<I: Width>(trial: &Trial<'_, impl Abort>) -> Result<(), Fail> {
         width: I::from(2),
         height: I::from(4),
     };
-    let count = count_of(trial, "overlay_string::slice_by_grid_with_solver", || {
+    let count = count_of(trial, "overlay_tiles::slice_by_grid_with_solver", || {
         slice_by_grid_with_solver(memory, &shape, grid, RULE, SNAPPED)
     })?;
     assert!(trial.rt; count == 4 * 2);

@@ -27,7 +27,7 @@ use overlay_builder::points::gathered;
 use overlay_geom::error::OverlayError;
 use overlay_geom::flat::copied;
 use overlay_geom::thin::{push_thinned, thinned};
-use overlay_relate::in_contour::{locate_by, locate_in_contour};
+use overlay_relate::in_contour::{locate_by, locate_from, locate_in_contour};
 use overlay_relate::in_shapes::{locate_in_shape, locate_in_shapes};
 use overlay_relate::resolved::is_resolved_in;
 use overlay_scan::list::ScanList;
@@ -204,6 +204,12 @@ fn check_points<I: Width>(trial: &Trial<'_, impl Abort>) -> Result<(), Fail> {
         })?,
         trial.refuse_call("overlay_relate::locate_in_shapes", || {
             locate_in_shapes(memory, &shapes, &points)
+        })?,
+        trial.refuse_call("overlay_relate::locate_from", || {
+            locate_from(memory, &contour, &points, 0)
+        })?,
+        trial.refuse_call("overlay_relate::locate_from", || {
+            locate_from(memory, &contour, &points, usize::MAX)
         })?,
         trial.refuse_each(
             "overlay_relate::locate_by",

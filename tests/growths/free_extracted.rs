@@ -18,7 +18,7 @@ use overlay_builder::boolean::{passing, passing_without_data};
 use overlay_builder::path::{PathKind, StepCounts, add_path};
 use overlay_extract::assemble::{assembled, contour};
 use overlay_extract::binding::anchor::hole_anchors;
-use overlay_extract::binding::bind::bind_contours;
+use overlay_extract::binding::bind::{bind_contours, bind_from};
 use overlay_extract::binding::islands::{hole_places, holes_round};
 use overlay_extract::binding::placed::{bound_places, placed_contours, placed_contours_of};
 use overlay_extract::binding::places::shape_places;
@@ -28,7 +28,7 @@ use overlay_extract::extract::{
 use overlay_extract::flat_shapes::flat_assembled;
 use overlay_extract::hierarchy::extract_shape_hierarchy;
 use overlay_extract::in_shapes::in_shapes;
-use overlay_extract::links::links;
+use overlay_extract::links::{link_from, links};
 use overlay_extract::slicing::cutter::cut_loops;
 use overlay_extract::slicing::loops::filled_loops;
 use overlay_extract::slicing::orbits::side_orbits;
@@ -299,6 +299,15 @@ fn check_scans<'m, I: Width, S: Scan<I, usize> + Drop, N: Fn() -> S + Drop>(
         |_| Ok(true),
     )?;
     assert!(trial.rt; ordered.len() == 4 && links.len() == 1);
+    for tree_from in [0, usize::MAX] {
+        let again = trial.refuse_call("overlay_extract::bind_from", || {
+            bind_from(memory, contours, DIRECTION, tree_from)
+        })?;
+        let linked = trial.refuse_call("overlay_extract::link_from", || {
+            link_from(memory, &ordered, DIRECTION, tree_from)
+        })?;
+        assert!(trial.rt; again == found && linked == links);
+    }
     Ok(())
 }
 

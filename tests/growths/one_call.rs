@@ -19,11 +19,11 @@ use i_overlay::string::clip::{ClipRule, IntClip};
 use i_overlay::string::slice::IntSlice;
 use i_overlay::vector::edge::{DataVectorEdge, DataVectorPath, ToPath};
 use overlay_geom::error::OverlayError;
-use overlay_string::tiles::grid::{Grid, grid_fits};
-use overlay_string::tiles::lines::grid_lines;
-use overlay_string::tiles::multiples::grid_multiples;
-use overlay_string::tiles::slice::slice_by_grid;
-use overlay_string::tiles::span::IntSpan;
+use overlay_tiles::grid::{Grid, grid_fits};
+use overlay_tiles::lines::grid_lines;
+use overlay_tiles::multiples::grid_multiples;
+use overlay_tiles::slice::slice_by_grid;
+use overlay_tiles::span::IntSpan;
 use std::alloc::Allocator;
 use std::process::Abort;
 use std::test::Fail;
@@ -256,16 +256,16 @@ fn check_grid<I: Width>(trial: &Trial<'_, impl Abort>) -> Result<(), Fail> {
         height: I::from(4),
     };
     let counts = [
-        count_of(trial, "overlay_string::grid_multiples", || {
+        count_of(trial, "overlay_tiles::grid_multiples", || {
             grid_multiples(memory, I::from(3), span)
         })?,
         trial
             .refuse_call(
-                "overlay_string::grid_lines",
+                "overlay_tiles::grid_lines",
                 || grid_lines(memory, &shape, grid),
             )?
             .len(),
-        count_of(trial, "overlay_string::slice_by_grid", || {
+        count_of(trial, "overlay_tiles::slice_by_grid", || {
             slice_by_grid(memory, &shape, grid, RULE)
         })?,
     ];

@@ -91,7 +91,7 @@ fn in_one_another(alloc: Global) -> Result<Vec<Square, Global>, Fail> {
     let mut squares = Vec::new(alloc);
     for j in 0..35u8 {
         let low = 2 * i16::from(j);
-        let high = 146 - low;
+        let high = 200 - low;
         squares.push(outline((low, low), (high, high)))?;
         squares.push(hole((low + 1, low + 1), (high - 1, high - 1)))?;
     }

@@ -55,7 +55,7 @@ fn answers<I: OverlayInt + PartialEq + From<i16>>(
 }
 
 // Tests whether a builder with the row's contours answers its shapes by each solver, and again by rounds. They must
-// also come with trees alone and with lists alone.
+// also come with trees for any number of shapes, and with none at first.
 fn holds<I: OverlayInt + PartialEq + From<i16>>(
     rt: &impl Abort,
     alloc: Global,

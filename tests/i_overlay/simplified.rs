@@ -2,8 +2,11 @@
 
 use crate::builders::edge_count;
 use crate::contours::add_contours;
+use crate::rows::Row;
+use crate::trees::gives_shapes;
 use i_overlay::fill_rule::FillRule;
 use i_overlay::overlay::{ContourDirection, IntOverlayOptions, Overlay, ShapeType};
+use i_overlay::overlay_rule::OverlayRule;
 use i_overlay::simplify::Simplify;
 use i_overlay::solver::Solver;
 use overlay_geom::error::OverlayError;
@@ -280,6 +283,57 @@ fn check_minimum<I: OverlayInt + PartialEq + From<i16>>(
     check_source::<I>(rt, alloc, options, &[SMALL], &[], 4)?;
     check_given::<I>(rt, alloc, options, SMALL)?;
     check_buffer::<I>(rt, alloc, options, FillRule::NonZero, &[SMALL], &[SMALL])
+}
+
+// Tests whether a contour leaves this shape, or none, with trees for any number of shapes, and with none at first.
+fn is_cut_into<I: OverlayInt + PartialEq + From<i16>>(
+    rt: &impl Abort,
+    alloc: Global,
+    contour: Points<'_>,
+    fill: FillRule,
+    options: IntOverlayOptions<I::WideUInt>,
+    wanted: &[&[Points<'_>]],
+) -> Result<bool, OverlayError> {
+    let row = Row {
+        subj: &[contour],
+        clip: &[],
+        rule: OverlayRule::Subject,
+        fill,
+        wanted,
+    };
+    gives_shapes::<I>(rt, alloc, &row, options)
+}
+
+// The contours as they are cut, and one below the minimum area.
+fn check_limits<I: OverlayInt + PartialEq + From<i16>>(
+    rt: &impl Abort,
+    alloc: Global,
+    min_output_area: I::WideUInt,
+) -> Result<(), Fail> {
+    let (rule, options) = (FillRule::NonZero, IntOverlayOptions::default());
+    let large = IntOverlayOptions {
+        min_output_area,
+        ..options
+    };
+    let walked: Points<'_> = &[(0, 10), (0, 0), (10, 0), (10, 10)];
+    let sliver: Points<'_> = &[(-100, -100), (0, 0), (101, 100)];
+    let sliver_walked: Points<'_> = &[(0, 0), (-100, -100), (101, 100)];
+    let negative = FillRule::Negative;
+    assert!(rt; is_cut_into::<I>(rt, alloc, CLOCKWISE, FillRule::Positive, options, &[])?);
+    assert!(rt; is_cut_into::<I>(rt, alloc, CLOCKWISE, negative, options, &[&[walked]])?);
+    assert!(rt; is_cut_into::<I>(rt, alloc, &[(0, 0), (1, 1)], rule, options, &[])?);
+    assert!(rt; is_cut_into::<I>(rt, alloc, sliver, rule, options, &[&[sliver_walked]])?);
+    assert!(rt; is_cut_into::<I>(rt, alloc, VISITED_TWICE, rule, options, &[&[VISITED_ONCE]])?);
+    assert!(rt; is_cut_into::<I>(rt, alloc, SMALL, rule, options, &[&[SMALL_WALKED]])?);
+    assert!(rt; is_cut_into::<I>(rt, alloc, SMALL, rule, large, &[])?);
+    Ok(())
+}
+
+#[test]
+fn cut_by_each_limit(rt: HostRuntime) -> Result<(), Fail> {
+    check_limits::<i16>(&rt, rt.alloc(), 5)?;
+    check_limits::<i32>(&rt, rt.alloc(), 5)?;
+    check_limits::<i64>(&rt, rt.alloc(), 5)
 }
 
 #[test]

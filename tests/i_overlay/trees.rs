@@ -1,4 +1,4 @@
-//! Extractions of a row with live edges in trees alone, and in lists alone.
+//! Extractions of a row with trees for any number of parents, and with none at first.
 
 use crate::rows::Row;
 use i_overlay::extract::BooleanExtractionBuffer;
@@ -12,23 +12,23 @@ use overlay_arrange::graph::Graph;
 use overlay_builder::boolean::passing;
 use overlay_builder::path::{PathKind, add_path, contour_kind};
 use overlay_extract::assemble::assembled;
-use overlay_extract::binding::bind::bind_contours;
+use overlay_extract::binding::bind::bind_from;
 use overlay_extract::binding::placed::PlacedContours;
 use overlay_extract::binding::places::shape_places;
 use overlay_extract::in_shapes::in_shapes;
-use overlay_extract::links::links;
+use overlay_extract::links::link_from;
 use overlay_geom::error::OverlayError;
 use overlay_geom::flat::shapes::FlatShapesBuffer;
 use overlay_geom::integer::OverlayInt;
 use overlay_geom::point::{IntPoint, in_range};
 use overlay_geom::solver::Solver;
-use overlay_scan::list::ScanList;
-use overlay_scan::scan::Scan;
-use overlay_scan::tree::ScanTree;
 use overlay_walk::kept_contours::kept_contours;
 use small_points::contours::{Points, contour_of, shapes_of};
 use std::alloc::Global;
 use std::process::Abort;
+
+// The limits at which each binding has a tree, and at which none has.
+const LIMITS: [usize; 2] = [0, usize::MAX];
 
 type Counted<I> = Content<I, ShapeCountBoolean, Global>;
 
@@ -75,75 +75,73 @@ fn graph_of<I: OverlayInt + From<i16>>(
     Ok(content.graph(row.fill)?)
 }
 
-// The row's contours, and their places in the shapes that are found for them by the scan.
-fn placed_by<I: OverlayInt, S: Scan<I, usize>>(
+// The row's contours, and their places in the shapes that are found for them, with a tree from a number of shapes on.
+fn placed_from<I: OverlayInt>(
     graph: &Graph<I, ShapeCountBoolean, Global>,
     rule: OverlayRule,
     options: IntOverlayOptions<I::WideUInt>,
-    buffer: &mut BooleanExtractionBuffer<I, Global>,
-    scan: &mut S,
+    tree_from: usize,
 ) -> Result<PlacedContours<I, Global>, OverlayError> {
     let alloc = *graph.allocator();
-    let contours = kept_contours(graph, rule, options, buffer)?;
-    let found = bind_contours(alloc, scan, &contours, options.output_direction)?;
+    let mut buffer = BooleanExtractionBuffer::default(alloc);
+    let contours = kept_contours(graph, rule, options, &mut buffer)?;
+    let found = bind_from(alloc, &contours, options.output_direction, tree_from)?;
     let places = shape_places(alloc, &contours, &found)?;
     Ok(PlacedContours { contours, places })
 }
 
-// Tests whether the row's shapes are extracted with live edges in the scan.
-fn gives_shapes_by<I: OverlayInt + PartialEq + From<i16>, S: Scan<I, usize>>(
+// Tests whether the row's shapes are extracted with a tree from a number of shapes on.
+fn gives_shapes_from<I: OverlayInt + PartialEq + From<i16>>(
     rt: &impl Abort,
     alloc: Global,
     row: &Row<'_>,
     options: IntOverlayOptions<I::WideUInt>,
-    scan: &mut S,
+    tree_from: usize,
 ) -> Result<bool, OverlayError> {
     let kind = contour_kind(options.preserve_input_collinear);
     let graph = graph_of::<I>(rt, alloc, row, kind)?;
-    let mut buffer = BooleanExtractionBuffer::default(alloc);
-    let placed = placed_by(&graph, row.rule, options, &mut buffer, scan)?;
+    let placed = placed_from(&graph, row.rule, options, tree_from)?;
     let keeps_points = options.preserve_output_collinear;
     let shapes = assembled(alloc, &placed.contours, &placed.places, keeps_points)?;
     Ok(shapes == shapes_of::<I>(alloc, row.wanted)?)
 }
 
-// Tests whether the hierarchy is extracted with live edges in the scan.
-fn gives_hierarchy_by<I: OverlayInt + PartialEq + From<i16>, S: Scan<I, usize>>(
+// Tests whether the hierarchy is extracted with trees from a number of parents on.
+fn gives_hierarchy_from<I: OverlayInt + PartialEq + From<i16>>(
     rt: &impl Abort,
     alloc: Global,
     row: &Row<'_>,
     options: IntOverlayOptions<I::WideUInt>,
     wanted: &FlatShapeHierarchy<I, Global>,
-    scan: &mut S,
+    tree_from: usize,
 ) -> Result<bool, OverlayError> {
     let kind = contour_kind(options.preserve_input_collinear);
     let graph = graph_of::<I>(rt, alloc, row, kind)?;
-    let mut buffer = BooleanExtractionBuffer::default(alloc);
-    let placed = placed_by(&graph, row.rule, options, &mut buffer, scan)?;
+    let placed = placed_from(&graph, row.rule, options, tree_from)?;
     let keeps_points = options.preserve_output_collinear;
     let shapes = assembled(alloc, &placed.contours, &placed.places, keeps_points)?;
     let ordered = in_shapes(alloc, &placed.contours, &placed.places)?;
-    scan.clear();
-    let links = links(alloc, scan, &ordered, options.output_direction)?;
+    let links = link_from(alloc, &ordered, options.output_direction, tree_from)?;
     let shapes = FlatShapesBuffer::from_shapes(alloc, &shapes)?;
     Ok(FlatShapeHierarchy { shapes, links } == *wanted)
 }
 
-/// Tests whether the row's shapes are extracted with trees alone, and with lists alone.
+/// Tests whether the row's shapes are extracted by each limit.
 pub(crate) fn gives_shapes<I: OverlayInt + PartialEq + From<i16>>(
     rt: &impl Abort,
     alloc: Global,
     row: &Row<'_>,
     options: IntOverlayOptions<I::WideUInt>,
 ) -> Result<bool, OverlayError> {
-    let (mut tree, mut list) = (ScanTree::default(alloc), ScanList::default(alloc));
-    Ok(
-        gives_shapes_by::<I, _>(rt, alloc, row, options, &mut tree)?
-            && gives_shapes_by::<I, _>(rt, alloc, row, options, &mut list)?,
-    )
+    for tree_from in LIMITS {
+        if !gives_shapes_from::<I>(rt, alloc, row, options, tree_from)? {
+            return Ok(false);
+        }
+    }
+    Ok(true)
 }
 
-/// Tests whether the hierarchy is extracted with trees alone, and with lists alone.
+/// Tests whether the hierarchy is extracted by each limit.
 pub(crate) fn gives_hierarchy<I: OverlayInt + PartialEq + From<i16>>(
     rt: &impl Abort,
     alloc: Global,
@@ -151,9 +149,10 @@ pub(crate) fn gives_hierarchy<I: OverlayInt + PartialEq + From<i16>>(
     options: IntOverlayOptions<I::WideUInt>,
     wanted: &FlatShapeHierarchy<I, Global>,
 ) -> Result<bool, OverlayError> {
-    let (mut tree, mut list) = (ScanTree::default(alloc), ScanList::default(alloc));
-    Ok(
-        gives_hierarchy_by(rt, alloc, row, options, wanted, &mut tree)?
-            && gives_hierarchy_by(rt, alloc, row, options, wanted, &mut list)?,
-    )
+    for tree_from in LIMITS {
+        if !gives_hierarchy_from(rt, alloc, row, options, wanted, tree_from)? {
+            return Ok(false);
+        }
+    }
+    Ok(true)
 }

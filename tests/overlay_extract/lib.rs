@@ -3,5 +3,4 @@
 mod by_scan;
 mod simplified;
 mod slice_bound;
-mod slice_graphs;
 mod slice_rows;

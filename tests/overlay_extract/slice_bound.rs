@@ -1,7 +1,6 @@
 //! The contours of slices that reach a minimum area, and the shapes of the holes among them, at each coordinate type.
 
 use crate::by_scan::slice_contours_by;
-use crate::slice_graphs::{INNER, OUTER_AND_INNER, SQUARE, graph_of};
 use overlay_arrange::options::ContourDirection;
 use overlay_extract::slicing::sliced_shapes::sliced_shapes;
 use overlay_extract::slicing::slices::{SliceContours, slice_contours};
@@ -10,6 +9,7 @@ use overlay_scan::list::ScanList;
 use overlay_scan::tree::ScanTree;
 use overlay_walk::contour::Role;
 use small_points::contours::{Points, shapes_of};
+use small_points::slice_graphs::{INNER, OUTER_AND_INNER, SQUARE, graph_of};
 use std::alloc::Global;
 use std::process::Abort;
 use std::test::Fail;

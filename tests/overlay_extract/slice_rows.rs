@@ -1,13 +1,13 @@
 //! Shapes sliced along strings, on worked rows, at each coordinate type.
 
 use crate::by_scan::sliced_shapes_by;
-use crate::slice_graphs::{INNER, OUTER_AND_INNER, SQUARE, graph_of};
 use overlay_arrange::options::ContourDirection;
 use overlay_extract::slicing::sliced_shapes::sliced_shapes;
 use overlay_geom::number::{IntNumber, UIntNumber};
 use overlay_scan::list::ScanList;
 use overlay_scan::tree::ScanTree;
 use small_points::contours::{Points, shapes_of};
+use small_points::slice_graphs::{INNER, OUTER_AND_INNER, SQUARE, graph_of};
 use std::alloc::Global;
 use std::process::Abort;
 use std::test::Fail;

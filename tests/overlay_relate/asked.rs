@@ -1,5 +1,5 @@
-//! Queries of contours and shapes. They stop the test where a condition does not hold, or where locations differ by
-//! lists or by trees alone.
+//! Queries of contours and shapes. They stop the test where a condition does not hold, or where locations differ with
+//! trees for all contours or with none at first.
 
 use overlay_geom::integer::OverlayInt;
 use overlay_geom::path::{IntContour, IntShape, IntShapes, PathRef};
@@ -7,14 +7,14 @@ use overlay_geom::point::{IntPoint, in_range};
 use overlay_geom::resolved::is_resolved;
 use overlay_geom::resource::borrowed::{BorrowedContours, BorrowedShapes};
 use overlay_relate::containment::IntPointContainment;
-use overlay_relate::in_contour::locate_by;
+use overlay_relate::in_contour::locate_from;
 use overlay_relate::location::PointLocation;
-use overlay_scan::list::ScanList;
-use overlay_scan::scan::Scan;
-use overlay_scan::tree::ScanTree;
 use std::alloc::{Allocator, Global};
 use std::process::Abort;
 use std::test::Fail;
+
+// The limits at which each contour has a tree, and at which none has.
+const LIMITS: [usize; 2] = [0, usize::MAX];
 
 /// The answers: whether each point is inside, and its location.
 #[derive(Drop)]
@@ -78,17 +78,16 @@ fn outside<I: OverlayInt>(
     Ok(locations)
 }
 
-// Where the points lie in the shape, by one scan for each contour in turn.
-fn in_shape_by<I: OverlayInt, S: Scan<I, usize>>(
+// Where the points lie in the shape, with trees from a number of edges on.
+fn in_shape_from<I: OverlayInt>(
     alloc: Global,
-    scan: &mut S,
     contours: &[IntContour<I, Global>],
     points: &[IntPoint<I>],
+    tree_from: usize,
 ) -> Result<Vec<PointLocation, Global>, Fail> {
     let mut locations = outside(alloc, points)?;
     for contour in contours {
-        scan.clear();
-        let here = locate_by(alloc, scan, contour, points)?;
+        let here = locate_from(alloc, contour, points, tree_from)?;
         for i in 0..points.len() {
             locations[i] = in_either(locations[i], here[i]);
         }
@@ -97,15 +96,15 @@ fn in_shape_by<I: OverlayInt, S: Scan<I, usize>>(
 }
 
 // Where they lie among the shapes.
-fn in_shapes_by<I: OverlayInt, S: Scan<I, usize>>(
+fn in_shapes_from<I: OverlayInt>(
     alloc: Global,
-    scan: &mut S,
     shapes: &[IntShape<I, Global>],
     points: &[IntPoint<I>],
+    tree_from: usize,
 ) -> Result<Vec<PointLocation, Global>, Fail> {
     let mut locations = outside(alloc, points)?;
     for shape in shapes {
-        let here = in_shape_by(alloc, scan, shape, points)?;
+        let here = in_shape_from(alloc, shape, points, tree_from)?;
         for i in 0..points.len() {
             locations[i] = in_any(locations[i], here[i]);
         }
@@ -113,16 +112,19 @@ fn in_shapes_by<I: OverlayInt, S: Scan<I, usize>>(
     Ok(locations)
 }
 
-// Tests whether the points lie so in the contour, by trees alone and by lists alone.
+// Tests whether the points lie so in the contour, by each limit.
 fn are_in_contour<I: OverlayInt>(
     alloc: Global,
     contour: &[IntPoint<I>],
     points: &[IntPoint<I>],
     locations: &[PointLocation],
 ) -> Result<bool, Fail> {
-    let by_trees = locate_by(alloc, &mut ScanTree::default(alloc), contour, points)?;
-    let by_lists = locate_by(alloc, &mut ScanList::default(alloc), contour, points)?;
-    Ok(by_trees.as_slice() == locations && by_lists.as_slice() == locations)
+    for tree_from in LIMITS {
+        if locate_from(alloc, contour, points, tree_from)?.as_slice() != locations {
+            return Ok(false);
+        }
+    }
+    Ok(true)
 }
 
 // Tests whether they lie so in the shape.
@@ -132,9 +134,12 @@ fn are_in_shape<I: OverlayInt>(
     points: &[IntPoint<I>],
     locations: &[PointLocation],
 ) -> Result<bool, Fail> {
-    let by_trees = in_shape_by(alloc, &mut ScanTree::default(alloc), contours, points)?;
-    let by_lists = in_shape_by(alloc, &mut ScanList::default(alloc), contours, points)?;
-    Ok(by_trees.as_slice() == locations && by_lists.as_slice() == locations)
+    for tree_from in LIMITS {
+        if in_shape_from(alloc, contours, points, tree_from)?.as_slice() != locations {
+            return Ok(false);
+        }
+    }
+    Ok(true)
 }
 
 // Tests whether they lie so among the shapes.
@@ -144,9 +149,12 @@ fn are_in_shapes<I: OverlayInt>(
     points: &[IntPoint<I>],
     locations: &[PointLocation],
 ) -> Result<bool, Fail> {
-    let by_trees = in_shapes_by(alloc, &mut ScanTree::default(alloc), shapes, points)?;
-    let by_lists = in_shapes_by(alloc, &mut ScanList::default(alloc), shapes, points)?;
-    Ok(by_trees.as_slice() == locations && by_lists.as_slice() == locations)
+    for tree_from in LIMITS {
+        if in_shapes_from(alloc, shapes, points, tree_from)?.as_slice() != locations {
+            return Ok(false);
+        }
+    }
+    Ok(true)
 }
 
 // Tests whether the same points, borrowed, have these answers.

@@ -12,3 +12,4 @@ mod relations;
 mod resolved;
 mod rows;
 mod saw;
+mod turned;

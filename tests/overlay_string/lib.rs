@@ -3,12 +3,9 @@
 mod built;
 mod clip;
 mod clip_calls;
-mod fits;
 mod points;
 mod rules;
 mod slice;
 mod solvers;
-mod tile_points;
-mod tile_solvers;
-mod tiles;
+mod trees;
 mod views;

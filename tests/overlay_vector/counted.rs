@@ -10,8 +10,8 @@ use std::alloc::Global;
 use std::process::Abort;
 use std::test::Fail;
 
-// These numbers of calls.
-fn calls(merges: u32, splits: u32, reverses: u32) -> Calls {
+/// These numbers of calls.
+pub(crate) fn calls(merges: u32, splits: u32, reverses: u32) -> Calls {
     Calls {
         merges,
         splits,

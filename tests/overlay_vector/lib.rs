@@ -7,6 +7,8 @@ mod counted;
 mod edges;
 mod rows;
 mod shapes;
+mod snapped_graphs;
+mod snapped_stores;
 mod solvers;
 mod sources;
 mod stores;

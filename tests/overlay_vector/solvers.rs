@@ -13,10 +13,11 @@ use std::alloc::Global;
 use std::process::Abort;
 use std::test::Fail;
 
-// Two needles, whose long sides cross so flatly that each round moves their crossing on by one unit.
-const FIRST: [Place; 3] = [(2, 0), (0, 66), (2, -66)];
+/// Two needles, whose long sides cross so flatly that each round moves their crossing on by one unit.
+pub(crate) const FIRST: [Place; 3] = [(2, 0), (0, 66), (2, -66)];
 
-const SECOND: [Place; 3] = [(1, 0), (0, 67), (-1, 0)];
+/// The second of them.
+pub(crate) const SECOND: [Place; 3] = [(1, 0), (0, 67), (-1, 0)];
 
 // A red and a green needle.
 fn needles<I: OverlayInt + From<i16>>(

@@ -1,4 +1,4 @@
-//! The worked rows of contours again, of a graph, with the live edges in trees alone and in lists alone.
+//! The worked rows of contours again, of a graph, with trees for any number of shapes, and with none at first.
 
 use crate::colour::{Calls, Colour};
 use crate::edges::{Place, point_of};
@@ -10,14 +10,11 @@ use overlay_arrange::count::ShapeCountBoolean;
 use overlay_arrange::data::CountWithData;
 use overlay_arrange::edge::{CountedEdge, compare_points};
 use overlay_arrange::options::IntOverlayOptions;
-use overlay_extract::binding::bind::bind_contours;
+use overlay_extract::binding::bind::bind_from;
 use overlay_extract::binding::places::shape_places;
 use overlay_geom::error::OverlayError;
 use overlay_geom::integer::OverlayInt;
 use overlay_geom::solver::Solver;
-use overlay_scan::list::ScanList;
-use overlay_scan::scan::Scan;
-use overlay_scan::tree::ScanTree;
 use overlay_vector::edge_overlay::{EdgeOverlay, ShapeType};
 use overlay_vector::vector_contours::assembled;
 use overlay_walk::kept_contours::kept_contours;
@@ -111,13 +108,13 @@ fn answered<I: OverlayInt + From<i16>>(
     Ok(overlay)
 }
 
-// Tests whether the graph of the row's edges, with the buffer of another builder, gives the row's shapes, with live
-// edges in the scan. The contours are cut without groups.
-fn gives<I: OverlayInt + PartialEq + From<i16>, S: Scan<I, usize>>(
+// Tests whether the graph of the row's edges, with the buffer of another builder, gives the row's shapes, with a tree
+// from a number of shapes on. The contours are cut without groups.
+fn gives<I: OverlayInt + PartialEq + From<i16>>(
     rt: &impl Abort,
     alloc: Global,
     row: &Row<'_>,
-    scan: &mut S,
+    tree_from: usize,
 ) -> Result<bool, Fail> {
     let mut overlay = answered::<I>(rt, alloc)?;
     let Some(mut buffer) = overlay.boolean_buffer.take() else {
@@ -133,42 +130,40 @@ fn gives<I: OverlayInt + PartialEq + From<i16>, S: Scan<I, usize>>(
         ..options_of::<I>(row)
     };
     let contours = kept_contours(&graph, row.rule, options, &mut buffer)?;
-    let found = bind_contours(alloc, scan, &contours, options.output_direction)?;
+    let found = bind_from(alloc, &contours, options.output_direction, tree_from)?;
     let places = shape_places(alloc, &contours, &found)?;
     let keeps_edges = options.preserve_output_collinear;
     let shapes = assembled(&graph, &contours, &places, keeps_edges, &mut store)?;
     Ok(are_shapes::<I>(alloc, &shapes, row.wanted)?)
 }
 
-// All rows at a coordinate type, each with live edges in a scan of its own.
-fn rows<I: OverlayInt + PartialEq + From<i16>, S: Scan<I, usize> + Drop, N: Fn() -> S + Drop>(
+// All rows at a coordinate type.
+fn rows<I: OverlayInt + PartialEq + From<i16>>(
     rt: &impl Abort,
     alloc: Global,
-    new: N,
+    tree_from: usize,
 ) -> Result<(), Fail> {
-    assert!(rt; gives::<I, S>(rt, alloc, &OVERLAPPING, &mut new())?);
-    assert!(rt; gives::<I, S>(rt, alloc, &TWO_COLOURS, &mut new())?);
-    assert!(rt; gives::<I, S>(rt, alloc, &ONE_COLOUR, &mut new())?);
-    assert!(rt; gives::<I, S>(rt, alloc, &TOUCHING, &mut new())?);
-    assert!(rt; gives::<I, S>(rt, alloc, &JOINED, &mut new())?);
-    assert!(rt; gives::<I, S>(rt, alloc, &KEPT, &mut new())?);
-    assert!(rt; gives::<I, S>(rt, alloc, &CUT_OUT, &mut new())?);
-    assert!(rt; gives::<I, S>(rt, alloc, &HOLES, &mut new())?);
+    assert!(rt; gives::<I>(rt, alloc, &OVERLAPPING, tree_from)?);
+    assert!(rt; gives::<I>(rt, alloc, &TWO_COLOURS, tree_from)?);
+    assert!(rt; gives::<I>(rt, alloc, &ONE_COLOUR, tree_from)?);
+    assert!(rt; gives::<I>(rt, alloc, &TOUCHING, tree_from)?);
+    assert!(rt; gives::<I>(rt, alloc, &JOINED, tree_from)?);
+    assert!(rt; gives::<I>(rt, alloc, &KEPT, tree_from)?);
+    assert!(rt; gives::<I>(rt, alloc, &CUT_OUT, tree_from)?);
+    assert!(rt; gives::<I>(rt, alloc, &HOLES, tree_from)?);
     Ok(())
 }
 
 #[test]
-fn contours_traced_with_trees_alone(rt: HostRuntime) -> Result<(), Fail> {
-    let alloc = rt.alloc();
-    rows::<i16, _, _>(&rt, alloc, || ScanTree::default(alloc))?;
-    rows::<i32, _, _>(&rt, alloc, || ScanTree::default(alloc))?;
-    rows::<i64, _, _>(&rt, alloc, || ScanTree::default(alloc))
+fn contours_traced_with_a_limit_of_zero(rt: HostRuntime) -> Result<(), Fail> {
+    rows::<i16>(&rt, rt.alloc(), 0)?;
+    rows::<i32>(&rt, rt.alloc(), 0)?;
+    rows::<i64>(&rt, rt.alloc(), 0)
 }
 
 #[test]
-fn contours_traced_with_lists_alone(rt: HostRuntime) -> Result<(), Fail> {
-    let alloc = rt.alloc();
-    rows::<i16, _, _>(&rt, alloc, || ScanList::default(alloc))?;
-    rows::<i32, _, _>(&rt, alloc, || ScanList::default(alloc))?;
-    rows::<i64, _, _>(&rt, alloc, || ScanList::default(alloc))
+fn contours_traced_with_lists_at_first(rt: HostRuntime) -> Result<(), Fail> {
+    rows::<i16>(&rt, rt.alloc(), usize::MAX)?;
+    rows::<i32>(&rt, rt.alloc(), usize::MAX)?;
+    rows::<i64>(&rt, rt.alloc(), usize::MAX)
 }

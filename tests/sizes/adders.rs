@@ -1,6 +1,6 @@
 //! Adders and constructors of `Overlay`: each gives as many edges as its contours have.
 
-use crate::figures::{COUNT, comb, flat_squares, lone_squares, point, squares};
+use crate::figures::{COUNT, comb, coordinate, flat_squares, lone_squares, point, squares};
 use i_overlay::fill_rule::FillRule;
 use i_overlay::overlay::{IntOverlayOptions, Overlay, ShapeType};
 use i_overlay::solver::Solver;
@@ -60,6 +60,9 @@ fn constructors(rt: HostRuntime) -> Result<(), Fail> {
     let (options, solver) = (IntOverlayOptions::default(), Solver::SNAPPED);
     let (subj, clip) = (squares(alloc, 0, 4)?, squares(alloc, 5, 4)?);
     let (alone, others) = (lone_squares(alloc, 0, 4)?, lone_squares(alloc, 5, 4)?);
+    let mut roomy = Overlay::new_custom(alloc, EDGES, options, solver)?;
+    roomy.add_contours(&subj, SUBJECT)?;
+    assert!(&rt; edge_count(roomy)? == EDGES);
     let one = edge_count(Overlay::from_subj(alloc, &subj)?)?;
     let custom = Overlay::from_subj_custom(alloc, &subj, options, solver)?;
     assert!(&rt; one == EDGES && edge_count(custom)? == EDGES);
@@ -83,11 +86,12 @@ fn constructors_of_one_contour(rt: HostRuntime) -> Result<(), Fail> {
     let alloc = rt.alloc();
     let (options, solver) = (IntOverlayOptions::default(), Solver::SNAPPED);
     let one = comb(alloc)?;
+    let far = 4 * coordinate(COUNT);
     let round = [
         point(-9, -9),
-        point(9999, -9),
-        point(9999, 9999),
-        point(-9, 9999),
+        point(far, -9),
+        point(far, far),
+        point(-9, far),
     ];
     let counts = [
         edge_count(Overlay::with_contour(alloc, &one, &round)?)?,

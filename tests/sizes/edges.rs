@@ -2,13 +2,14 @@
 
 ghost use Rattle.std.specs.Prelude.{⊤};
 
-use crate::figures::{COUNT, square_at};
+use crate::figures::{COUNT, comb, square_at};
 use i_overlay::edge_data::{EdgeDataMerge, OverlayEdgeData};
 use i_overlay::edge_overlay::{EdgeOverlay, InputEdge};
 use i_overlay::fill_rule::FillRule;
 use i_overlay::overlay::ShapeType;
 use i_overlay::overlay_rule::OverlayRule;
 use i_overlay::segm::boolean::ShapeCountBoolean;
+use i_overlay::vector::edge::ToPath;
 use overlay_geom::error::OverlayError;
 use std::alloc::Global;
 use std::process::Abort;
@@ -87,8 +88,31 @@ fn edges_of_squares(rt: HostRuntime) -> Result<(), Fail> {
         one_by_one.add_edge(*edge, ShapeType::Subject)?;
     }
     assert!(&rt; has_squares(one_by_one)?);
-    let mut at_once = EdgeOverlay::new(alloc, 0)?;
+    let mut at_once = EdgeOverlay::new(alloc, 4 * COUNT)?;
     at_once.add_edges(edges.iter().copied(), ShapeType::Subject)?;
     assert!(&rt; has_squares(at_once)?);
+    Ok(())
+}
+
+// The comb is one contour, which begins along its left side, from above.
+#[test]
+fn edges_of_a_comb(rt: HostRuntime) -> Result<(), Fail> {
+    let alloc = rt.alloc();
+    let contour = comb(alloc)?;
+    let last = contour.len() - 1;
+    let mut overlay = EdgeOverlay::new(alloc, 0)?;
+    for place in 0..contour.len() {
+        let edge = InputEdge {
+            a: contour[place],
+            b: contour[if place < last { place + 1 } else { 0 }],
+            edge_data: Side(0),
+        };
+        overlay.add_edge(edge, ShapeType::Subject)?;
+    }
+    let shapes = overlay.build_vector_shapes(UNION, RULE)?;
+    assert!(&rt; shapes.len() == 1 && shapes[0].len() == 1);
+    let points = shapes[0][0].to_path(alloc)?;
+    assert!(&rt; points.len() == 4 * COUNT && points[0] == contour[last]);
+    assert!(&rt; points[1..] == contour[..last]);
     Ok(())
 }

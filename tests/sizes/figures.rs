@@ -1,4 +1,4 @@
-//! Squares in columns, and a comb: some 2,000 edges each.
+//! Squares in columns, and a comb: 50,000 edges each.
 
 use i_overlay::i_float::int::point::IntPoint;
 use i_overlay::i_shape::flat::buffer::FlatContoursBuffer;
@@ -7,7 +7,7 @@ use std::alloc::Global;
 use std::test::Fail;
 
 /// Number of squares, and of teeth of the comb.
-pub(crate) const COUNT: usize = 500;
+pub(crate) const COUNT: usize = 12500;
 
 /// Number of squares in a column.
 pub(crate) const ROWS: usize = 20;
@@ -102,11 +102,16 @@ pub(crate) fn are_squares(shapes: &[IntShape<i32, Global>], by: i32, side: i32) 
 /// A comb that resolves its teeth: the tooth of a number n reaches from 4n to 4n + 2 and up to 10, and gaps reach down
 /// to 1. It has four edges for each tooth, and runs counterclockwise.
 pub(crate) fn comb(alloc: Global) -> Result<IntContour<i32, Global>, Fail> {
+    comb_of(alloc, COUNT)
+}
+
+/// Such a comb with this number of teeth.
+pub(crate) fn comb_of(alloc: Global, teeth: usize) -> Result<IntContour<i32, Global>, Fail> {
     let mut contour = Vec::new(alloc);
     contour.push(point(0, 0))?;
-    contour.push(point(4 * coordinate(COUNT) - 2, 0))?;
-    for place in 0..COUNT {
-        let x = 4 * coordinate(COUNT - 1 - place);
+    contour.push(point(4 * coordinate(teeth) - 2, 0))?;
+    for place in 0..teeth {
+        let x = 4 * coordinate(teeth - 1 - place);
         contour.push(point(x + 2, 10))?;
         contour.push(point(x, 10))?;
         if x > 0 {

@@ -3,6 +3,7 @@
 use crate::figures::{COUNT, coordinate, point};
 use i_overlay::fill_rule::FillRule;
 use i_overlay::i_float::int::point::IntPoint;
+use i_overlay::i_shape::flat::buffer::FlatContoursBuffer;
 use i_overlay::i_shape::int::shape::{IntContour, IntShape};
 use i_overlay::string::clip::ClipRule;
 use i_overlay::string::line::IntLine;
@@ -79,6 +80,21 @@ pub(crate) fn are_parts(paths: &[IntContour<i32, Global>]) -> bool {
     paths.len() == COUNT && sum == coordinate(COUNT * COUNT)
 }
 
+/// Tests whether the buffer has such paths.
+pub(crate) fn are_flat_parts(buffer: &FlatContoursBuffer<i32, Global>) -> bool {
+    let mut sum = 0;
+    for range in &buffer.ranges {
+        let [a, b] = &buffer.points[range.start..range.end] else {
+            return false;
+        };
+        if a.x + b.x != 10 || a.x != 0 && b.x != 0 || a.y != b.y || a.y % 2 != 1 {
+            return false;
+        }
+        sum += a.y;
+    }
+    buffer.ranges.len() == COUNT && sum == coordinate(COUNT * COUNT)
+}
+
 /// Tests whether the shapes are the strips between the lines: twice their areas make twice the plate's.
 pub(crate) fn are_strips(shapes: &[IntShape<i32, Global>]) -> bool {
     let mut area = 0;
@@ -91,8 +107,8 @@ pub(crate) fn are_strips(shapes: &[IntShape<i32, Global>]) -> bool {
     shapes.len() == COUNT + 1 && area == 2 * 10 * 2 * coordinate(COUNT)
 }
 
-// Twice the area in the contour, if it runs counterclockwise.
-fn area_two(contour: &[IntPoint<i32>]) -> i32 {
+/// Twice the area in the contour, if it runs counterclockwise.
+pub(crate) fn area_two(contour: &[IntPoint<i32>]) -> i32 {
     let mut area = 0;
     for place in 0..contour.len() {
         let (a, b) = (contour[place], contour[(place + 1) % contour.len()]);

@@ -1,7 +1,9 @@
 //! Clips, slices and overlays in one call.
 
-use crate::figures::{COUNT, are_squares, comb, coordinate, point, squares};
-use crate::lines::{INSIDE, RULE, are_parts, are_strips, lines, paths, plate, zigzag};
+use crate::figures::{COUNT, ROWS, are_squares, comb, comb_of, coordinate, point, squares};
+use crate::lines::{
+    INSIDE, RULE, are_flat_parts, are_parts, are_strips, area_two, lines, paths, plate, zigzag,
+};
 use i_overlay::i_shape::int::path::PathRef;
 use i_overlay::overlay_rule::OverlayRule;
 use i_overlay::single::SingleIntOverlay;
@@ -15,7 +17,10 @@ use std::test::Fail;
 fn an_overlay(rt: HostRuntime) -> Result<(), Fail> {
     let alloc = rt.alloc();
     let (subj, clip) = (squares(alloc, 0, 4)?, squares(alloc, 2, 4)?);
-    let common = subj.overlay(alloc, &clip, OverlayRule::Intersect, RULE)?;
+    let rule = OverlayRule::Intersect;
+    let common = subj.overlay(alloc, &clip, rule, RULE)?;
+    assert!(&rt; are_squares(&common, 2, 2));
+    let common = subj.overlay_with_solver(alloc, &clip, rule, RULE, Solver::SNAPPED)?;
     assert!(&rt; are_squares(&common, 2, 2));
     Ok(())
 }
@@ -33,6 +38,9 @@ fn a_clip_by_a_comb(rt: HostRuntime) -> Result<(), Fail> {
         let x = 4 * coordinate(number);
         assert!(&rt; inside[number].as_slice() == [point(x, 5), point(x + 2, 5)].as_slice());
     }
+    let solver = Solver::SNAPPED;
+    let snapped = PathRef::new(&contour).clip_line_with_solver(alloc, line, RULE, INSIDE, solver)?;
+    assert!(&rt; snapped == inside);
     let outside = ClipRule {
         invert: true,
         boundary_included: false,
@@ -48,23 +56,47 @@ fn a_clip_by_a_comb(rt: HostRuntime) -> Result<(), Fail> {
     Ok(())
 }
 
-// That line slices the teeth off.
+// A line through the lowest square of each column: of each of these two slices.
+#[test]
+fn slices_of_squares(rt: HostRuntime) -> Result<(), Fail> {
+    let alloc = rt.alloc();
+    let shape = squares(alloc, 0, 4)?;
+    let columns = COUNT / ROWS;
+    let line = [point(-1, 2), point(10 * coordinate(columns), 2)];
+    let shapes = shape.slice_by_line(alloc, line, RULE)?;
+    assert!(&rt; shapes.len() == COUNT + columns);
+    let (mut whole, mut halves) = (0, 0);
+    for slice in &shapes {
+        assert!(&rt; slice.len() == 1 && slice[0].len() == 4);
+        match area_two(&slice[0]) {
+            32 => whole += 1,
+            16 => halves += 1,
+            _ => {}
+        }
+    }
+    assert!(&rt; whole == COUNT - columns && halves == 2 * columns);
+    let snapped = shape.slice_by_line_with_solver(alloc, line, RULE, Solver::SNAPPED)?;
+    assert!(&rt; snapped == shapes);
+    Ok(())
+}
+
+// That line slices the teeth off a comb.
 #[test]
 fn slices_of_a_comb(rt: HostRuntime) -> Result<(), Fail> {
     let alloc = rt.alloc();
-    let contour = comb(alloc)?;
-    let line = [point(-1, 5), point(4 * coordinate(COUNT), 5)];
+    let (teeth, contour) = (500, comb_of(alloc, 500)?);
+    let line = [point(-1, 5), point(4 * coordinate(teeth), 5)];
     let shapes = PathRef::new(&contour).slice_by_line(alloc, line, RULE)?;
-    assert!(&rt; shapes.len() == COUNT + 1);
-    let (mut teeth, mut points) = (0, 0);
+    assert!(&rt; shapes.len() == teeth + 1);
+    let (mut rectangles, mut points) = (0, 0);
     for shape in &shapes {
         assert!(&rt; shape.len() == 1);
         points += shape[0].len();
         if shape[0].len() == 4 {
-            teeth += 1;
+            rectangles += 1;
         }
     }
-    assert!(&rt; teeth == COUNT && points == 8 * COUNT);
+    assert!(&rt; rectangles == teeth && points == 8 * teeth);
     Ok(())
 }
 
@@ -87,6 +119,8 @@ fn clips_by_a_plate(rt: HostRuntime) -> Result<(), Fail> {
     assert!(&rt; are_parts(&found));
     let found = shape.clip_path_with_solver(alloc, &one, RULE, INSIDE, snapped)?;
     assert!(&rt; are_parts(&found));
+    let found = shape.clip_source_flat(alloc, &as_paths, RULE, INSIDE, snapped)?;
+    assert!(&rt; are_flat_parts(&found));
     Ok(())
 }
 

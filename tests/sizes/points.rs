@@ -1,12 +1,12 @@
 //! Points in the comb, in squares, and in a prepared shape.
 
-use crate::figures::{COUNT, comb, coordinate, corner_at, lone_squares, point, squares};
+use crate::figures::{COUNT, comb, comb_of, coordinate, corner_at, lone_squares, point, squares};
 use i_overlay::fill_rule::FillRule;
 use i_overlay::i_float::int::point::IntPoint;
+use i_overlay::integer::{is_resolved, is_resolved_in};
 use i_overlay::point_location::PointLocation::{Boundary, Inside, Outside};
 use i_overlay::point_location::{IntPointContainment, PointLocation, PreparedShape};
 use i_overlay::solver::Solver;
-use overlay_geom::resolved::is_resolved;
 use std::alloc::Global;
 use std::process::Abort;
 use std::test::Fail;
@@ -60,7 +60,8 @@ fn lie_so<T: IntPointContainment<i32>>(
 fn points_in_a_comb(rt: HostRuntime) -> Result<(), Fail> {
     let alloc = rt.alloc();
     let contour = comb(alloc)?;
-    assert!(&rt; is_resolved(&contour));
+    // (one of the two tests compares all pairs of edges)
+    assert!(&rt; is_resolved(&comb_of(alloc, 500)?) && is_resolved_in(alloc, &contour)?);
     assert!(&rt; lie_so(alloc, &contour, &in_comb(alloc)?)?);
     Ok(())
 }

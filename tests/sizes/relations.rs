@@ -81,7 +81,7 @@ const ROWS: [Row; 5] = [
     },
 ];
 
-// What each call alone tells.
+// What each call alone tells by rounds.
 fn told(
     alloc: Global,
     subj: &IntShape<i32, Global>,
@@ -98,6 +98,24 @@ fn told(
     })
 }
 
+// What each call alone tells by snap rounding.
+fn told_by_snapping(
+    alloc: Global,
+    subj: &IntShape<i32, Global>,
+    clip: &IntShape<i32, Global>,
+) -> Result<Relations, OverlayError> {
+    let solver = Solver::SNAPPED;
+    Ok(Relations {
+        intersects: subj.intersects_with_solver(alloc, clip, solver)?,
+        interiors_intersect: subj.interiors_intersect_with_solver(alloc, clip, solver)?,
+        touches: subj.touches_with_solver(alloc, clip, solver)?,
+        point_intersects: subj.point_intersects_with_solver(alloc, clip, solver)?,
+        within: subj.within_with_solver(alloc, clip, solver)?,
+        disjoint: subj.disjoint_with_solver(alloc, clip, solver)?,
+        covers: subj.covers_with_solver(alloc, clip, solver)?,
+    })
+}
+
 #[test]
 fn calls_alone(rt: HostRuntime) -> Result<(), Fail> {
     let alloc = rt.alloc();
@@ -105,6 +123,7 @@ fn calls_alone(rt: HostRuntime) -> Result<(), Fail> {
     for row in &ROWS {
         let clip = squares(alloc, row.by, row.side)?;
         assert!(&rt; told(alloc, &subj, &clip)? == row.wanted);
+        assert!(&rt; told_by_snapping(alloc, &subj, &clip)? == row.wanted);
     }
     Ok(())
 }

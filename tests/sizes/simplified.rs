@@ -4,8 +4,13 @@ use crate::figures::{COUNT, are_squares, comb, flat_squares, lone_squares, squar
 use i_overlay::fill_rule::FillRule;
 use i_overlay::i_float::int::point::IntPoint;
 use i_overlay::i_shape::int::path::PathRef;
-use i_overlay::overlay::{IntOverlayOptions, Overlay};
+use i_overlay::overlay::{ContourDirection, IntOverlayOptions, Overlay};
 use i_overlay::simplify::Simplify;
+use i_overlay::simplifying::outcome::Outcome;
+use i_overlay::simplifying::shapes::shapes_left;
+use i_overlay::simplifying::simple::outcome_of_contour;
+use i_overlay::solver::Solver;
+use overlay_builder::builder_core::BuilderCore;
 use std::process::Abort;
 use std::test::Fail;
 
@@ -21,6 +26,12 @@ fn a_comb(rt: HostRuntime) -> Result<(), Fail> {
     assert!(&rt; dropped.is_some_and(|shapes| shapes.is_empty()));
     let one = PathRef::new(&contour).simplify(alloc, RULE, IntOverlayOptions::default())?;
     assert!(&rt; one.len() == 1 && one[0].len() == 1 && one[0][0].len() == 4 * COUNT);
+    let mut core = BuilderCore::with_capacity(alloc, 4 * COUNT)?;
+    let (solver, direction) = (Solver::SNAPPED, ContourDirection::CounterClockwise);
+    let outcome = outcome_of_contour(&mut core, solver, &contour, false, RULE, direction)?;
+    let left = shapes_left(alloc, &contour, outcome)?;
+    assert!(&rt; outcome == Outcome::AsGiven && left.len() == 1 && left[0].len() == 1);
+    assert!(&rt; left[0][0].as_slice() == contour.as_slice());
     contour.reverse();
     let Some(turned) = overlay.simplify_contour(&contour, RULE)? else {
         assert!(&rt; false, "it stays clockwise");
@@ -42,7 +53,10 @@ fn many_squares(rt: HostRuntime) -> Result<(), Fail> {
     assert!(&rt; found.is_some_and(|shapes| are_squares(&shapes, 0, 4)));
     let found = overlay.simplify_shapes(&lone_squares(alloc, 0, 4)?, RULE)?;
     assert!(&rt; are_squares(&found, 0, 4));
-    let found = shape.simplify(alloc, RULE, IntOverlayOptions::default())?;
+    let options = IntOverlayOptions::default();
+    let found = shape.simplify(alloc, RULE, options)?;
+    assert!(&rt; are_squares(&found, 0, 4));
+    let found = shape.simplify_with_solver(alloc, RULE, options, Solver::SNAPPED)?;
     assert!(&rt; are_squares(&found, 0, 4));
     Ok(())
 }

@@ -1,7 +1,9 @@
 //! Builders for strings: a plate, or squares, and lines across it.
 
 use crate::figures::{COUNT, comb, lone_squares, squares};
-use crate::lines::{INSIDE, RULE, are_parts, are_strips, line_at, lines, paths, plate, zigzag};
+use crate::lines::{
+    INSIDE, RULE, are_flat_parts, are_parts, are_strips, line_at, lines, paths, plate, zigzag,
+};
 use i_overlay::i_shape::int::path::PathRef;
 use i_overlay::i_shape::int::shape::IntShapes;
 use i_overlay::overlay::IntOverlayOptions;
@@ -50,7 +52,10 @@ fn contours(rt: HostRuntime) -> Result<(), Fail> {
         assert!(&rt; found.len() == 1 && found[0].len() == 1 && found[0][0].len() == 4 * COUNT);
     }
     let options = IntOverlayOptions::default();
+    let mut roomy = StringOverlay::with_options(alloc, 4 * COUNT, options)?;
+    roomy.add_shape_contours(&shape)?;
     let many = [
+        slices(roomy, alloc)?,
         of_shape(alloc, |it| it.add_shape_source(&shape))?,
         of_shape(alloc, |it| it.add_shape_contours(&shape))?,
         of_shape(alloc, |it| it.add_shapes(&shapes))?,
@@ -143,5 +148,8 @@ fn clipped_strings(rt: HostRuntime) -> Result<(), Fail> {
     let overlay = StringOverlay::from_shape_and_string(alloc, &shape, &as_paths)?;
     let found = overlay.clip_string_lines_with_solver(RULE, INSIDE, Solver::SNAPPED)?;
     assert!(&rt; are_parts(&found));
+    let overlay = StringOverlay::from_shape_and_string(alloc, &shape, &as_paths)?;
+    let found = overlay.clip_string_lines_flat(RULE, INSIDE, Solver::SNAPPED)?;
+    assert!(&rt; are_flat_parts(&found));
     Ok(())
 }

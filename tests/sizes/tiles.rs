@@ -1,24 +1,26 @@
 //! A plate cut into tiles, and the lines of its grid.
 
-use crate::figures::{COUNT, point};
+use crate::figures::{COUNT, coordinate, point};
 use i_overlay::fill_rule::FillRule;
 use i_overlay::i_shape::int::path::PathRef;
 use i_overlay::solver::Solver;
-use overlay_string::tiles::grid::{Grid, grid_fits};
-use overlay_string::tiles::lines::grid_lines;
-use overlay_string::tiles::multiples::{are_few, grid_multiples};
-use overlay_string::tiles::slice::{slice_by_grid, slice_by_grid_with_solver};
-use overlay_string::tiles::span::IntSpan;
+use overlay_tiles::grid::{Grid, grid_fits};
+use overlay_tiles::lines::grid_lines;
+use overlay_tiles::multiples::{are_few, grid_multiples};
+use overlay_tiles::slice::{slice_by_grid, slice_by_grid_with_solver};
+use overlay_tiles::span::IntSpan;
 use std::process::Abort;
 use std::test::Fail;
 
 const RULE: FillRule = FillRule::NonZero;
 
-// Fifty by ten cells.
+// Fifty cells in a row.
 #[test]
 fn cells_of_a_plate(rt: HostRuntime) -> Result<(), Fail> {
     let alloc = rt.alloc();
-    let points = [point(0, 0), point(150, 0), point(150, 20), point(0, 20)];
+    let rows = COUNT / 50;
+    let top = 2 * coordinate(rows);
+    let points = [point(0, 0), point(150, 0), point(150, top), point(0, top)];
     let (shape, grid) = (
         PathRef::new(&points),
         Grid {
@@ -27,7 +29,7 @@ fn cells_of_a_plate(rt: HostRuntime) -> Result<(), Fail> {
         },
     );
     assert!(&rt; grid_fits(&shape, grid));
-    assert!(&rt; grid_lines(alloc, &shape, grid)?.len() == 49 + 9);
+    assert!(&rt; grid_lines(alloc, &shape, grid)?.len() == 49 + rows - 1);
     let snapped = Solver::SNAPPED;
     for shapes in [
         slice_by_grid(alloc, &shape, grid, RULE)?,

@@ -1,3 +1,4 @@
-//! Contours from small coordinates, for the tests in other folders.
+//! Contours from small coordinates, and graphs of them and of strings, for the tests in other folders.
 
 pub mod contours;
+pub mod slice_graphs;
