@@ -50,7 +50,7 @@ $(OUT)/libpolyover.o: $(OUT)/code.o $(IN_C) $(OUT)/names.txt
 
 $(OUT)/libpolyover.a: $(OUT)/libpolyover.o
 	rm -f $@
-	$(ARCHIVER) rcs $@ $<
+	$(ARCHIVER) rcsD $@ $<
 
 $(OUT)/$(SHARED): $(OUT)/libpolyover.o
 	$(CC) -shared -Wl,-soname,$(SONAME) -Wl,-z,defs $< -o $@

@@ -22,8 +22,14 @@ static void ends_of_ranges(void) {
     CHECK(POLYOVER_COORDINATE_MAX_32 == 1073741823 && POLYOVER_COORDINATE_MIN_32 == -1073741823);
 }
 
+/* The library tells what it is made of: c/Makefile says what that is. */
+static void built(void) {
+    CHECK(polyover_built() == BUILT);
+}
+
 int main(void) {
     texts();
+    built();
     ends_of_ranges();
     all_at_64();
     all_at_32();

@@ -95,7 +95,7 @@ enum {
     POLYOVER_SNAPPED = 0,
     /* In rounds, as version 0.1 did: each cuts edges in the points where they meet, rounded, and moves them at most 1/2
      * in x and in y. Where 64 rounds leave edges that still meet elsewhere, POLYOVER_NOT_SETTLED comes. That may cost
-     * much: 75 edges, copies of one pentagon moved by 1 to 4 units, take 11 seconds and 137 MB. */
+     * much: for the 75 edges of examples/copies.txt minutes, and gigabytes. */
     POLYOVER_ROUNDS = 1
 };
 
@@ -201,6 +201,15 @@ typedef struct {
     size_t parent_contour; /* the hole: its place among the contours of all shapes */
     size_t child_shape;    /* the shape that lies in it */
 } polyover_link;
+
+/* What the library is made of. */
+enum {
+    POLYOVER_UNPROVED = 0, /* a module that is built without a proof */
+    POLYOVER_PROVED = 1    /* the proved module */
+};
+
+/* POLYOVER_PROVED or POLYOVER_UNPROVED. */
+uint32_t polyover_built(void);
 
 /* A text in English that says what the status means, and one for numbers that are no status. It is never null, and is
  * not to be freed. */

@@ -23,6 +23,8 @@ from unproved import LIBRARY, crate_uses, crates_below, leave_library, library_t
 MODULE = ROOT / "crates" / LIBRARY / "out" / f"{LIBRARY}.bc"
 CHECKED = ROOT / "out" / "checked" / f"{LIBRARY}.bc"
 PROVED, UNPROVED = "of the proved module", "of an unproved module"
+# (what `polyover_built` answers, c/library_built.c)
+TOLD = "\n@polyover_is_proved = constant i8 {}\n"
 
 # (functions up to this size become part of those that call them: the library takes some 5 to 10 in 100 less time)
 INLINED = ("-mllvm", "-inline-threshold=2000")
@@ -88,11 +90,11 @@ def compiled(text: str, processor: Processor, to: Path, *flags: str) -> None:
         answer_of([clang(), *processor.flags(), "-O3", *flags, module, "-o", to])
 
 
-def linked_program(text: str, program: Path) -> None:
-    """Links a program of the text of its module."""
+def linked_program(text: str, program: Path, *flags: str) -> None:
+    """Links a program of the text of its module; flags of the compiler may follow."""
     with tempfile.TemporaryDirectory(prefix="polyover-") as folder:
         machine = Path(folder) / "program.o"
-        compiled(text, PROCESSORS["x86_64"], machine, "-fPIE", "-c")
+        compiled(text, PROCESSORS["x86_64"], machine, "-fPIE", "-c", *flags)
         answer_of(["cc", machine, kit() / "c" / "libos_c.a", kit() / "c" / "liblibc_c.a", "-o", program])
 
 
@@ -125,13 +127,15 @@ def leave(file: Path, processor: str, is_proved: bool) -> None:
     began = time.time()
     made_of = PROVED if is_newer(MODULE, LIBRARY) else UNPROVED
     head = f"/* The library polyover for {processor}, {made_of}. */\n"
-    if is_newer(file, LIBRARY) and head_of(file) == head and file.stat().st_mtime >= time_of(MODULE):
+    latest = max(time_of(MODULE), time_of(Path(__file__)))
+    if is_newer(file, LIBRARY) and head_of(file) == head and file.stat().st_mtime >= latest:
         return
     print(f"polyover: the library for {processor}, {made_of} ..", file=sys.stderr, flush=True)
     if made_of == UNPROVED and not is_newer(CHECKED, LIBRARY):
         leave_library(CHECKED)
         os.utime(CHECKED, (began, began))
     text = text_of(MODULE) if made_of == PROVED else library_text(CHECKED)
+    text += TOLD.format(int(made_of == PROVED))
     file.parent.mkdir(parents=True, exist_ok=True)
     target = PROCESSORS[processor]
     compiled(text, target, file, *target.code, "-ffunction-sections", "-fno-addrsig", "-S")

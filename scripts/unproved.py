@@ -20,8 +20,11 @@ Uses = dict[str, list[str]]
 LIBRARY = "polyover_c"
 POLYOVER = ROOT / "crates" / "polyover"
 EXAMPLE = ROOT / "examples" / "square.txt"
-# What a checked module has more than a proved one: traps, and a pattern in memory that is not written yet.
-CHECK = re.compile(r"^  call void @llvm\.(trap\(\)|memset\.p0\.i64\(ptr %\w+, i8 -86,).*\n", re.M)
+# What a checked module has more than a proved one: traps, calls of functions that test something and then trap, and a
+# pattern in memory that is not written yet.
+CHECK = re.compile(
+    r"^  call void @(?:llvm\.(?:trap\(\)|memset\.p0\.i64\(ptr %\w+, i8 -86,)|\"rattle-llvm-checks::).*\n", re.M
+)
 EXPORT = re.compile(r'^pub (?:unsafe )?extern "C" fn (\w+)(?:<[^(]*>)?\((.*?)\)\s+(?:->|ensures|\{)', re.M | re.S)
 DEFINED = re.compile(r'^define internal [^@\n]*(@"polyover_c::[\w:]*?(\w+)")\(', re.M)
 # A `main` from which all calls can be reached, though it makes none: `any` gives a value of each type, and never ends.
