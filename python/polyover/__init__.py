@@ -1,10 +1,11 @@
-"""Boolean operations on polygons with whole coordinates, by the proved library for C, or the proved program."""
+"""Boolean operations on polygons with whole coordinates, by the library for C, or by the program: `built` tells whether
+the library is made of the proved module."""
 
-from .calls import backend, clip, edges, hierarchy, is_resolved, locate, overlay, relate, simplify, tiles
+from .calls import backend, built, clip, edges, hierarchy, is_resolved, locate, overlay, relate, simplify, tiles
 from .calls import slice  # pylint: disable=redefined-builtin
 from .errors import BadInput, LibraryMissing, NotResolved, NotSettled, OutOfMemory, PolyoverError, ProgramMissing
 from .errors import PolyoverWarning, TooManyEdges
-from .flat import Flat, FlatShapes
+from .flat import Flat, FlatFloats, FlatShapes
 from .prepared import Prepared
 from .reading import contours_of, lines_of
 from .scaled import Scaled
@@ -16,6 +17,7 @@ __version__ = "0.2.0"
 __all__ = [
     "BadInput",
     "Flat",
+    "FlatFloats",
     "FlatShapes",
     "LOCATIONS",
     "LibraryMissing",
@@ -31,6 +33,7 @@ __all__ = [
     "Shapes",
     "TooManyEdges",
     "backend",
+    "built",
     "clip",
     "contours_of",
     "edges",

@@ -4,21 +4,26 @@ from __future__ import annotations
 
 import argparse
 import os
+import re
+import signal
 import sys
 from fractions import Fraction
-from typing import Any, Callable, Sequence
+from typing import Any, Callable, Mapping, Sequence
 
-from . import runs
+from . import calls, runs
 from .answers import say, warnings_as_lines
 from .errors import PolyoverError
 from .files import STANDARD, leave
 from .one_file import page_in_one
 from .picture import WIDTH
 from .play import page, serve
+from .program import program
 from .running import run
+from .streams import write_all
 from .text import FILLS, RULES, SNAPPED, SOLVERS
 
 LEAST_WIDTH = 400
+LONG_EXPONENT = re.compile("[eE][-+]?[0-9_]{4}")
 EXAMPLES = {
     "overlay": "overlay LAND.geojson LAKES.geojson --rule difference --out DRY.geojson --svg DRY.svg",
     "relate": "relate PARCEL.geojson ZONE.geojson",
@@ -28,6 +33,11 @@ EXAMPLES = {
     "tiles": "tiles LAND.geojson 10 10 --out TILES.geojson",
     "locate": "locate ZONES.geojson POINTS.geojson --out WHERE.geojson",
     "svg": "svg examples/overlay.txt --nodes --out overlay.svg",
+}
+LIBRARIES = {
+    "proved": "a proved library",
+    "unproved": "an unproved library",
+    "unknown": "a library that does not tell whether it is proved",
 }
 OF_POLYGONS, OF_LINES = ("overlay", "relate"), ("clip", "slice")
 
@@ -60,9 +70,11 @@ def port_in(word: str) -> int:
 
 
 def number_in(word: str) -> Fraction:
-    """A number that is not below 0."""
+    """A number that is not below 0. (One with an exponent of many digits would take all memory.)"""
+    if len(word) > 100 or LONG_EXPONENT.search(word):
+        raise ValueError
     number = Fraction(word)
-    if number < 0 or len(word) > 100:
+    if number < 0:
         raise ValueError
     return number
 
@@ -103,7 +115,7 @@ def add_answers(command: argparse.ArgumentParser, name: str) -> None:
         command.add_argument("--width", type=width_in, default=WIDTH, metavar="N", help=f"of the picture ({WIDTH})")
 
 
-def add_options(commands: dict[str, argparse.ArgumentParser]) -> None:
+def add_options(commands: Mapping[str, argparse.ArgumentParser]) -> None:
     """The words of single commands."""
     commands["overlay"].add_argument("--rule", choices=list(RULES), default="union", help="(union)")
     keeps = "a feature for each of A that gives pieces, with its members; of the rules intersect and difference"
@@ -140,9 +152,34 @@ def add_play(commands: Any) -> None:
     command.set_defaults(run=run_play)
 
 
+def asked() -> str:
+    """What answers, in words."""
+    try:
+        if calls.backend() == "library":
+            return LIBRARIES[calls.built()]
+        return f"the program {program()}"
+    except PolyoverError as fault:
+        return f"nothing: {fault}"
+
+
 def version() -> str:
-    """The version of the module."""
-    return str(getattr(sys.modules[__package__], "__version__", "of a clone"))
+    """The version of the module, and what answers."""
+    return f"polyover {getattr(sys.modules[__package__], '__version__', 'of a clone')} over {asked()}\n"
+
+
+class Version(argparse.Action):
+    """Writes the version, and ends."""
+
+    def __call__(self, parser: argparse.ArgumentParser, *_: Any) -> None:
+        write_all(version())
+        parser.exit()
+
+
+class Parser(argparse.ArgumentParser):
+    """A parser whose help is written to its end, or fails."""
+
+    def print_help(self, file: Any = None) -> None:
+        write_all(self.format_help())
 
 
 def parsed(words: Sequence[str] | None) -> argparse.Namespace:
@@ -150,8 +187,8 @@ def parsed(words: Sequence[str] | None) -> argparse.Namespace:
     prog = "python -m polyover"
     how: dict[str, Any] = {"formatter_class": argparse.RawDescriptionHelpFormatter}
     every = "\n".join(f"  {prog} {example}" for example in EXAMPLES.values())
-    parser = argparse.ArgumentParser(prog=prog, description=__doc__, epilog=f"examples:\n{every}", **how)
-    parser.add_argument("--version", action="version", version=f"polyover {version()}")
+    parser = Parser(prog=prog, description=__doc__, epilog=f"examples:\n{every}", **how)
+    parser.add_argument("--version", action=Version, nargs=0, help="the version, and whether the library is proved")
     commands = parser.add_subparsers(required=True, metavar="COMMAND")
     for name, example in EXAMPLES.items():
         run: Callable[[Any], None] = getattr(runs, f"run_{name}")
@@ -167,22 +204,28 @@ def parsed(words: Sequence[str] | None) -> argparse.Namespace:
     return parser.parse_args(words)
 
 
+def end_by_interrupt() -> int:
+    """Ends as Ctrl-C ends a program that does not know of it, so that a shell ends its loop too; or gives the status
+    that stands for that."""
+    signal.signal(signal.SIGINT, signal.SIG_DFL)
+    os.kill(os.getpid(), signal.SIGINT)
+    return 128 + signal.SIGINT
+
+
 def main(words: Sequence[str] | None = None) -> int:
     """Runs a command. Returns 1 where it does not answer, or the status of the program.
 
-    Where its words are bad argparse ends it, with 2.
+    Where its words are bad argparse ends it, with 2; Ctrl-C ends it as any program.
     """
-    given = parsed(words)
-    if [getattr(given, name, None) for name in ("subject", "other")] == [STANDARD] * 2:
-        say("standard input can't be two files")
-        return 1
     try:
+        given = parsed(words)
+        if [getattr(given, name, None) for name in ("subject", "other")] == [STANDARD] * 2:
+            say("standard input can't be two files")
+            return 1
         with warnings_as_lines():
             return int(given.run(given) or 0)
-    except BrokenPipeError:
-        # (nobody reads on: what is left in the buffer goes nowhere)
-        os.dup2(os.open(os.devnull, os.O_WRONLY), sys.stdout.fileno())
-        return 1
+    except KeyboardInterrupt:
+        return end_by_interrupt()
     except (PolyoverError, OSError) as fault:
         say(fault)
         return 1

@@ -2,13 +2,12 @@
 
 from __future__ import annotations
 
-import sys
 import warnings
 from contextlib import contextmanager
 from threading import Timer
 from typing import Any, Iterable, Iterator, Sequence
 
-from . import files, geojson
+from . import files, geojson, streams
 from .contour import box_of
 from .errors import PolyoverWarning
 from .files import File
@@ -18,7 +17,7 @@ from .picture import Picture
 
 def say(text: object) -> None:
     """A line on standard error."""
-    print(f"polyover: {text}", file=sys.stderr, flush=True)
+    streams.say(f"polyover: {streams.told(text)}")
 
 
 @contextmanager

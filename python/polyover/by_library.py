@@ -14,7 +14,7 @@ from .library import ClipOptions, Held, HeldShape, Library, Options, Status, che
 from .library import library as found_library
 from .text import FILLS, RELATIONS, RULES, SOLVERS
 
-NAME = "library"
+NAME, BUILT = "library", "polyover_built"
 RULE_NUMBERS = {name: number for number, name in enumerate(RULES)}
 FILL_NUMBERS = {name: number for number, name in enumerate(FILLS)}
 SOLVER_NUMBERS = {name: number for number, name in enumerate(SOLVERS)}
@@ -48,6 +48,14 @@ def library() -> Library:
     if found is None:
         raise LibraryMissing("no library")
     return found
+
+
+def built() -> str:
+    """What the library says that it is made of."""
+    asked = library()
+    if BUILT not in asked.names:
+        return "unknown"
+    return "proved" if asked.call(BUILT) == 1 else "unproved"
 
 
 # ---- answers in arrays

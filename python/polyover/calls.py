@@ -3,14 +3,16 @@
 from __future__ import annotations
 
 import warnings
-from typing import Any, Iterable, Literal, NamedTuple, overload
+from operator import index
+from typing import Any, Literal, NamedTuple, overload
 
 from . import by_library, by_program
 from .contour import WholePath, room_of, shifted
 from .errors import BadInput, NotSettled, PolyoverWarning
-from .flat import Flat, FlatShapes, whole_path
+from .flat import Flat, FlatFloats, FlatShapes, whole_path
+from .geojson import is_geometry, points_of
 from .shapes import Paths, Shapes
-from .text import FILLS, LOCATIONS, RULES, SNAPPED, SOLVERS, coordinate, items_of, known, whole
+from .text import FILLS, LOCATIONS, RULES, SNAPPED, SOLVERS, coordinate, items_of, known
 from .told import Told
 
 AREA_LIMIT = 2**127 - 1
@@ -31,10 +33,18 @@ class Look(NamedTuple):
 
 def look_of(ogc: bool, clockwise: bool, keep: bool, minimum_area: Any, solver: str) -> Look:
     """How an answer looks by these options."""
-    area = whole(minimum_area)
+    return Look(bool(ogc), bool(clockwise), bool(keep), area_of(minimum_area), solver_of(solver))
+
+
+def area_of(minimum_area: Any) -> int:
+    """The smallest area that is kept."""
+    try:
+        area = index(minimum_area)
+    except TypeError:
+        raise BadInput(f"the minimum area {minimum_area!r} is no whole number") from None
     if not 0 <= area <= AREA_LIMIT:
         raise BadInput(f"the minimum area {minimum_area} is not from 0 to {AREA_LIMIT}")
-    return Look(bool(ogc), bool(clockwise), bool(keep), area, solver_of(solver))
+    return area
 
 
 def solver_of(solver: object) -> str:
@@ -50,6 +60,12 @@ def asked(call: str) -> Any:
 def backend(call: str = "overlay") -> str:
     """What answers the call of that name: "library" or "program"."""
     return str(asked(call).NAME)
+
+
+def built() -> str:
+    """Whether what answers is made of the proved module: "proved" or "unproved". Of the program, and of a library that
+    does not tell, "unknown"."""
+    return by_library.built() if asked("overlay") is by_library else "unknown"
 
 
 def shapes_of(call: str, arrays: bool, *given: Any) -> Shapes | FlatShapes:
@@ -72,6 +88,8 @@ def flat_of(paths: list[Any]) -> Flat:
 def listed(name: str, paths: Any, told: Told | None = None) -> Any:
     """Lists of points of two members, of a group of paths, and buffers of arrays of whole points. What points have
     beyond x and y is left out, if it is counted in `told`, and else a fault."""
+    if isinstance(paths, FlatFloats):
+        raise BadInput(f"{name}: an array of floats: Scaled takes floats")
     if isinstance(paths, Flat):
         return paths
     if not isinstance(paths, (list, tuple)):
@@ -84,6 +102,14 @@ def listed(name: str, paths: Any, told: Told | None = None) -> Any:
             buffer = whole_path(path)
             found.append(listed_points(name, number, path, told) if buffer is None else buffer)
     return found
+
+
+def listed_queries(points: Any) -> Any:
+    """Points that are located, as lists or a buffer. Those of a geometry are often floats, and taken where these are
+    whole numbers."""
+    if is_geometry(points):
+        points = [[int(value) if value == value // 1 else value for value in point] for point in points_of(points)]
+    return listed("points", [points])[0]
 
 
 def are_pairs(points: Any) -> bool:
@@ -331,19 +357,19 @@ def is_resolved(shape: Any) -> bool:
 
 
 @overload
-def locate(shape: Any, points: Iterable[Any], *, arrays: Literal[False] = False) -> list[str]: ...
+def locate(shape: Any, points: Any, *, arrays: Literal[False] = False) -> list[str]: ...
 
 
 @overload
-def locate(shape: Any, points: Iterable[Any], *, arrays: Literal[True]) -> memoryview: ...
+def locate(shape: Any, points: Any, *, arrays: Literal[True]) -> memoryview: ...
 
 
-def locate(shape: Any, points: Iterable[Any], *, arrays: bool = False) -> list[str] | memoryview:
-    """Returns where each point lies: "inside", "boundary" or "outside". Contours are joined by exclusive or. With
-    `arrays` the answer is an array of bytes: of each point the place of its word in `LOCATIONS`."""
-    shape, queries = listed("shape", shape), listed("points", [points])
-    with placed(shape=shape, points=queries):
-        found = asked("locate").locate(shape, queries[0])
+def locate(shape: Any, points: Any, *, arrays: bool = False) -> list[str] | memoryview:
+    """Returns where each point lies: "inside", "boundary" or "outside". Contours are joined by exclusive or. Points may
+    be a geometry. With `arrays` the answer is an array of bytes: of each point the place of its word in `LOCATIONS`."""
+    shape, queries = listed("shape", shape), listed_queries(points)
+    with placed(shape=shape, points=[queries]):
+        found = asked("locate").locate(shape, queries)
     return memoryview(found) if arrays else words_of(found)
 
 

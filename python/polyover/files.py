@@ -6,7 +6,6 @@ import json
 import os
 import shutil
 import stat
-import sys
 from dataclasses import dataclass
 from importlib import import_module
 from pathlib import Path
@@ -15,6 +14,7 @@ from typing import Any, Sequence
 from .errors import BadInput
 from .geojson import LINES, POINTS, POLYGONS, Feature, features_of, geometry_of
 from .reading import Lines, Polygons
+from .streams import INPUT, named, read_all, write_all
 from .told import Told
 
 STANDARD = "-"
@@ -57,13 +57,13 @@ def once(pairs: list[tuple[str, Any]]) -> dict[str, Any]:
 
 def shown_name(name: str) -> str:
     """The name of a file in a message."""
-    return "standard input" if name == STANDARD else name
+    return INPUT if name == STANDARD else name
 
 
 def bytes_of(name: str) -> bytes:
     """What a file holds, or standard input."""
     if name == STANDARD:
-        return sys.stdin.buffer.read()
+        return read_all()
     with open(name, "rb") as file:
         return file.read()
 
@@ -184,13 +184,15 @@ def leave(answers: Sequence[tuple[str, str | None]]) -> None:
         direct = []
         for text, file in answers:
             if file and is_plain(file):
-                made.append((beside(text, os.path.realpath(file)), os.path.realpath(file)))
+                with named(file):
+                    made.append((beside(text, os.path.realpath(file)), os.path.realpath(file)))
             else:
                 direct.append((text, file))
         for text, file in direct:
             write_to(text, file)
         while made:
-            os.replace(*made[0])
+            with named(made[0][1]):
+                os.replace(*made[0])
             made.pop(0)
     finally:
         for path, _ in made:
@@ -200,8 +202,7 @@ def leave(answers: Sequence[tuple[str, str | None]]) -> None:
 def write_to(text: str, file: str | None) -> None:
     """Writes a text to standard output, or to what is no plain file."""
     if file:
-        with open(file, "w", encoding="utf-8") as target:
+        with named(file), open(file, "w", encoding="utf-8") as target:
             target.write(text)
     else:
-        sys.stdout.write(text)
-        sys.stdout.flush()
+        write_all(text)

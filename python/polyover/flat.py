@@ -11,7 +11,7 @@ from .errors import BadInput
 from .shapes import Paths, Shapes
 from .text import coordinate
 
-WHOLE, COUNTS = ("q", "l"), ("Q", "L", "N", "q", "l", "n")
+WHOLE, FLOATS, COUNTS = ("q", "l"), ("d",), ("Q", "L", "N", "q", "l", "n")
 
 
 def buffer_of(thing: Any) -> memoryview | None:
@@ -42,8 +42,8 @@ def checked_buffer(what: str, thing: Any, formats: tuple[str, ...]) -> memoryvie
     """The buffer of an array of numbers of 64 bits, as one row."""
     found = buffer_of(thing)
     if found is None or found.format not in formats or found.itemsize != 8:
-        raise BadInput(f"{what}: no array of int64, C-contiguous")
-    return found if found.ndim == 1 else found.cast("B").cast("q")
+        raise BadInput(f"{what}: no array of {'float64' if formats == FLOATS else 'int64'}, C-contiguous")
+    return found if found.ndim == 1 else found.cast("B").cast(formats[0])
 
 
 def address_of(items: Any) -> tuple[int, Any]:
@@ -61,9 +61,16 @@ def address_of(items: Any) -> tuple[int, Any]:
     return addressof(c_char.from_buffer(kept)), kept
 
 
-def rows(buffer: memoryview) -> memoryview:
-    """A row of coordinates as points."""
-    return buffer.cast("B").cast("q", (len(buffer) // 2, 2)) if len(buffer) else buffer
+def rows(buffer: memoryview, kind: str) -> memoryview:
+    """A row of coordinates of a kind as points."""
+    return buffer.cast("B").cast(kind, (len(buffer) // 2, 2)) if len(buffer) else buffer
+
+
+def copied(kind: str, numbers: memoryview) -> array[Any]:
+    """Numbers of 64 bits in an array of Python's own."""
+    found = array(kind)
+    found.frombytes(numbers.tobytes())
+    return found
 
 
 class Flat:
@@ -71,13 +78,16 @@ class Flat:
     are up to the end of each contour. The calls take it in the place of lists; they read it without a copy.
 
     `coordinates` and `ends` are memoryviews, which `numpy.asarray` takes without a copy; going over it gives
-    lists. Raises BadInput where the arrays are of another kind, or the ends do not rise to the number of points."""
+    lists. A copy, and what was pickled, has arrays of its own. Raises BadInput where the arrays are of another kind,
+    or the ends do not rise to the number of points."""
 
+    # (what the coordinates may be)
+    formats: tuple[str, ...] = WHOLE
     # (what the library is passed, once it has been)
     passed: Any = None
 
     def __init__(self, coordinates: Any, ends: Any) -> None:
-        self.numbers = checked_buffer("coordinates", coordinates, WHOLE)
+        self.numbers = checked_buffer("coordinates", coordinates, self.formats)
         whole_ends = array("q", map(coordinate, ends)) if isinstance(ends, (list, tuple)) else ends
         self.counts = checked_buffer("ends", whole_ends, COUNTS)
         counts = [0, *self.counts.tolist()]
@@ -94,23 +104,33 @@ class Flat:
     @property
     def coordinates(self) -> memoryview:
         """The points, two coordinates in a row."""
-        return rows(self.numbers)
+        return rows(self.numbers, self.formats[0])
 
     @property
     def ends(self) -> memoryview:
         """How many points there are up to the end of each contour."""
         return self.counts
 
+    def __reduce__(self) -> tuple[Any, ...]:
+        return type(self), (copied(self.formats[0], self.numbers), copied("Q", self.counts))
+
     def __len__(self) -> int:
         return len(self.counts)
 
-    def __iter__(self) -> Iterator[list[tuple[int, int]]]:
+    def __iter__(self) -> Iterator[list[tuple[Any, Any]]]:
         points = list(zip(self.numbers[0::2], self.numbers[1::2]))
         return (points[start:end] for start, end in zip([0, *self.counts[:-1]], self.counts))
 
     @property
     def __geo_interface__(self) -> dict[str, Any]:
         return Paths(self).__geo_interface__
+
+
+class FlatFloats(Flat):
+    """Contours or open paths of floats in such arrays: the calls of `Scaled` give it, and take it in the place of
+    lists."""
+
+    formats = FLOATS
 
 
 class FlatShapes:
@@ -137,10 +157,13 @@ class FlatShapes:
             shape_ends.append(len(ends))
         return cls(Flat(numbers, ends), shape_ends)
 
+    def __reduce__(self) -> tuple[Any, ...]:
+        return type(self), (self.contours, copied("Q", self.shape_ends))
+
     def __len__(self) -> int:
         return len(self.shape_ends)
 
-    def __iter__(self) -> Iterator[list[list[tuple[int, int]]]]:
+    def __iter__(self) -> Iterator[list[list[tuple[Any, Any]]]]:
         contours, start = iter(self.contours), 0
         for end in self.shape_ends:
             yield list(islice(contours, end - start))

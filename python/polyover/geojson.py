@@ -263,6 +263,18 @@ def parts_of(thing: object, kinds: Sequence[str], skip_invalid: bool = False) ->
     return [part for each in told_features(thing, kinds, skip_invalid) for part in each.parts]
 
 
+def points_of(thing: object) -> list[Point]:
+    """The points of all features of a geometry, by x and y alone."""
+    told, points = Told(), []
+    for part in parts_of(thing, POINTS):
+        (point,) = part.paths[0]
+        if len(point) > 2:
+            told.add(DROPPED, part.place)
+        points.append(point[:2])
+    told.say()
+    return points
+
+
 def is_geometry(thing: object) -> bool:
     """Whether a thing is given as a geometry, and not as a list of paths."""
     return isinstance(thing, dict) or hasattr(thing, "__geo_interface__")

@@ -1,4 +1,4 @@
-"""The library for C, whose calls are proved (include/polyover.h): where it is, and what it takes and answers."""
+"""The library for C (include/polyover.h): where it is, and what it takes and answers."""
 
 from __future__ import annotations
 
@@ -169,6 +169,7 @@ CONTOURS, RESULT, PREPARED = POINTER(Contours), POINTER(Result), POINTER(Prepare
 TWO = (c_uint32, c_uint32, CONTOURS, CONTOURS)
 OVERLAY = (c_uint32, c_uint32, POINTER(Options), CONTOURS, CONTOURS)
 FUNCTIONS = {
+    "polyover_built": (),
     "polyover_in_range": ARRAY,
     "polyover_overlay_result": (*OVERLAY, RESULT),
     "polyover_simplify_result": (c_uint32, POINTER(Options), CONTOURS, RESULT),

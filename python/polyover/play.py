@@ -9,6 +9,7 @@ from pathlib import Path
 from typing import Any
 
 from .errors import LibraryMissing
+from .streams import write_all
 
 HOST = "127.0.0.1"
 HERE = Path(__file__).resolve().parent
@@ -53,7 +54,7 @@ def page() -> Page:
     """The page, with the library."""
     found = next((each for each in PLACES if each.file("index.html").is_file()), None)
     if found is None:
-        raise LibraryMissing("the page is not here: a clone has it, and the wheel of a release")
+        raise LibraryMissing("this module holds no page: a clone has it, and a wheel that is made after make -C js")
     if not found.file(ENGINE + WASM).is_file():
         raise LibraryMissing(f"no library at {found.file(ENGINE + WASM)}: make -C js builds it")
     return found
@@ -96,8 +97,8 @@ def server_of(shown: Page, port: int = 0) -> ThreadingHTTPServer:
 def serve(port: int) -> None:
     """Serves the page until Ctrl-C."""
     with server_of(page(), port) as server:
-        print(f"http://{HOST}:{server.server_address[1]}/ (Ctrl-C ends it)", flush=True)
+        write_all(f"http://{HOST}:{server.server_address[1]}/ (Ctrl-C ends it)\n")
         try:
             server.serve_forever()
         except KeyboardInterrupt:
-            print()
+            write_all("\n")

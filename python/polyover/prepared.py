@@ -2,7 +2,7 @@
 
 from __future__ import annotations
 
-from typing import Any, Iterable, Literal, overload
+from typing import Any, Literal, overload
 
 from . import by_library, calls
 from .errors import BadInput, LibraryMissing
@@ -36,24 +36,24 @@ class Prepared:
             self._held = by_library.prepare(shape, fill, solver)
 
     @overload
-    def locate(self, points: Iterable[Any], *, arrays: Literal[False] = False) -> list[str]: ...
+    def locate(self, points: Any, *, arrays: Literal[False] = False) -> list[str]: ...
 
     @overload
-    def locate(self, points: Iterable[Any], *, arrays: Literal[True]) -> memoryview: ...
+    def locate(self, points: Any, *, arrays: Literal[True]) -> memoryview: ...
 
-    def locate(self, points: Iterable[Any], *, arrays: bool = False) -> list[str] | memoryview:
+    def locate(self, points: Any, *, arrays: bool = False) -> list[str] | memoryview:
         """Returns where each point lies: "inside", "boundary" or "outside". With `arrays` it is an array of bytes: of
         each point the place of its word in `LOCATIONS`."""
         found = self._located(points)
         return memoryview(found) if arrays else calls.words_of(found)
 
     @overload
-    def contains(self, points: Iterable[Any], *, arrays: Literal[False] = False) -> list[bool]: ...
+    def contains(self, points: Any, *, arrays: Literal[False] = False) -> list[bool]: ...
 
     @overload
-    def contains(self, points: Iterable[Any], *, arrays: Literal[True]) -> memoryview: ...
+    def contains(self, points: Any, *, arrays: Literal[True]) -> memoryview: ...
 
-    def contains(self, points: Iterable[Any], *, arrays: bool = False) -> list[bool] | memoryview:
+    def contains(self, points: Any, *, arrays: bool = False) -> list[bool] | memoryview:
         """Returns whether each point lies inside; on the boundary it does not. With `arrays` they are in an array."""
         truths = memoryview(self._located(points).translate(IS_INSIDE)).cast("?")
         return truths if arrays else truths.tolist()  # type: ignore[return-value]
@@ -79,4 +79,4 @@ class Prepared:
 
     def _whole(self, points: Any) -> Any:
         """The points that are given, with whole coordinates."""
-        return calls.listed("points", [points])[0]
+        return calls.listed_queries(points)

@@ -1,4 +1,4 @@
-"""The program polyover, which is proved: it is asked by a text, and answers by one."""
+"""The program polyover: it is asked by a text, and answers by one."""
 
 from __future__ import annotations
 

@@ -1,10 +1,9 @@
 """The program's grammar on standard input, with the program's words and statuses: `polyover run`."""
 
-import sys
-
 from .errors import BadInput, NotResolved, NotSettled, OutOfMemory, PolyoverError, TooManyEdges
 from .inputs import told_of
 from .program import BadLine
+from .streams import read_all, say, write_all
 
 REFUSED = {OutOfMemory: "E1", NotSettled: "E2", TooManyEdges: "E3"}
 
@@ -32,16 +31,15 @@ def run() -> int:
     """Answers the input on standard input, as docs/PROGRAM.md says; gives the status."""
     try:
         # (a good input is ASCII; read so, each other byte makes its line a bad one)
-        text = sys.stdin.buffer.read().decode("latin-1")
+        text = read_all().decode("latin-1")
         try:
             told = told_of(text)
         except PolyoverError as fault:
             status, words = ending(fault, text)
-            print(words, file=sys.stderr)
+            say(words)
             return status
-        sys.stdout.write(told)
-        sys.stdout.flush()
+        write_all(told)
     except OSError:
-        print("io failed", file=sys.stderr)
+        say("io failed")
         return 3
     return 0

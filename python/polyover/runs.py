@@ -3,7 +3,6 @@
 from __future__ import annotations
 
 from fractions import Fraction
-from math import ceil
 from typing import Any, Callable, Sequence
 
 from . import calls, files, geojson
@@ -25,9 +24,9 @@ def fill_of(given: Any) -> str:
     return given.fill or "nonzero"
 
 
-def look_of(given: Any, scaled: Scaled) -> dict[str, Any]:
-    """The smallest area that is kept, in units of the scale, and how edges are split."""
-    return {"minimum_area": ceil(Fraction(given.min_area) * scaled.scale**2), "solver": given.solver}
+def look_of(given: Any) -> dict[str, Any]:
+    """The smallest area that is kept, in squares of the coordinates' unit, and how edges are split."""
+    return {"minimum_area": given.min_area, "solver": given.solver}
 
 
 def polygons_of(given: Any, file: File, parts: Sequence[Any] | None = None) -> Polygons:
@@ -81,7 +80,7 @@ def run_overlay(given: Any) -> None:
 def joined(given: Any, scaled: Scaled, first: File, second: File) -> list[dict[str, Any]]:
     """One feature of all shapes of an overlay."""
     both = polygons_of(given, first), polygons_of(given, second)
-    shapes = scaled.overlay(*both, given.rule, fill_of(given), **look_of(given, scaled))
+    shapes = scaled.overlay(*both, given.rule, fill_of(given), **look_of(given))
     return [feature_of(geojson.polygons(shapes), {"properties": {"rule": given.rule}})] * bool(shapes)
 
 
@@ -89,11 +88,11 @@ def kept_pieces(given: Any, scaled: Scaled, first: File, second: File) -> list[d
     """For each feature of the first file, overlaid by itself, a feature of the pieces that it gives."""
     features = []
     clip = scaled.whole(polygons_of(given, second))
+    look: dict[str, Any] = {**look_of(given), "minimum_area": scaled.area(given.min_area)}
     for each in first.features:
         subject = scaled.whole(polygons_of(given, first, each.parts))
         near = [contour for contour in clip if boxes_meet(contour, subject)]
-        asked = calls.overlay(subject, near, given.rule, fill_of(given), **look_of(given, scaled))
-        shapes = scaled.shapes(asked)
+        shapes = scaled.shapes(calls.overlay(subject, near, given.rule, fill_of(given), **look))
         if shapes:
             features.append(feature_of(geojson.polygons(shapes), each.members))
     return features
@@ -122,7 +121,8 @@ def run_clip(given: Any) -> None:
     picture.add_paths("line", paths_of(roads))
     features = []
     with told_where_it_takes_long(f"clip of {len(roads.features)} features by {len(paths_of(area))} rings"):
-        shape = Nearby(scaled.whole(polygons_of(given, area)))
+        polygons, how = polygons_of(given, area), {"solver": given.solver}
+        shape = Nearby(scaled.region("shape", polygons, fill_of(given), how, is_joined=True))
         scaled.whole(roads.lines)
         for each in roads.features:
             paths = clipped(given, scaled, shape, each)
@@ -150,7 +150,7 @@ def run_slice(given: Any) -> None:
     lines = scaled.whole(walls.lines)
 
     def cut(polygons: Polygons) -> Any:
-        contours = scaled.whole(polygons)
+        contours = scaled.region("shape", polygons, fill_of(given), {"solver": given.solver}, is_joined=True)
         near = lines_near(lines, contours)
         return scaled.shapes(calls.slice(contours, near, fill_of(given), solver=given.solver))
 
@@ -163,7 +163,7 @@ def run_slice(given: Any) -> None:
 def run_simplify(given: Any) -> None:
     """Makes the polygons of a file valid, feature by feature"""
     scaled = Scaled.of_digits(given.digits)
-    look = look_of(given, scaled)
+    look = look_of(given)
     answer_features(given, "simplified", lambda area: scaled.overlay(area, (), "subject", fill_of(given), **look))
 
 

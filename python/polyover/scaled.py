@@ -2,21 +2,23 @@
 
 from __future__ import annotations
 
+from array import array
 from fractions import Fraction
 from itertools import islice
+from math import ceil
 from typing import Any, Iterable, Sequence
 
 from . import calls
 from .columns import whole_points
 from .contour import WholePath, WholePoint
 from .errors import BadInput
-from .flat import Flat
-from .geojson import is_geometry
+from .flat import Flat, FlatFloats, FlatShapes, copied
+from .geojson import is_geometry, points_of
 from .numbers import ratio_of
 from .prepared import Prepared
 from .reading import Lines, Polygons, lines_in, polygons_in
 from .shapes import Paths, Shapes
-from .text import items_of
+from .text import SNAPPED, items_of
 from .told import Told
 
 Group = Any
@@ -50,7 +52,8 @@ class Scaled:
 
     So a coordinate is taken at most half a unit from where it is, which is `lost` in the floats' own unit; an answer is
     given back as the floats nearest to its whole points. The calls are those of the module, and take a geometry
-    (GeoJSON, or what has `__geo_interface__`) in the place of a list of contours or paths too.
+    (GeoJSON, or what has `__geo_interface__`) in the place of a list of contours, of paths or of points too. In each
+    of them a geometry of polygons means the region that these cover, whatever the fill rule.
     """
 
     def __init__(self, scale: Any, origin: Sequence[Any] = (0, 0)) -> None:
@@ -113,12 +116,28 @@ class Scaled:
         """The point of floats at a whole one."""
         return self.axes[0].number(whole[0]), self.axes[1].number(whole[1])
 
-    def paths(self, paths: Iterable[WholePath]) -> Paths:
-        """Paths with points of floats."""
+    def area(self, area: Any) -> int:
+        """The smallest area of a contour, in squares of the floats' unit, as a whole number of squares at this scale:
+        the nearest, of two equally near ones the smaller. So each contour of that area is kept."""
+        exact = fraction_of(area, "the minimum area")
+        squares = exact * self.scale**2
+        if exact < 0 or squares > calls.AREA_LIMIT:
+            raise BadInput(f"the minimum area {area} is not from 0 to {calls.AREA_LIMIT} squares at this scale")
+        return ceil(squares - Fraction(1, 2))
+
+    def paths(self, paths: Iterable[WholePath]) -> Any:
+        """Paths with points of floats, in arrays where they are so."""
+        if isinstance(paths, Flat):
+            numbers = array("d", bytes(paths.numbers.nbytes))
+            for at, axis in enumerate(self.axes):
+                numbers[at::2] = array("d", map(axis.number, paths.numbers[at::2]))
+            return FlatFloats(numbers, copied("Q", paths.counts))
         return Paths([[self.point(whole) for whole in path] for path in paths])
 
-    def shapes(self, shapes: Iterable[Iterable[WholePath]]) -> Shapes:
-        """Shapes with points of floats."""
+    def shapes(self, shapes: Iterable[Iterable[WholePath]]) -> Any:
+        """Shapes with points of floats, in arrays where they are so."""
+        if isinstance(shapes, FlatShapes):
+            return FlatShapes(self.paths(shapes.contours), copied("Q", shapes.shape_ends))
         return Shapes([self.paths(shape) for shape in shapes])
 
     def filled(self, edges: Any) -> Any:
@@ -136,44 +155,84 @@ class Scaled:
         """What was given for a group of paths, with whole points."""
         return self.whole(taken(name, group), name)
 
-    def overlay(self, subject: Group, clip: Group = (), rule: str = "union", fill: str = "nonzero", **look: Any) -> Any:
-        """As `polyover.overlay`."""
-        both = self._taken("subject", subject), self._taken("clip", clip)
-        return self.shapes(calls.overlay(*both, rule, fill, **look))
+    def region(
+        self, name: str, given: Group, fill: str, options: dict[str, Any], is_joined: bool = False
+    ) -> list[WholePath]:
+        """The contours of a group, with whole points; of polygons contours that fill with the fill rule what these
+        cover. Polygons are joined where it does not join them, or where a call asks for that."""
+        group = taken(name, given)
+        contours = self.whole(group, name)
+        if not isinstance(group, Polygons) or group.is_raw:
+            return contours
+        if len(group.parts) > 1 and (is_joined or fill == "evenodd"):
+            joined = calls.overlay(contours, (), "subject", solver=options.get("solver", SNAPPED))
+            contours = [contour for shape in joined for contour in shape]
+        return [contour[::-1] for contour in contours] if fill == "negative" else contours
+
+    def _both(
+        self, subject: Group, clip: Group, fill: str, options: dict[str, Any], is_joined: bool = False
+    ) -> tuple[list[WholePath], list[WholePath]]:
+        """The contours of two groups."""
+        how = fill, options, is_joined
+        return self.region("subject", subject, *how), self.region("clip", clip, *how)
+
+    def overlay(
+        self,
+        subject: Group,
+        clip: Group = (),
+        rule: str = "union",
+        fill: str = "nonzero",
+        *,
+        minimum_area: Any = 0,
+        **look: Any,
+    ) -> Any:
+        """As `polyover.overlay`; the minimum area is in squares of the floats' unit."""
+        both, area = self._both(subject, clip, fill, look), self.area(minimum_area)
+        return self.shapes(calls.overlay(*both, rule, fill, minimum_area=area, **look))
 
     def hierarchy(
-        self, subject: Group, clip: Group = (), rule: str = "union", fill: str = "nonzero", **look: Any
+        self,
+        subject: Group,
+        clip: Group = (),
+        rule: str = "union",
+        fill: str = "nonzero",
+        *,
+        minimum_area: Any = 0,
+        **look: Any,
     ) -> Any:
-        """As `polyover.hierarchy`."""
-        both = self._taken("subject", subject), self._taken("clip", clip)
-        shapes, links = calls.hierarchy(*both, rule, fill, **look)
+        """As `polyover.hierarchy`; the minimum area is in squares of the floats' unit."""
+        both, area = self._both(subject, clip, fill, look), self.area(minimum_area)
+        shapes, links = calls.hierarchy(*both, rule, fill, minimum_area=area, **look)
         return self.shapes(shapes), links
 
-    def simplify(self, subject: Group, fill: str = "nonzero", **look: Any) -> Any:
-        """As `polyover.simplify`."""
-        return self.shapes(calls.simplify(self._taken("subject", subject), fill, **look))
+    def simplify(self, subject: Group, fill: str = "nonzero", *, minimum_area: Any = 0, **look: Any) -> Any:
+        """As `polyover.simplify`; the minimum area is in squares of the floats' unit."""
+        region, area = self.region("subject", subject, fill, look), self.area(minimum_area)
+        return self.shapes(calls.simplify(region, fill, minimum_area=area, **look))
 
     def edges(self, subject: Group, clip: Group = (), fill: str = "nonzero", **options: Any) -> Any:
-        """As `polyover.edges`."""
-        both = self._taken("subject", subject), self._taken("clip", clip)
-        return self.filled(calls.edges(*both, fill, **options))
+        """As `polyover.edges`; the polygons of a geometry are joined first."""
+        return self.filled(calls.edges(*self._both(subject, clip, fill, options, True), fill, **options))
 
     def relate(self, subject: Group, clip: Group, fill: str = "nonzero", **options: Any) -> Any:
         """As `polyover.relate`, of the coordinates as they are taken at this scale."""
-        return calls.relate(self._taken("subject", subject), self._taken("clip", clip), fill, **options)
+        return calls.relate(*self._both(subject, clip, fill, options), fill, **options)
 
     def clip(self, shape: Group, lines: Group, fill: str = "nonzero", **options: Any) -> Any:
-        """As `polyover.clip`."""
-        return self.paths(calls.clip(self._taken("shape", shape), self._taken("lines", lines), fill, **options))
+        """As `polyover.clip`; the polygons of a geometry are joined first, so that their edges cut no line within."""
+        region, paths = self.region("shape", shape, fill, options, True), self._taken("lines", lines)
+        return self.paths(calls.clip(region, paths, fill, **options))
 
     def slice(self, shape: Group, lines: Group, fill: str = "nonzero", **options: Any) -> Any:
-        """As `polyover.slice`."""
-        return self.shapes(calls.slice(self._taken("shape", shape), self._taken("lines", lines), fill, **options))
+        """As `polyover.slice`; the polygons of a geometry are joined first, so that they do not cut one another."""
+        region, paths = self.region("shape", shape, fill, options, True), self._taken("lines", lines)
+        return self.shapes(calls.slice(region, paths, fill, **options))
 
     def tiles(self, shape: Group, width: Any, height: Any, fill: str = "nonzero", **options: Any) -> Any:
-        """As `polyover.tiles`: a cell's width and height, times the scale, are rounded, and a node is at the origin."""
-        sides = self.sides(width, height)
-        return self.shapes(calls.tiles(self._taken("shape", shape), *sides, fill, **options))
+        """As `polyover.tiles`: a cell's width and height, times the scale, are rounded, and a node is at the origin.
+        The polygons of a geometry are joined first, so that they do not cut one another."""
+        region, sides = self.region("shape", shape, fill, options, True), self.sides(width, height)
+        return self.shapes(calls.tiles(region, *sides, fill, **options))
 
     def sides(self, width: Any, height: Any) -> WholePoint:
         """The whole width and height of a cell."""
@@ -183,24 +242,26 @@ class Scaled:
         """As `polyover.is_resolved`."""
         return calls.is_resolved(self._taken("shape", shape))
 
-    def locate(self, shape: Group, points: Iterable[Any], **options: Any) -> Any:
-        """As `polyover.locate`."""
-        return calls.locate(self._taken("shape", shape), self.whole_points(points), **options)
+    def locate(self, shape: Group, points: Any, **options: Any) -> Any:
+        """As `polyover.locate`; the polygons of a geometry are joined first."""
+        region = self.region("shape", shape, "evenodd", {})
+        return calls.locate(region, self.whole_points(points), **options)
 
     def prepared(self, shape: Group, fill: str = "nonzero", **options: Any) -> Prepared:
         """As `polyover.Prepared`, asked by points of floats."""
         return PreparedAtScale(self, shape, fill, **options)
 
-    def whole_points(self, points: Iterable[Any]) -> WholePath:
-        """Points that are located, with whole coordinates."""
-        return self._taken("points", [points])[0]
+    def whole_points(self, points: Any) -> WholePath:
+        """Points that are located, with whole coordinates; those of a geometry too."""
+        return self._taken("points", [points_of(points) if is_geometry(points) else points])[0]
 
 
 class PreparedAtScale(Prepared):
     """A prepared shape whose contours and points are floats, taken as whole numbers at a scale."""
 
     def __init__(self, scaled: Scaled, shape: Group, fill: str, **options: Any) -> None:
-        super().__init__(scaled._taken("shape", shape), fill, **options)  # pylint: disable=protected-access
+        region = scaled.region("shape", shape, fill, options)
+        super().__init__(region, fill, **options)
         self._scaled = scaled
 
     def _whole(self, points: Any) -> Any:
@@ -225,7 +286,7 @@ def fraction_of(value: Any, what: str) -> Fraction:
 
 def taken(name: str, group: Group) -> Group:
     """What was given for a group of paths: polygons or lines that are read, or lists of points of two numbers."""
-    if isinstance(group, (Polygons, Lines)):
+    if isinstance(group, (Polygons, Lines, FlatFloats)):
         return group
     if is_geometry(group) and not isinstance(group, (Paths, Flat)):
         return lines_in(group) if name == "lines" else polygons_in(group)

@@ -1,5 +1,7 @@
 """Contours and shapes in arrays: the same answers as of lists, without a copy where they are in one."""
 
+import copy
+import pickle
 import random
 import unittest
 from array import array
@@ -52,6 +54,46 @@ class Arrays(unittest.TestCase):
         for given in (flat([SQUARE]), shapes, shapes.contours):
             self.assertEqual(polyover.Scaled(1).overlay(given), polyover.overlay([SQUARE]))
 
+    def test_answers_at_a_scale(self):
+        tenths = polyover.Scaled(10, (100, 0))
+        square, other = ([(100 + x / 10, y / 10) for x, y in each] for each in (SQUARE, OTHER))
+        line = [[(100, 0.1), (101, 0.1)]]
+        for found, expected in (
+            (tenths.overlay([square], [other], arrays=True), tenths.overlay([square], [other])),
+            (tenths.simplify([square], arrays=True), tenths.simplify([square])),
+            (tenths.slice([square], line, arrays=True), tenths.slice([square], line)),
+            (tenths.tiles([square], 0.3, 0.3, arrays=True), tenths.tiles([square], 0.3, 0.3)),
+            (tenths.clip([square], line, arrays=True), tenths.clip([square], line)),
+            (tenths.overlay([], arrays=True), []),
+            (tenths.clip([], [], arrays=True), []),
+        ):
+            contours = found.contours if isinstance(found, polyover.FlatShapes) else found
+            self.assertIsInstance(contours, polyover.FlatFloats)
+            self.assertEqual((list(found), contours.coordinates.format), (list(expected), "d"))
+        shapes = tenths.overlay([square], [other], "difference", arrays=True)
+        points = [(100, 0.4), (100, 0), (100.4, 0), (100.4, 0.2), (100.2, 0.2), (100.2, 0.4)]
+        self.assertEqual(shapes.contours.coordinates.tolist(), [list(point) for point in points])
+        for again in (shapes, shapes.contours, polyover.FlatFloats(shapes.contours.coordinates, [6])):
+            self.assertEqual(tenths.overlay(again, [other]), tenths.overlay([square], [other]))
+        for call in (polyover.overlay, polyover.is_resolved):
+            with self.assertRaisesRegex(polyover.BadInput, "an array of floats: Scaled takes floats"):
+                call(shapes.contours)
+
+    def test_copies(self):
+        shapes = polyover.overlay(FRAME, BAR, "xor", arrays=True)
+        floats = polyover.Scaled(10).overlay(FRAME, BAR, "xor", arrays=True)
+        paths = polyover.clip(HALL, WALLS, arrays=True)
+        empty = polyover.overlay([], arrays=True)
+        passed = flat(FRAME), shapes.contours, paths, empty.contours
+        for each in passed:
+            polyover.edges(each)
+        for given in (*passed, shapes, floats, floats.contours, empty):
+            for copied in (pickle.loads(pickle.dumps(given)), copy.copy(given), copy.deepcopy(given)):
+                self.assertEqual((type(copied), list(copied)), (type(given), list(given)))
+        again = pickle.loads(pickle.dumps(shapes))
+        del shapes
+        self.assertEqual(polyover.overlay(again.contours), polyover.overlay(FRAME, BAR, "xor"))
+
     def test_buffers_of_two_dimensions(self):
         bar = memoryview(array("q", [value for point in BAR[0] for value in point])).cast("B").cast("q", (4, 2))
         self.assertEqual(polyover.overlay(FRAME, [bar], "xor"), polyover.overlay(FRAME, BAR, "xor"))
@@ -85,6 +127,8 @@ class Arrays(unittest.TestCase):
         with self.assertRaisesRegex(polyover.BadInput, "subject: contour 1, point 2: 4611686018427387904 is out of"):
             polyover.overlay(polyover.Flat(far, [3]))
         one, four, none = array("q", [0, 0]), array("q", [0] * 8), array("q")
+        with self.assertRaisesRegex(polyover.BadInput, "coordinates: no array of float64"):
+            polyover.FlatFloats(array("q", [0, 0]), [1])
         wrong = (array("d", [0, 0]), [1]), ([0, 0], [1]), (one, [2]), (none, array("d")), (four, [5, 4]), (one, [-1, 1])
         for coordinates, ends in wrong:
             with self.assertRaises(polyover.BadInput):

@@ -152,6 +152,23 @@ class Polygons(unittest.TestCase):
         # (each half of the bow has an area of 4, the box 2)
         self.assertEqual(self.rings(ran("simplify", given, words=["--min-area", "3.5"])[1]), [[1, 1]])
 
+    def test_areas_that_equal_the_smallest(self):
+        triangle = collection(feature("Polygon", [[[0, 0], [5, 0], [0, 1], [0, 0]]]))
+        other = collection(feature("Polygon", [square(0, 0, 9, 9)]))
+        # (whose area is 2 and a half)
+        for area, found in (("2", [[1]]), ("2.5", [[1]]), ("5/2", [[1]]), ("2.6", []), ("3", [])):
+            words = ["--min-area", area, "--digits", "0"]
+            both = [*words, "--rule", "intersect"]
+            self.assertEqual(self.rings(ran("simplify", triangle, words=words)[1]), found, area)
+            self.assertEqual(self.rings(ran("overlay", triangle, other, words=both)[1]), found, area)
+            self.assertEqual(self.rings(ran("overlay", triangle, other, words=[*both, "--keep"])[1]), found, area)
+        status, left, said, _ = ran("simplify", triangle, words=["--min-area", "1e40"])
+        self.assertEqual((status, left, said.startswith("polyover: the minimum area 1")), (1, None, True))
+        for area in ("1e999999999", "-1", "x", "1" * 101):
+            with self.assertRaises(SystemExit) as ended:
+                ran("simplify", triangle, words=["--min-area", area])
+            self.assertEqual(ended.exception.code, 2)
+
     def test_fill(self):
         one = collection(feature("MultiPolygon", [[square(0, 0, 4, 4)], [square(1, 1, 3, 3)]]))
         other = collection(feature("Polygon", [square(0, 0, 9, 9)]))

@@ -53,7 +53,8 @@ class Declared(unittest.TestCase):
         for name, kinds in library.FUNCTIONS.items():
             found = re.search(rf"\b{name}\(([^)]*)\);", HEADER)
             if found:
-                arguments = [re.sub(r"\s*\w+$", "", each.strip()) for each in found[1].split(",")]
+                told = [] if found[1] == "void" else found[1].split(",")
+                arguments = [re.sub(r"\s*\w+$", "", each.strip()) for each in told]
                 self.assertEqual(len(arguments), len(kinds), name)
                 self.assertEqual(["*" in each for each in arguments], [is_pointer(kind) for kind in kinds], name)
 

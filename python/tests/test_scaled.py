@@ -59,11 +59,6 @@ class ScaledFloats(unittest.TestCase):
         self.assertEqual(polyover.Scaled(4).whole(iter([iter(points)])), [[(0, 0), (2, 0), (2, 1)]])
         self.assertEqual(len(polyover.Scaled(4).overlay(iter([iter(points)]))), 1)
 
-    def test_the_minimum_area_is_that_of_the_scale(self):
-        square = [(0.0, 0.0), (1.5, 0.0), (1.5, 1.5), (0.0, 1.5)]
-        counts = [len(polyover.Scaled(2).overlay([square], minimum_area=area)) for area in (9, 10)]
-        self.assertEqual(counts, [1, 0])
-
     def test_whole_numbers_come_back(self):
         scaled = polyover.Scaled(1000)
         square = [(0.0, 0.0), (0.25, 0.0), (0.25, 0.5), (0.0, 0.5)]
@@ -94,3 +89,51 @@ class ScaledFloats(unittest.TestCase):
                 polyover.Scaled(1).overlay([[(value, 0), (1, 0), (1, 1)]])
         with self.assertRaises(polyover.BadInput):
             polyover.Scaled(0)
+
+
+class MinimumArea(unittest.TestCase):
+    """The smallest area is in squares of the floats' unit."""
+
+    UNIT = [(0, 0), (1, 0), (1, 1), (0, 1)]
+    # (of an area of 2 and a half)
+    TRIANGLE = [(0, 0), (5, 0), (0, 1)]
+
+    def kept(self, scaled, contour, area):
+        """How many shapes each call keeps of a contour."""
+        (count,) = {
+            len(scaled.overlay([contour], [], "subject", minimum_area=area)),
+            len(scaled.hierarchy([contour], [], "subject", minimum_area=area)[0]),
+            len(scaled.simplify([contour], minimum_area=area)),
+        }
+        return count
+
+    def test_in_the_unit_of_the_floats(self):
+        for digits in (0, 2, 6, -1):
+            scaled, side = polyover.Scaled.of_digits(digits), 10 if digits < 0 else 1
+            contour = [(x * side, y * side) for x, y in self.UNIT]
+            for area, count in ((0, 1), (side**2, 1), (2 * side**2, 0)):
+                self.assertEqual(self.kept(scaled, contour, area), count, (digits, area))
+
+    def test_the_nearest_number_of_squares(self):
+        whole = polyover.Scaled(1)
+        self.assertEqual([self.kept(whole, self.TRIANGLE, area) for area in (2.5, 2.51, 2.6, 3)], [1, 0, 0, 0])
+        # (half a square smaller)
+        self.assertEqual([self.kept(whole, [(0, 0), (2, 0), (2, 1), (0, 1)], area) for area in (2.5, 2.51)], [1, 0])
+        for area, squares in ((0, 0), (0.5, 0), (0.51, 1), (1.5, 1), (2, 2), (2.5, 2), (Fraction(8, 3), 3), (3.5, 3)):
+            self.assertEqual(whole.area(area), squares)
+
+    def test_floats_that_are_a_little_more_than_what_they_stand_for(self):
+        self.assertGreater(Fraction(0.07), Fraction(7, 100))
+        strip = [(0, 0), (0.7, 0), (0.7, 0.1), (0, 0.1)]
+        self.assertEqual([self.kept(polyover.Scaled(10), strip, area) for area in (0.07, 0.08)], [1, 0])
+        self.assertEqual(polyover.Scaled.of_digits(7).area(Decimal("0.1")), polyover.Scaled.of_digits(7).area(0.1))
+
+    def test_faults(self):
+        scaled = polyover.Scaled.of_digits(6)
+        for area in (-1, -0.001, float("nan"), float("inf"), "x", None, 1e27):
+            with self.assertRaisesRegex(polyover.BadInput, "^the minimum area "):
+                scaled.overlay([self.UNIT], minimum_area=area)
+        self.assertEqual(scaled.overlay([self.UNIT], minimum_area=1e26), [])
+        for call in (polyover.overlay, polyover.hierarchy, polyover.simplify):
+            with self.assertRaisesRegex(polyover.BadInput, "^the minimum area 1.5 is no whole number$"):
+                call([self.UNIT], minimum_area=1.5)

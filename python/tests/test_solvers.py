@@ -1,10 +1,13 @@
 """Both solvers, of contours that rounds do not settle: needles, whose long sides cross very flatly."""
 
+import re
 import unittest
 
 import polyover
+from polyover.commands import figures_in
 
 from .features import feature, ran
+from .inputs import ROOT
 from .there import ask_library_alone, ask_program_alone, with_library, with_program
 
 # By snap rounding (0, 65) is led into the long sides, by hand, and the tips above it fall to lines.
@@ -138,6 +141,18 @@ class CommandLine(unittest.TestCase):
             with self.assertRaises(SystemExit) as ended:
                 ran(command, ONE, OTHER, words=["--solver", solver])
             self.assertEqual(ended.exception.code, 2)
+
+
+@with_library
+class Copies(unittest.TestCase):
+    """The copies of a pentagon that docs/PROGRAM.md tells of."""
+
+    def test_as_many_edges_as_the_page_says(self):
+        figures, _ = figures_in((ROOT / "examples" / "copies.txt").read_text())
+        page = (ROOT / "docs" / "PROGRAM.md").read_text()
+        told = re.search(r"`examples/copies.txt` has (\d+) edges: .* Snap rounding makes (\d+) edges", page, re.S)
+        edges = sum(map(len, figures["subject"])), len(polyover.edges(figures["subject"]))
+        self.assertEqual(edges, tuple(map(int, told.groups())))
 
 
 if __name__ == "__main__":
