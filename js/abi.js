@@ -10,6 +10,8 @@ export const RULES = ["subject", "clip", "intersect", "union", "difference", "in
 export const FILLS = ["evenodd", "nonzero", "positive", "negative"];
 export const SOLVERS = ["snapped", "rounds"];
 export const LOCATIONS = ["outside", "inside", "boundary"];
+/** How the library was built, by the number that it tells. */
+export const BUILDS = ["unproved", "proved"];
 export const RELATIONS = [
   "intersects",
   "interiorsIntersect",
@@ -262,6 +264,11 @@ export class Library {
 
   // ---- the calls
 
+  /** Whether the library is made of the proved module. */
+  built() {
+    return BUILDS[this.calls.polyover_built?.()] ?? "unknown";
+  }
+
   overlay(asked, rule, fill, look) {
     return this.answer("polyover_overlay_result", asked, (held) => [rule, fill, this.options(held, look, asked.kind)]);
   }
@@ -361,6 +368,16 @@ export class Library {
       check(this.calls.polyover_prepared_locate(BigInt(at), ...numbers.arguments, ...found.arguments));
       return found.view().slice();
     });
+  }
+
+  /** The same of a shape that is prepared for these points alone. */
+  regionLocate({ groups: [shape, points], grid }, fill, solver) {
+    const at = this.prepare({ groups: [shape], grid }, fill, solver);
+    try {
+      return this.preparedLocate(at, { groups: [points], grid });
+    } finally {
+      this.freePrepared(at);
+    }
   }
 
   /** Gives the memory of a prepared shape back. */

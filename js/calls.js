@@ -1,6 +1,6 @@
 /** The calls: contours, paths and points in, shapes, paths, edges, relations and locations out. */
 
-import { FILLS, LIMIT, Library, RELATIONS, RULES } from "./abi.js";
+import { FILLS, LIMIT, Library, RELATIONS, RULES, SOLVERS } from "./abi.js";
 import { edgesIn, linesIn, linksIn, locationsIn, shapesIn } from "./answers.js";
 import { BadInput } from "./errors.js";
 import { isGeometry, partsOf } from "./geojson.js";
@@ -14,15 +14,16 @@ const SIMPLIFY = ["fill", ...LOOK, "answer"];
 const CLIP = ["fill", "invert", "boundary", "solver", "answer"];
 const FILLED = ["fill", "solver", "answer"];
 const DIFFERENCE = RULES.indexOf("difference");
-const NONZERO = FILLS.indexOf("nonzero");
-const PLAIN = { clockwise: false, keep: false, touching: false, minimumArea: 0n, solver: 0 };
+const [NONZERO, EVENODD, NEGATIVE] = ["nonzero", "evenodd", "negative"].map((name) => FILLS.indexOf(name));
+const SNAPPED = SOLVERS.indexOf("snapped");
+const PLAIN = { clockwise: false, keep: false, touching: false, minimumArea: 0n, solver: SNAPPED };
 
 /**
  * The calls, on coordinates that are whole numbers; `scaled` gives the same ones on floats.
  *
- * A group of contours or lines is a list of lists of points `[x, y]`, numbers or BigInts, a `Flat`, or GeoJSON.
- * Polygons of GeoJSON are taken by contours that wind once round what they cover: nonzero and positive fill it. An
- * answer has the form of the first group, unless the option `answer` names one: "lists", "arrays" or "geojson".
+ * A group of contours or lines is a list of lists of points `[x, y]`, numbers or BigInts, a `Flat`, or GeoJSON. A
+ * geometry of GeoJSON means the region that its polygons cover, under each fill rule. An answer has the form of the
+ * first group, unless the option `answer` names one: "lists", "arrays" or "geojson".
  */
 export class Polyover {
   #library;
@@ -47,10 +48,15 @@ export class Polyover {
     return new Polyover(this.#library, { startX: origin[0], startY: origin[1], scale });
   }
 
+  /** Whether the library is made of the proved module: "proved" or "unproved"; "unknown" where it does not tell. */
+  built() {
+    return this.#library.built();
+  }
+
   /** The shapes round the region where the rules hold of two groups of contours. */
   overlay(subject, clip = [], options = {}) {
-    const { rule, fill, answer, ...look } = chosen(options, OVERLAY);
-    return this.#asked([this.#contours("subject", subject), this.#contours("clip", clip)], answer, (asked, form) =>
+    const { rule, fill, answer, ...look } = chosen(options, OVERLAY, this.#grid);
+    return this.#filled({ subject, clip }, { fill, solver: look.solver }, answer, (asked, form) =>
       shapesIn(this.#library.overlay(asked, rule, fill, look), form),
     );
   }
@@ -60,9 +66,8 @@ export class Polyover {
    * all contours, and the shape, counted from 0.
    */
   hierarchy(subject, clip = [], options = {}) {
-    const { rule, fill, answer, ...look } = chosen(options, OVERLAY);
-    const groups = [this.#contours("subject", subject), this.#contours("clip", clip)];
-    return this.#asked(groups, answer, (asked, form) => {
+    const { rule, fill, answer, ...look } = chosen(options, OVERLAY, this.#grid);
+    return this.#filled({ subject, clip }, { fill, solver: look.solver }, answer, (asked, form) => {
       const found = this.#library.hierarchy(asked, rule, fill, look);
       return { shapes: shapesIn(found, form), links: linksIn(found.links, form) };
     });
@@ -70,8 +75,8 @@ export class Polyover {
 
   /** The shapes round what the contours fill; one simple contour stays as it is given, or is reversed. */
   simplify(subject, options = {}) {
-    const { fill, answer, ...look } = chosen(options, SIMPLIFY);
-    return this.#asked([this.#contours("subject", subject)], answer, (asked, form) =>
+    const { fill, answer, ...look } = chosen(options, SIMPLIFY, this.#grid);
+    return this.#filled({ subject }, { fill, solver: look.solver }, answer, (asked, form) =>
       shapesIn(this.#library.simplify(asked, fill, look), form),
     );
   }
@@ -79,8 +84,7 @@ export class Polyover {
   /** Which relations hold: an object from the seven names to truths, told at the finest scale in the range. */
   relate(subject, clip, options = {}) {
     const { fill, solver } = chosen(options, ["fill", "solver"]);
-    const groups = [this.#contours("subject", subject), this.#contours("clip", clip)];
-    return this.#asked(groups, "lists", (asked) => {
+    return this.#filled({ subject, clip }, { fill, solver }, "lists", (asked) => {
       const whole = { ...asked, groups: alike(asked.groups, Float64Array, asked.grid) };
       const extent = this.#library.extent(whole);
       const power = extent === 0n || extent > LIMIT ? 0 : (LIMIT / extent).toString(2).length - 1;
@@ -92,7 +96,7 @@ export class Polyover {
   /** The parts of open paths inside the shape; with `invert` those outside, with `boundary` those along it too. */
   clip(shape, lines, options = {}) {
     const { fill, answer, ...how } = chosen(options, CLIP);
-    return this.#asked([this.#contours("shape", shape), this.#lines(lines)], answer, (asked, form) =>
+    return this.#filled({ shape, lines }, { fill, solver: how.solver, isJoined: true }, answer, (asked, form) =>
       linesIn(this.#library.clip(asked, fill, how), form),
     );
   }
@@ -100,24 +104,28 @@ export class Polyover {
   /** The shapes into which open paths cut a shape. */
   slice(shape, lines, options = {}) {
     const { fill, solver, answer } = chosen(options, FILLED);
-    return this.#asked([this.#contours("shape", shape), this.#lines(lines)], answer, (asked, form) =>
+    return this.#filled({ shape, lines }, { fill, solver, isJoined: true }, answer, (asked, form) =>
       shapesIn(this.#library.slice(asked, fill, solver), form),
     );
   }
 
-  /** Where each point lies in contours that are joined by exclusive or: "inside", "boundary" or "outside". */
+  /**
+   * Where each point lies: "inside", "boundary" or "outside". Contours are joined by exclusive or; a geometry is the
+   * region that its polygons cover.
+   */
   locate(shape, points, options = {}) {
     const { answer } = chosen(options, ["answer"]);
-    const queries = pointsOf(points);
-    return this.#asked([this.#contours("shape", shape), queries], answer ?? queries.form, (asked, form) =>
-      locationsIn(this.#library.locate(asked), form),
-    );
+    const [contours, queries] = [this.#contours("shape", shape), pointsOf(points)];
+    return this.#asked([contours, queries], answer ?? queries.form, (asked, form) => {
+      const found = contours.isRegion ? this.#inRegion(asked) : this.#library.locate(asked);
+      return locationsIn(found, form);
+    });
   }
 
   /** The shape that contours fill, made ready to be asked again and again where points lie: a `Prepared`. */
   prepare(shape, options = {}) {
     const { fill, solver } = chosen(options, ["fill", "solver"]);
-    return this.#asked([this.#contours("shape", shape)], "lists", (asked) => {
+    return this.#filled({ shape }, { fill, solver }, "lists", (asked) => {
       const groups = alike(asked.groups, Float64Array, asked.grid);
       return new Prepared(this.#library, this.#library.prepare({ ...asked, groups }, fill, solver), this.#grid);
     });
@@ -126,7 +134,7 @@ export class Polyover {
   /** The edges of the arrangement, in order: two points, and the sum of the bits of the filled sides. */
   edges(subject, clip = [], options = {}) {
     const { fill, solver, answer } = chosen(options, FILLED);
-    return this.#asked([this.#contours("subject", subject), this.#contours("clip", clip)], answer, (asked, form) =>
+    return this.#filled({ subject, clip }, { fill, solver, isJoined: true }, answer, (asked, form) =>
       edgesIn(this.#library.edges(asked, fill, solver), form),
     );
   }
@@ -143,6 +151,18 @@ export class Polyover {
     return askedOf(groups, this.#grid, form, answered);
   }
 
+  /**
+   * What an answer is of groups, each given under its name. Geometries are contours that the fill rule fills just where
+   * polygons cover; where `isJoined` says so, no edge of them lies within.
+   */
+  #filled(given, how, form, answered) {
+    const groups = Object.entries(given).map(([name, thing]) => {
+      const group = name === "lines" ? this.#lines(thing) : this.#contours(name, thing);
+      return group.isRegion ? this.#region(group, how) : group;
+    });
+    return this.#asked(groups, form, answered);
+  }
+
   #contours(name, thing) {
     return isGeometry(thing) ? this.#covered(name, partsOf("polygons", thing, name)) : grouped(name, thing);
   }
@@ -155,29 +175,67 @@ export class Polyover {
     return { ...listed("lines", lines), form: "geojson" };
   }
 
+  /** Where points lie in the region that the contours of a geometry wind round. */
+  #inRegion(asked) {
+    const groups = alike(asked.groups, Float64Array, asked.grid);
+    return this.#library.regionLocate({ ...asked, groups }, NONZERO, SNAPPED);
+  }
+
+  /** The contours of a geometry for a fill rule. (By even-odd none would be where two polygons are.) */
+  #region(group, { fill, solver, isJoined }) {
+    const found = group.count > 1 && (isJoined || fill === EVENODD) ? this.#joined(group, solver) : group;
+    return fill === NEGATIVE ? { ...found, numbers: reversed(found) } : found;
+  }
+
+  /** A geometry by contours that wind once round the region that its polygons cover. */
+  #joined(group, solver) {
+    const asked = { groups: [group], kind: BigInt64Array, grid: this.#grid };
+    const { coordinates, contourEnds } = this.#library.simplify(asked, NONZERO, { ...PLAIN, solver });
+    return { ...group, numbers: coordinates, ends: contourEnds };
+  }
+
   /** The contours of polygons, as whole numbers: outlines run counter-clockwise and holes clockwise. */
   #covered(name, polygons) {
-    const found = polygons.map(({ place, part: [outline, ...holes] }) => this.#coveredBy(place, outline, holes));
-    return { name, form: "geojson", isWhole: true, ...joined(found) };
+    const found = polygons.map(({ place, part }) => this.#coveredBy(place, part));
+    return { name, form: "geojson", isRegion: true, count: polygons.length, ...inOne(found) };
   }
 
   /** The contours of a polygon: they wind once round what its outline winds round, and none of its holes does. */
-  #coveredBy(place, outline, holes) {
-    const groups = [listed(place, [outline])];
-    if (holes.length > 0) {
-      groups.push(listed(`${place}, holes`, holes));
+  #coveredBy(place, [outline, ...holes]) {
+    const around = this.#wound(place, outline);
+    if (holes.length === 0) {
+      return around;
     }
-    return this.#asked(groups, "arrays", (asked) => {
-      const whole = { ...asked, kind: BigInt64Array };
-      return holes.length > 0
-        ? this.#library.overlay(whole, DIFFERENCE, NONZERO, PLAIN)
-        : this.#library.simplify(whole, NONZERO, PLAIN);
-    });
+    const within = holes.map((hole, at) => this.#wound(`${place}, ring ${at + 2}`, hole));
+    const groups = [inOne([around]), inOne(within)];
+    return this.#library.overlay({ groups, kind: BigInt64Array, grid: this.#grid }, DIFFERENCE, NONZERO, PLAIN);
+  }
+
+  /** The contours that wind once round what a ring winds round. (Rings that run against each other may overlap.) */
+  #wound(place, ring) {
+    return this.#asked([listed(place, [ring])], "arrays", (asked) =>
+      this.#library.simplify({ ...asked, kind: BigInt64Array }, NONZERO, PLAIN),
+    );
   }
 }
 
+/** The coordinates of contours that run the other way. */
+function reversed({ numbers, ends }) {
+  const found = new BigInt64Array(numbers.length);
+  let start = 0;
+  for (const end of ends) {
+    for (let at = start; at < end; at++) {
+      const other = start + end - 1 - at;
+      found[2 * at] = numbers[2 * other];
+      found[2 * at + 1] = numbers[2 * other + 1];
+    }
+    start = end;
+  }
+  return found;
+}
+
 /** Contours in several arrays as those of one group. */
-function joined(found) {
+function inOne(found) {
   const numbers = new BigInt64Array(found.reduce((sum, { coordinates }) => sum + coordinates.length, 0));
   const ends = [];
   let count = 0;

@@ -10,13 +10,25 @@ export function isNumbers(thing) {
   return NUMBERS.some((kind) => thing instanceof kind);
 }
 
+/** That an array still has its items: it has none once its buffer was handed over, as to a worker. */
+export function checkHeld(what, array) {
+  try {
+    new Uint8Array(array.buffer);
+  } catch {
+    throw new BadInput(`${what}: the array is detached: its buffer was handed over`);
+  }
+}
+
 /** Ends as an Uint32Array. */
 function ends32(what, ends) {
-  if (ends instanceof Uint32Array) {
-    return ends;
-  }
   if (!Array.isArray(ends) && !COUNTS.some((kind) => ends instanceof kind)) {
     throw new BadInput(`${what}: no list or typed array of whole numbers`);
+  }
+  if (!Array.isArray(ends)) {
+    checkHeld(what, ends);
+  }
+  if (ends instanceof Uint32Array) {
+    return ends;
   }
   return Uint32Array.from(ends, (end) => {
     const number = Number(end);
@@ -53,6 +65,7 @@ export class Flat {
     if (!isNumbers(coordinates)) {
       throw new BadInput("coordinates: no BigInt64Array, Int32Array or Float64Array");
     }
+    checkHeld("coordinates", coordinates);
     this.coordinates = coordinates;
     this.ends = ends32("ends", ends);
     checkEnds("ends", this.ends, coordinates.length / 2, "points");

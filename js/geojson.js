@@ -50,11 +50,15 @@ function pointAt(place, point) {
   return [point[0], point[1]];
 }
 
+/** Whether two points are equal in all their members. */
+function isSame(point, other) {
+  return point.length === other.length && point.every((value, at) => value === other[at]);
+}
+
 /** The points of a ring or line; a ring does not repeat its first one at its end. */
 function pathAt(place, path, kind) {
   const points = list(place, path).map((point, at) => pointAt(`${place}, point ${at + 1}`, point));
-  const [first, last] = [points[0], points[points.length - 1]];
-  if (kind === "polygons" && points.length > 1 && first[0] === last[0] && first[1] === last[1]) {
+  if (kind === "polygons" && points.length > 1 && isSame(path[0], path[path.length - 1])) {
     points.pop();
   }
   if (points.length < LEAST[kind]) {
@@ -85,7 +89,11 @@ export function partsOf(kind, thing, name) {
     const each = isMulti ? items : items.length > 0 ? [items] : [];
     each.forEach((item, at) => {
       const where = isMulti ? `${place}, ${at + 1}` : place;
-      parts.push({ place: where, part: partAt(kind, where, item) });
+      const part = partAt(kind, where, item);
+      // (a polygon without rings covers nothing)
+      if (part.length > 0) {
+        parts.push({ place: where, part });
+      }
     });
   }
   if (passed !== undefined && !isFound) {

@@ -1,12 +1,12 @@
 /** What is given to a call: groups of contours, paths or points, and options. */
 
 import { FILLS, LIMIT, LIMIT_32, Misplaced, RULES, SOLVERS } from "./abi.js";
+import { areaOf } from "./area.js";
 import { BadInput } from "./errors.js";
-import { Flat, isNumbers } from "./flat.js";
+import { Flat, checkHeld, isNumbers } from "./flat.js";
 import { isGeometry, partsOf } from "./geojson.js";
+import { checkNames, truth } from "./options.js";
 import { shown } from "./shown.js";
-
-const AREA_LIMIT = 2n ** 127n - 1n;
 
 // ---- options
 
@@ -21,25 +21,6 @@ function placeIn(names, what) {
   };
 }
 
-/** The value of an option that is true or false. */
-function truth(name) {
-  return (value) => {
-    if (typeof value !== "boolean") {
-      throw new BadInput(`${name}: ${shown(value)} is neither true nor false`);
-    }
-    return value;
-  };
-}
-
-/** A minimum area: a whole number of squared units. */
-function area(value) {
-  const isWhole = typeof value === "bigint" || Number.isSafeInteger(value);
-  if (!isWhole || value < 0 || BigInt(value) > AREA_LIMIT) {
-    throw new BadInput(`the minimum area ${shown(value)} is no whole number from 0 to ${AREA_LIMIT}`);
-  }
-  return BigInt(value);
-}
-
 const ANSWERS = ["lists", "arrays", "geojson"];
 const OPTIONS = {
   rule: ["union", placeIn(RULES, "rule")],
@@ -48,24 +29,17 @@ const OPTIONS = {
   touching: [false, truth("touching")],
   clockwise: [false, truth("clockwise")],
   keep: [false, truth("keep")],
-  minimumArea: [0, area],
+  minimumArea: [0, areaOf],
   invert: [false, truth("invert")],
   boundary: [false, truth("boundary")],
   answer: [undefined, (value) => (value === undefined ? value : ANSWERS[placeIn(ANSWERS, "answer")(value)])],
 };
 
 /** The options of a call, each of which has one of these names, with the defaults of those not given. */
-export function chosen(options, names) {
-  if (typeof options !== "object" || options === null || Array.isArray(options)) {
-    throw new BadInput(`options: ${shown(options)} in the place of an object`);
-  }
-  for (const name of Object.keys(options)) {
-    if (!names.includes(name)) {
-      throw new BadInput(`unknown option ${shown(name)}: one of ${names.join(", ")}`);
-    }
-  }
+export function chosen(options, names, grid) {
+  checkNames(options, names);
   const values = names.map((name) => [name, options[name] ?? OPTIONS[name][0]]);
-  return Object.fromEntries(values.map(([name, value]) => [name, OPTIONS[name][1](value)]));
+  return Object.fromEntries(values.map(([name, value]) => [name, OPTIONS[name][1](value, grid)]));
 }
 
 // ---- groups
@@ -160,6 +134,8 @@ export function listed(name, paths) {
 /** Contours or paths as a group: lists of points, or `Flat`. */
 export function grouped(name, paths) {
   if (paths instanceof Flat) {
+    checkHeld(name, paths.coordinates);
+    checkHeld(`${name}: ends`, paths.ends);
     return { name, form: "arrays", numbers: paths.coordinates, ends: paths.ends };
   }
   return listed(name, paths);
@@ -171,6 +147,7 @@ export function pointsOf(points) {
     return pointsOf(partsOf("points", points, "points").map(({ part }) => part));
   }
   if (isNumbers(points)) {
+    checkHeld("points", points);
     if (points.length % 2 !== 0) {
       throw new BadInput(`points: ${points.length} is an odd count of coordinates`);
     }
@@ -186,7 +163,7 @@ export function pointsOf(points) {
 
 /**
  * The kind of coordinates in which groups are asked and answered: that of the groups that have any. Those of GeoJSON
- * were floats, though `isWhole` says that they are whole numbers now.
+ * were floats, and are whole numbers where `isRegion` says that they wind round a geometry.
  */
 function kindOfNumbers(groups, grid) {
   if (grid) {
@@ -194,7 +171,7 @@ function kindOfNumbers(groups, grid) {
   }
   const filled = groups.filter((group) => group.numbers.length > 0);
   const asked = filled.length > 0 ? filled : groups;
-  const kinds = asked.map((group) => (group.isWhole ? Float64Array : group.numbers.constructor));
+  const kinds = asked.map((group) => (group.isRegion ? Float64Array : group.numbers.constructor));
   if (kinds.every((kind) => kind === Int32Array)) {
     return Int32Array;
   }
@@ -208,7 +185,7 @@ export function alike(groups, kind, grid) {
     if (kind === Int32Array) {
       return numbers.length === 0 ? { ...group, numbers: new Int32Array(0) } : group;
     }
-    const isTurned = numbers instanceof Int32Array || (grid && !group.isWhole && numbers instanceof BigInt64Array);
+    const isTurned = numbers instanceof Int32Array || (grid && !group.isRegion && numbers instanceof BigInt64Array);
     return isTurned ? { ...group, numbers: Float64Array.from(numbers, Number) } : group;
   });
 }

@@ -42,13 +42,15 @@ export type Solver = "snapped" | "rounds";
 /** The form of an answer; that of the first group where none is named. */
 export type Form = "lists" | "arrays" | "geojson";
 export type Location = "outside" | "inside" | "boundary";
+/** Of which module the library is made; "unknown" where it does not tell. */
+export type Built = "proved" | "unproved" | "unknown";
 
 export interface SolverOptions {
   /** "snapped" if it is not given. */
   solver?: Solver;
 }
 export interface FillOptions extends SolverOptions {
-  /** "nonzero" if it is not given. */
+  /** "nonzero" if it is not given. A geometry is its region under each rule. */
   fill?: Fill;
 }
 export interface AnswerOptions<F extends Form> {
@@ -61,7 +63,7 @@ export interface LookOptions extends FillOptions {
   keep?: boolean;
   /** A contour may visit a point twice; if not, shapes are valid polygons by OGC. */
   touching?: boolean;
-  /** Contours of a smaller area are left out: a whole number, in squared units of the whole coordinates. */
+  /** Contours of a smaller area are left out: a whole number; of `scaled` any number in squares of the floats' unit. */
   minimumArea?: number | bigint;
 }
 export interface OverlayOptions extends LookOptions {
@@ -171,8 +173,10 @@ export class FlatShapes implements Iterable<Point<Coordinate>[][]> {
 
 /** The calls. */
 export class Polyover {
-  /** Over an instance of the module of WebAssembly; `load` makes it. */
-  constructor(instance: WebAssembly.Instance);
+  /** Over a `WebAssembly.Instance` of the module; `load` makes it. */
+  constructor(instance: { readonly exports: object });
+  /** Whether the library is made of the proved module. */
+  built(): Built;
   /** The same calls on floats: each less the origin's, times the scale, and rounded. Raises BadInput. */
   scaled(scale: number, origin?: readonly number[]): Polyover;
   /** The shapes round the region where the rules hold of two groups of contours. */
@@ -206,7 +210,10 @@ export class Polyover {
     lines: Q,
     options?: FillOptions & AnswerOptions<F>,
   ): ShapesAs<NumberOf<P> | NumberOf<Q>>[F];
-  /** Where each point lies in contours that are joined by exclusive or. NotResolved comes where one meets itself. */
+  /**
+   * Where each point lies in contours, which are joined by exclusive or, or in the region that a geometry covers.
+   * NotResolved comes where a contour that is given in lists or arrays meets itself.
+   */
   locate<P extends Points, F extends Form = FormOfPoints<P>>(
     shape: Paths,
     points: P,
@@ -256,6 +263,7 @@ export class RemotePolyover {
   scaled(scale: number, origin?: readonly number[]): RemotePolyover;
   /** Ends the worker, and with it a call that runs: promises that wait are rejected with WorkerEnded. */
   end(): void;
+  built(): Promise<Built>;
   overlay<P extends Paths, Q extends Paths = [], F extends Form = FormOf<P>>(
     subject: P,
     clip?: Q,
@@ -296,12 +304,18 @@ export class RemotePolyover {
 }
 
 export interface LoadOptions {
-  /** Where the module is, its bytes, or a module that is compiled; the file beside this one if it is not given. */
-  wasm?: string | URL | BufferSource | WebAssembly.Module;
+  /**
+   * Where the module is (a text or a `URL`), its bytes (a buffer or a typed array), or a `WebAssembly.Module`; the file
+   * beside this one if it is not given.
+   */
+  wasm?: string | object;
   /** Whether the calls run in a worker. */
   worker?: boolean;
 }
-/** The calls, once the module is loaded; rejected with LibraryMissing where it cannot be. */
+/**
+ * The calls, once the module is loaded. Rejected with LibraryMissing where it cannot be, and with BadInput for options
+ * that are unknown.
+ */
 export function load(options?: LoadOptions & { worker?: false }): Promise<Polyover>;
 export function load(options: LoadOptions & { worker: true }): Promise<RemotePolyover>;
 
@@ -331,3 +345,15 @@ export class BadInput extends PolyoverError {}
 export class LibraryMissing extends PolyoverError {}
 /** The worker was ended before it answered. */
 export class WorkerEnded extends PolyoverError {}
+
+/** The classes of errors by their names. */
+export const ERRORS: {
+  readonly PolyoverError: typeof PolyoverError;
+  readonly OutOfMemory: typeof OutOfMemory;
+  readonly NotSettled: typeof NotSettled;
+  readonly TooManyEdges: typeof TooManyEdges;
+  readonly NotResolved: typeof NotResolved;
+  readonly BadInput: typeof BadInput;
+  readonly LibraryMissing: typeof LibraryMissing;
+  readonly WorkerEnded: typeof WorkerEnded;
+};

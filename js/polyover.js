@@ -8,6 +8,7 @@
 
 import { Polyover } from "./calls.js";
 import { LibraryMissing } from "./errors.js";
+import { checkNames, truth } from "./options.js";
 import { RemotePolyover } from "./remote.js";
 
 export { LOCATIONS } from "./abi.js";
@@ -49,10 +50,13 @@ async function compiled(wasm) {
  * `wasm` is where it is, its bytes, or a module that is compiled; if it is not given, the file beside this one. With
  * `worker` the calls run in a worker, and answer promises; `end()` ends it, and with it a call that runs.
  */
-export async function load({ wasm = new URL("./polyover.wasm", import.meta.url), worker = false } = {}) {
+export async function load(options = {}) {
+  checkNames(options, ["wasm", "worker"]);
+  const wasm = options.wasm ?? new URL("./polyover.wasm", import.meta.url);
+  const isInWorker = truth("worker")(options.worker ?? false);
   try {
     const module = await compiled(wasm);
-    return worker ? await RemotePolyover.over(module) : new Polyover(await WebAssembly.instantiate(module, {}));
+    return isInWorker ? await RemotePolyover.over(module) : new Polyover(await WebAssembly.instantiate(module, {}));
   } catch (fault) {
     throw new LibraryMissing(`the module of WebAssembly cannot be loaded: ${fault.message}`);
   }

@@ -6,18 +6,23 @@ import { packed, unpacked } from "./packing.js";
 // (bundlers for browsers leave a name in a variable alone)
 const THREADS = "node:worker_threads";
 const OF_PREPARED = ["locate", "contains"];
-const CALLS = ["overlay", "hierarchy", "simplify", "relate", "clip", "slice", "locate", "edges", "isResolved"];
+const CALLS = ["overlay", "hierarchy", "simplify", "relate", "clip", "slice", "locate", "edges", "isResolved", "built"];
 
-/** A worker of the browser, or one of Node with its ways. (Bundlers take the address where it stands like this.) */
+/** A worker of Node with a browser's ways. */
+export function ofNode(worker) {
+  worker.on("message", (data) => worker.onmessage?.({ data }));
+  worker.on("error", (fault) => worker.onerror?.(fault));
+  worker.on("exit", (status) => worker.onerror?.(new Error(`it ended by itself, with status ${status}`)));
+  return worker;
+}
+
+/** A worker of the browser, or one of Node. (Bundlers take the address where it stands like this.) */
 async function newWorker() {
   if (typeof Worker !== "undefined") {
     return new Worker(new URL("./worker.js", import.meta.url), { type: "module" });
   }
   const { Worker: NodeWorker } = await import(/* webpackIgnore: true */ /* @vite-ignore */ THREADS);
-  const worker = new NodeWorker(new URL("./worker.js", import.meta.url));
-  worker.on("message", (data) => worker.onmessage?.({ data }));
-  worker.on("error", (fault) => worker.onerror?.(fault));
-  return worker;
+  return ofNode(new NodeWorker(new URL("./worker.js", import.meta.url)));
 }
 
 /** A worker, and the calls that it has not answered yet. While there are none it does not keep Node running. */
@@ -70,6 +75,10 @@ class Channel {
   }
 
   end(reason = new WorkerEnded()) {
+    // (a worker that was ended tells that it has)
+    if (this.#ended) {
+      return;
+    }
     this.#ended = true;
     this.#worker.terminate();
     for (const { reject } of this.#waiting.values()) {

@@ -53,6 +53,8 @@ async function answered(message, post) {
 if (typeof self !== "undefined" && typeof self.postMessage === "function") {
   self.onmessage = ({ data }) => answered(data, (...answer) => self.postMessage(...answer));
 } else {
-  const { parentPort } = await import("node:worker_threads");
-  parentPort.on("message", (data) => answered(data, (...answer) => parentPort.postMessage(...answer)));
+  // (no await at the top: browsers have modules as workers longer than that; Node keeps messages for the port)
+  import("node:worker_threads").then(({ parentPort }) =>
+    parentPort.on("message", (data) => answered(data, (...answer) => parentPort.postMessage(...answer))),
+  );
 }

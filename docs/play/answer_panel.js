@@ -77,6 +77,10 @@ function faultBox(state, answer) {
     const ask = () => state.ask({ solver: "snapped" });
     box.append(element("br"), element("button", { type: "button", onclick: ask }, "Ask the snapped solver"));
   }
+  if (answer.name === "WorkerEnded" || answer.name === "LibraryMissing") {
+    const again = () => state.tell("again");
+    box.append(element("br"), element("button", { type: "button", onclick: again }, "Ask again"));
+  }
   return box;
 }
 

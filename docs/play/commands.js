@@ -45,7 +45,12 @@ export const COMMANDS = {
   relate: command(REGIONS, "relations", FILLED, "How subject and clip lie to each other."),
   clip: command(LINES, "paths", [...FILLED, "invert", "boundary"], "The parts of the lines inside the subject."),
   slice: command(LINES, "shapes", FILLED, "The shapes into which the lines cut the subject."),
-  locate: command(["subject", "point"], "locations", [], "Where each point lies: inside, on the boundary or outside."),
+  locate: command(
+    ["subject", "point"],
+    "locations",
+    FILLED,
+    "Where each point lies: inside, on the boundary or outside. Even-odd joins contours by exclusive or.",
+  ),
   edges: command(
     REGIONS,
     "edges",
@@ -104,6 +109,12 @@ export const DEFAULTS = {
   invert: false,
   boundary: false,
 };
+
+/** Whether a command has an option. Points in contours that are joined by exclusive or are located without a solver. */
+export function isOption(/** @type {Asked} */ { command, fill }, /** @type {string} */ name) {
+  const isExact = command === "locate" && fill === "evenodd";
+  return COMMANDS[command].options.includes(name) && !(isExact && name === "solver");
+}
 
 /** The name whose word of the program is this one, or undefined. */
 export function nameOf(/** @type {Record<string, {program: string}>} */ table, /** @type {string} */ word) {

@@ -1,6 +1,6 @@
 /** The controls: tools, what is asked for and what is shown. */
 
-import { COMMANDS, FILLS, RULES } from "./commands.js";
+import { COMMANDS, FILLS, RULES, isOption } from "./commands.js";
 import { noFigures, scaleFigures } from "./drawing.js";
 import { byId, fillSelect } from "./page.js";
 
@@ -35,9 +35,8 @@ export function beginControls(/** @type {import("./state.js").State} */ state, b
     field("minimumArea").value = String(asked.minimumArea);
     field("digits").value = String(digits);
     byId("says").textContent = COMMANDS[asked.command].says;
-    const { options } = COMMANDS[asked.command];
-    for (const part of form.querySelectorAll("[data-option]")) {
-      /** @type {HTMLElement} */ (part).hidden = !options.includes(/** @type {any} */ (part).dataset.option);
+    for (const part of /** @type {NodeListOf<HTMLElement>} */ (form.querySelectorAll("[data-option]"))) {
+      part.hidden = !isOption(asked, part.dataset.option ?? "");
     }
     byId("snapping").hidden = asked.command !== "edges";
   };
@@ -89,7 +88,7 @@ function beginTools(state, board, keys) {
   click("coarser", () => (state.step({ figures: scaleFigures(state.figures, 0.5) }), board.fit()));
   click("finish", () => keys.hand.finish());
   click("cancel", drop);
-  state.on("drawing", () => {
+  state.on("drawing steps", () => {
     /** @type {any} */ (byId("undo-step")).disabled = !state.history.past.length;
     /** @type {any} */ (byId("redo-step")).disabled = !state.history.future.length;
   });

@@ -20,8 +20,8 @@ const held = /** @type {any} */ (globalThis).POLYOVER_HELD;
 /** The bytes of a text in base64. */
 const bytesOf = (/** @type {string} */ text) => Uint8Array.from(atob(text), (letter) => letter.charCodeAt(0));
 
-/** The paths of a kind in arrays. */
-function flat(/** @type {number[][][]} */ paths) {
+/** Paths in arrays. */
+export function flat(/** @type {number[][][]} */ paths) {
   const ends = new Uint32Array(paths.length);
   let count = 0;
   paths.forEach((path, at) => {
@@ -66,6 +66,38 @@ function answerOf(told, /** @type {import("./state.js").Drawing} */ drawing) {
   return answer;
 }
 
+const MISSING = "The library is not beside this page: docs/play/README.md says how it is opened.";
+const ENDED = "The worker ended by itself before it answered. The next question goes to a new one.";
+/** Faults after which a worker is not asked again: it could not load the library, or a call stopped in its midst. */
+const BROKEN = ["LibraryMissing", "RuntimeError", "RangeError"];
+
+/** A name for the lock of a worker. */
+const lockName = () => `polyover ${Date.now()} ${Math.random()}`;
+
+/**
+ * Starts a worker, which loads the library. `take` is called with each message of it. `end` is called once it has ended
+ * by itself, with what is said then: where the browser has locks the worker holds one as long as it lives.
+ */
+export function startWorker(/** @type {(data: any) => void} */ take, /** @type {(said: string) => void} */ end) {
+  const address = held?.worker ?? new URL("./worker.js", import.meta.url);
+  const worker = new Worker(address, { type: "module" });
+  const lock = lockName();
+  let isLoaded = false;
+  const ended = () => end(isLoaded ? ENDED : MISSING);
+  worker.onmessage = ({ data }) => {
+    isLoaded ||= data === "ready";
+    if (data === "held") navigator.locks.request(lock, ended);
+    else take(data);
+  };
+  worker.onerror = (event) => {
+    event.preventDefault();
+    ended();
+  };
+  worker.onmessageerror = ended;
+  worker.postMessage({ library: held ? bytesOf(held.library) : null, lock });
+  return worker;
+}
+
 export class Engine {
   /** Has `take` called with each answer. */
   constructor(/** @type {(answer: import("./answers.js").Answer) => void} */ take) {
@@ -74,6 +106,8 @@ export class Engine {
     this.asked = null;
     /** @type {[import("./state.js").Drawing, boolean] | null} */
     this.next = null;
+    /** @type {Worker | null} */
+    this.worker = null;
     this.began = 0;
     this.timer = 0;
     this.start();
@@ -84,23 +118,30 @@ export class Engine {
     return this.asked !== null;
   }
 
-  /** Starts a worker, which loads the library. */
+  /** Starts a worker. (What one says that was ended is passed over.) */
   start() {
-    const address = held?.worker ?? new URL("./worker.js", import.meta.url);
-    const worker = new Worker(address, { type: "module" });
-    this.worker = worker;
     this.isReady = false;
-    worker.onmessage = ({ data }) => {
-      // (an answer of a worker that was ended is passed over)
-      if (worker !== this.worker) return;
-      if (data === "ready") this.begin();
-      else this.receive(data);
-    };
-    worker.onerror = (event) => {
-      event.preventDefault();
-      if (worker === this.worker) this.receive({ kind: "fault", name: "Missing", message: MISSING, time: 0 });
-    };
-    worker.postMessage({ library: held ? bytesOf(held.library) : null });
+    const worker = startWorker(
+      (data) => {
+        if (worker !== this.worker) return;
+        if (data === "ready") this.begin();
+        else this.receive(data);
+      },
+      (said) => worker === this.worker && this.end(said),
+    );
+    this.worker = worker;
+  }
+
+  /** Drops a worker that has ended by itself, and says so in the place of an answer. */
+  end(/** @type {string} */ said) {
+    this.drop();
+    this.receive({ kind: "fault", name: "WorkerEnded", message: said, time: 0 });
+  }
+
+  /** Drops the worker: the next question gets a new one. */
+  drop() {
+    this.worker?.terminate();
+    this.worker = null;
   }
 
   /** Counts the time of an answer from now on: the library is loaded. */
@@ -129,8 +170,7 @@ export class Engine {
     window.clearTimeout(this.timer);
     this.timer = 0;
     if (!this.asked || !this.next) return;
-    this.worker?.terminate();
-    this.start();
+    this.drop();
     this.send();
   }
 
@@ -142,15 +182,15 @@ export class Engine {
     this.next = null;
     if (!this.asked) return;
     this.began = performance.now();
+    if (!this.worker) this.start();
     this.worker?.postMessage(messageOf(...this.asked));
   }
 
   /** Takes an answer of the worker. */
   receive(told) {
     const asked = this.asked;
+    if (told.kind === "fault" && BROKEN.includes(told.name)) this.drop();
     this.send();
     if (asked) this.take(answerOf(told, asked[0]));
   }
 }
-
-const MISSING = "The library is not beside this page: docs/play/README.md says how it is opened.";

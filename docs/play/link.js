@@ -2,9 +2,46 @@
  * The link that holds a drawing: its hash has the lines of the program's text, and what else the page shows.
  */
 
-import { COMMANDS } from "./commands.js";
+import { isOption } from "./commands.js";
 import { KINDS } from "./drawing.js";
-import { askedIn, commandWords, drawingIn } from "./text.js";
+import { BadText, askedIn, commandWords, drawingIn } from "./text.js";
+
+const SOLVERS = ["snapped", "rounds"];
+const FILLS = ["nonzero", "positive", "negative"];
+const NAMES = [...KINDS, "run", "solver", "fill", "digits"];
+
+/**
+ * What is asked for: the words of the program behind `run`, and what it has no words for, as far as that is not the
+ * default.
+ *
+ * @returns {Record<string, string>}
+ */
+export function questionOf(/** @type {import("./commands.js").Asked} */ asked) {
+  const run = [asked.command, ...commandWords(asked).slice(asked.command === "simplify" ? 2 : 1)].join(" ");
+  return {
+    run,
+    ...(isOption(asked, "solver") && asked.solver !== "snapped" ? { solver: asked.solver } : {}),
+    ...(asked.command === "locate" && asked.fill !== "evenodd" ? { fill: asked.fill } : {}),
+  };
+}
+
+/**
+ * What a question asks for. A fault in it is a `BadText`.
+ *
+ * @returns {import("./commands.js").Asked}
+ */
+export function askedOf(/** @type {{run: string, solver?: string | null, fill?: string | null}} */ question) {
+  const asked = askedIn(question.run.split(" "));
+  asked.solver = /** @type {any} */ (oneOf(SOLVERS, question.solver ?? "snapped", "solver"));
+  if (question.fill) asked.fill = oneOf(asked.command === "locate" ? FILLS : [], question.fill, "fill rule");
+  return asked;
+}
+
+/** A word, if it is one of some. */
+function oneOf(/** @type {string[]} */ words, /** @type {string} */ word, /** @type {string} */ what) {
+  if (!words.includes(word)) throw new BadText(`${word} is no ${what} here`);
+  return word;
+}
 
 /**
  * The hash of a drawing, without the `#`.
@@ -16,31 +53,32 @@ export function hashOf({ figures, asked, digits }) {
   for (const kind of KINDS) {
     for (const path of figures[kind]) words.append(kind, path.flat().join(" "));
   }
-  words.set("run", [asked.command, ...commandWords(asked).slice(asked.command === "simplify" ? 2 : 1)].join(" "));
-  if (COMMANDS[asked.command].options.includes("solver") && asked.solver !== "snapped") {
-    words.set("solver", asked.solver);
-  }
+  for (const [name, word] of Object.entries(questionOf(asked))) words.set(name, word);
   if (digits) words.set("digits", String(digits));
   return words.toString();
 }
 
 /**
- * The drawing of a hash, or null where it holds none. A fault in it is a `BadText`.
+ * The drawing of a hash, or null where there is none. A fault in it is a `BadText`.
  *
  * @returns {import("./state.js").Drawing | null}
  */
 export function drawingOfHash(/** @type {string} */ hash) {
   const words = new URLSearchParams(hash.replace(/^#/, ""));
-  if (!words.has("run")) return null;
+  const names = [...words.keys()];
+  if (!names.length) return null;
+  const unknown = names.find((name) => !NAMES.includes(name));
+  if (unknown !== undefined) throw new BadText(`${unknown} is no part of a drawing`);
+  const run = words.get("run");
+  if (run === null) throw new BadText("it has no command: it may be cut short");
   const lines = KINDS.flatMap((kind) => words.getAll(kind).map((numbers) => `${kind} ${numbers}`));
   const { figures } = drawingIn(lines.join("\n"));
-  const asked = askedIn((words.get("run") ?? "").split(" "));
-  asked.solver = words.get("solver") === "rounds" ? "rounds" : "snapped";
-  return { figures, asked, digits: digitsIn(words.get("digits")) };
+  const asked = askedOf({ run, solver: words.get("solver"), fill: words.get("fill") });
+  return { figures, asked, digits: digitsIn(words.get("digits") ?? "0") };
 }
 
 /** The number of digits behind the point, from 0 to 15. */
-function digitsIn(/** @type {string | null} */ word) {
-  const digits = Number(word ?? 0);
-  return Number.isInteger(digits) && digits >= 0 && digits <= 15 ? digits : 0;
+function digitsIn(/** @type {string} */ word) {
+  if (!/^([0-9]|1[0-5])$/.test(word)) throw new BadText(`${word} is no number of digits from 0 to 15`);
+  return Number(word);
 }

@@ -9,14 +9,15 @@ import { LIVE_POINTS, isLive, pointCount } from "./drawing.js";
 import { Engine } from "./engine.js";
 import { EXAMPLES } from "./examples.js";
 import { copy, isGeojson, save } from "./files.js";
-import { answerGeojson, figuresOfGeojson, geojsonOf } from "./geojson.js";
+import { answerGeojson, geojsonOf } from "./geojson.js";
 import { Hand } from "./hand.js";
 import { Keys } from "./keys.js";
 import { drawingOfHash, hashOf } from "./link.js";
+import { openedGeojson } from "./opening.js";
 import { byId, element, fillSelect } from "./page.js";
 import { State } from "./state.js";
 import { svgOf } from "./svg.js";
-import { BadText, commandWords, drawingIn, textOf } from "./text.js";
+import { BadText, commandWords, drawingIn, isInText, textOf } from "./text.js";
 import { beginTheme, switchTheme } from "./theme.js";
 
 const state = new State();
@@ -87,20 +88,29 @@ function showExample(/** @type {string} */ name) {
   show({ figures, asked: { ...DEFAULTS, ...asked, solver }, digits: 0 }, example.looks, name);
 }
 
-/** Shows what a file holds: a text of the program, or GeoJSON. */
-async function openFile(/** @type {File} */ file) {
+/** Shows what a file holds: a text of the program, or GeoJSON; of two files the second is the clip. */
+async function openFiles(/** @type {File[]} */ files) {
+  const names = files.map(({ name }) => name);
   try {
-    const text = await file.text();
-    if (isGeojson(file.name, text)) show(figuresOfGeojson(text));
-    else {
-      const { figures, asked } = drawingIn(text);
-      show({ figures, asked: asked ?? state.asked, digits: 0 });
+    const given = await Promise.all(files.map(async (file) => ({ name: file.name, text: await file.text() })));
+    const areGeojson = given.every(({ name, text }) => isGeojson(name, text));
+    if (files.length > 2 || (files.length === 2 && !areGeojson)) throw new BadText(TOO_MANY);
+    if (!areGeojson) {
+      const { figures, asked } = drawingIn(given[0].text);
+      return show({ figures, asked: asked ?? state.asked, digits: 0 });
     }
+    const { drawing, said } = await openedGeojson(given, state.asked);
+    show(drawing);
+    const both = files.length === 2 ? [`The subject is of ${names[0]}, the clip of ${names[1]}.`] : [];
+    if (said.length || both.length) tell([...both, ...said].join(" "));
   } catch (fault) {
-    if (!(fault instanceof BadText)) throw fault;
-    tell(`${file.name}: ${fault.message}`);
+    // (whatever is wrong with a file is told, and which file it is)
+    const text = fault instanceof Error ? fault.message : String(fault);
+    tell(names.some((name) => text.startsWith(`${name}: `)) ? text : `${names.join(", ")}: ${text}`);
   }
 }
+
+const TOO_MANY = "open one file, or two of GeoJSON, the first the subject and the second the clip";
 
 /** Says over the board what could not be opened, until something else is drawn. */
 function tell(/** @type {string} */ text) {
@@ -125,7 +135,10 @@ function openLink() {
 
 const SAVED = {
   geojson: () => save("drawing.geojson", geojsonOf(state.drawing), "application/geo+json"),
-  text: () => save("drawing.txt", textOf(state.drawing)),
+  text: () => {
+    save("drawing.txt", textOf(state.drawing));
+    if (!isInText(state.asked)) tell("The text has no fill rule for points: there exclusive or joins the contours.");
+  },
   answer: () => {
     if (!state.answer) return;
     const text = answerGeojson(state.answer, state.figures, state.drawing.digits);
@@ -153,7 +166,8 @@ byId("example").addEventListener("change", (event) => showExample(/** @type {any
 byId("open").addEventListener("click", () => byId("file").click());
 byId("file").addEventListener("change", async (event) => {
   const input = /** @type {HTMLInputElement} */ (event.target);
-  if (input.files?.[0]) await openFile(input.files[0]);
+  if (input.files?.length) await openFiles([...input.files]);
+  // (so that the same file can be chosen again)
   input.value = "";
 });
 document.querySelectorAll("[data-save]").forEach((button) =>
@@ -168,11 +182,12 @@ document.addEventListener("pointerdown", ({ target }) => {
 byId("link").addEventListener("click", copyLink);
 byId("theme-switch").addEventListener("click", () => (switchTheme(), board.recolour()));
 byId("help-open").addEventListener("click", () => /** @type {HTMLDialogElement} */ (byId("help")).showModal());
+byId("notice").addEventListener("click", () => (byId("notice").hidden = true));
 window.addEventListener("hashchange", openLink);
 window.addEventListener("dragover", (event) => event.preventDefault());
 window.addEventListener("drop", (event) => {
   event.preventDefault();
-  if (event.dataTransfer?.files[0]) openFile(event.dataTransfer.files[0]);
+  if (event.dataTransfer?.files.length) openFiles([...event.dataTransfer.files]);
 });
 
 beginTheme(() => board.recolour());
@@ -185,12 +200,13 @@ state.on("drawing", () => {
   askLive();
 });
 state.on("looks", askMore);
+state.on("again", ask);
 if (!openLink()) {
   const { textContent: said, hidden } = byId("notice");
   showExample("picture");
   if (!hidden) tell(said ?? "");
 }
 state.history.past = [];
-state.tell("drawing");
+state.tell("steps");
 // (for tests, and for who wants to look behind the page)
 /** @type {any} */ (globalThis).polyover = { state, board, engine };

@@ -12,6 +12,19 @@ export function doubleArea(/** @type {number[][]} */ path) {
   return sum;
 }
 
+/** Whether a contour runs clockwise; exact for all coordinates of the page. */
+export function runsClockwise(/** @type {number[][]} */ path) {
+  const [left, low] = path[0] ?? [0, 0];
+  const reach = path.reduce((most, [x, y]) => Math.max(most, Math.abs(x - left), Math.abs(y - low)), 0);
+  if (2 * reach * reach * path.length <= Number.MAX_SAFE_INTEGER) return doubleArea(path) < 0;
+  let sum = 0n;
+  path.forEach(([bx, by], at) => {
+    const [ax, ay] = path[at ? at - 1 : path.length - 1];
+    sum += BigInt(ax) * BigInt(by) - BigInt(bx) * BigInt(ay);
+  });
+  return sum < 0n;
+}
+
 /** The area of a shape: of its outline, less that of its holes. */
 export const areaOf = (/** @type {number[][][]} */ shape) =>
   Math.abs(shape.reduce((sum, path) => sum + doubleArea(path), 0)) / 2;

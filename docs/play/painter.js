@@ -13,6 +13,8 @@ const MOST_ROUND = 1500;
 const NEAR = { many: 1, few: 0.3 };
 /** Paths of more points are painted plainly: without dashes and round joins, which take long. */
 const MOST_FINE = 4000;
+/** Of areas of more points the contours that are smaller than two pixels are specks, and none has a stroke. */
+const MOST_STROKED = 100000;
 /** How many pixels a tick is long, and a dot is wide from its centre. */
 const TICK = 6;
 const DOT = 3.2;
@@ -40,8 +42,11 @@ function trace(context, view, path, isClosed) {
   if (isClosed) context.closePath();
 }
 
+/** The number of points in some paths. */
+const countOf = (paths) => paths.reduce((sum, path) => sum + path.length, 0);
+
 /** Whether paths have so many points that they are painted plainly. */
-const isPlain = (paths) => paths.reduce((sum, path) => sum + path.length, 0) > MOST_FINE;
+const isPlain = (paths) => countOf(paths) > MOST_FINE;
 
 /** The widest stroke along some contours: a sixth of the smallest of few of them. */
 function strokeOf(view, paths, /** @type {number} */ most) {
@@ -62,6 +67,14 @@ function strokeOf(view, paths, /** @type {number} */ most) {
   return Math.max(0.3, Math.min(most, (least * view.scale) / 6));
 }
 
+/** Whether a path with points is smaller than two pixels. */
+function isSpeck(view, path) {
+  const reach = 2 / view.scale;
+  const [x, y] = path[0] ?? [NaN, NaN];
+  for (const [u, v] of path) if (Math.abs(u - x) > reach || Math.abs(v - y) > reach) return false;
+  return path.length > 0;
+}
+
 /** Paints many dots as small squares, of those that lie on one another but one. */
 function specks(context, view, paths) {
   const taken = new Set();
@@ -77,13 +90,17 @@ function specks(context, view, paths) {
 /** How each type of mark is painted. */
 const PAINTED = {
   area(context, view, mark, colour) {
+    const isVast = countOf(mark.paths) > MOST_STROKED;
+    const isSmall = (path) => isVast && isSpeck(view, path);
     context.beginPath();
-    for (const path of mark.paths) if (path.length) trace(context, view, path, true);
+    for (const path of mark.paths) if (path.length && !isSmall(path)) trace(context, view, path, true);
     context.globalAlpha *= mark.strength;
     context.fill(mark.fillRule);
+    if (isVast) specks(context, view, mark.paths.filter(isSmall));
     context.globalAlpha /= mark.strength;
+    if (!mark.width || mark.strength <= 0.1 || isVast) return;
     context.lineWidth = strokeOf(view, mark.paths, mark.width);
-    if (mark.width && mark.strength > 0.1) context.stroke();
+    context.stroke();
   },
   outline(context, view, mark) {
     // (beneath it an area of the same colour has a stroke)

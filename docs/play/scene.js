@@ -34,7 +34,7 @@ const MOST_STEPS = 600;
 
 /** Marks of what was given: filled below the answer. */
 export function inputMarks(/** @type {import("./state.js").Drawing} */ { figures, asked }) {
-  const fillRule = asked.fill === "evenodd" || asked.command === "locate" ? "evenodd" : "nonzero";
+  const fillRule = asked.fill === "evenodd" ? "evenodd" : "nonzero";
   const { takes } = COMMANDS[asked.command];
   /** @type {Mark[]} */
   const marks = [];

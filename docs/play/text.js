@@ -33,6 +33,10 @@ export function commandWords(/** @type {import("./commands.js").Asked} */ asked)
   }
 }
 
+/** Whether the program has a command that asks the same. */
+export const isInText = (/** @type {import("./commands.js").Asked} */ { command, fill }) =>
+  command !== "locate" || fill === "evenodd";
+
 /** A line of the program for each path of the kinds. */
 export function figureLines(/** @type {import("./drawing.js").Figures} */ figures, kinds = KINDS) {
   return kinds.flatMap((kind) => figures[kind].map((path) => `${kind} ${path.flat().join(" ")}`));
@@ -70,6 +74,7 @@ function takeOptions(asked, /** @type {string[]} */ words, /** @type {string} */
   while (words.length) {
     const word = /** @type {string} */ (words.shift());
     const name = word === "min" ? "minimumArea" : names[word];
+    if (!Object.hasOwn(names, word) && word !== "min") throw new BadText(`${where}: ${word} is no option`);
     if (!COMMANDS[asked.command].options.includes(name)) throw new BadText(`${where}: ${word} is no option here`);
     asked[name] = word === "min" ? numbersIn([words.shift() ?? ""], where)[0] : true;
   }
@@ -87,7 +92,9 @@ export function askedIn(/** @type {string[]} */ given, where = "the command") {
   if (!Object.hasOwn(COMMANDS, command)) throw new BadText(`${where}: ${command || "nothing"} is no command here`);
   asked.command = /** @type {any} */ (command);
   const { options } = COMMANDS[command];
-  for (const [option, table] of /** @type {[string, any][]} */ ([["rule", RULES], ["fill", FILLS]])) {
+  // (the program locates points in contours that are joined by exclusive or)
+  if (command === "locate") asked.fill = "evenodd";
+  else for (const [option, table] of /** @type {[string, any][]} */ ([["rule", RULES], ["fill", FILLS]])) {
     if (!options.includes(option)) continue;
     const name = nameOf(table, words.shift() ?? "");
     if (name === undefined) throw new BadText(`${where}: an unknown ${option} rule`);

@@ -3,6 +3,7 @@
  */
 
 import { Flat, load } from "./engine/polyover.js";
+import { mended } from "./mended.js";
 
 /** The names of the relations, as the page and the program have them. */
 const snake = (/** @type {string} */ name) => name.replace(/[A-Z]/g, (letter) => `_${letter.toLowerCase()}`);
@@ -21,7 +22,6 @@ function optionsOf(asked) {
     hierarchy: { ...filled, ...look, rule: asked.rule },
     simplify: { ...filled, ...look },
     clip: { ...filled, invert: asked.invert, boundary: asked.boundary },
-    locate: {},
   }[asked.command] ?? filled;
 }
 
@@ -30,6 +30,17 @@ const shapes = (found) => ({ kind: "shapes", ...paths(found.contours), shapeEnds
 
 /** The links of an answer, three numbers each. */
 const triples = (links) => Array.from({ length: links.length / 3 }, (_, at) => [...links.slice(3 * at, 3 * at + 3)]);
+
+/** Where points lie: in contours that are joined by exclusive or, or in what another rule fills, which is prepared. */
+function located(library, subject, points, fill, solver) {
+  if (fill === "evenodd") return library.locate(subject, points, { answer: "lists" });
+  const prepared = library.prepare(subject, { fill, solver });
+  try {
+    return prepared.locate(points, { answer: "lists" });
+  } finally {
+    prepared.free();
+  }
+}
 
 /** What the library answers to each command. */
 const ANSWERED = {
@@ -45,16 +56,16 @@ const ANSWERED = {
   },
   clip: (library, { subject, line }, options) => ({ kind: "paths", ...paths(library.clip(subject, line, options)) }),
   slice: (library, { subject, line }, options) => shapes(library.slice(subject, line, options)),
-  locate: (library, { subject, point }) => ({
+  locate: (library, { subject, point }, { fill, solver }) => ({
     kind: "locations",
-    locations: library.locate(subject, point.coordinates, { answer: "lists" }),
+    locations: located(library, subject, point.coordinates, fill, solver),
   }),
   edges: (library, { subject, clip }, options) => ({ kind: "edges", ...library.edges(subject, clip, options) }),
 };
 
 /** The edges of the arrangement that a command has, and the pieces of lines beside them. */
-function arranged(library, { subject, clip, line }, { fill, solver, command }) {
-  const options = { fill: command === "locate" ? "evenodd" : fill, solver, answer: "arrays" };
+function arranged(library, { subject, clip, line }, { fill, solver }) {
+  const options = { fill, solver, answer: "arrays" };
   const pieces = line.length
     ? [false, true].map((invert) => library.clip(subject, line, { ...options, invert, boundary: true }))
     : [];
@@ -74,10 +85,15 @@ function answered(library, { figures, asked, isArranged }) {
   return { ...answer, time, ...(isArranged ? arranged(library, flat, asked) : {}) };
 }
 
+/** What polygons cover, as far as their rings do not wind once round it. */
+function mendedOf(library, { coordinates, ends, polygonEnds }) {
+  return { kind: "mended", found: mended(library, new Flat(coordinates, ends), polygonEnds) };
+}
+
 /** What was answered, or how it was refused. */
 function answerOrFault(library, message) {
   try {
-    return answered(library, message);
+    return message.mend ? mendedOf(library, message.mend) : answered(library, message);
   } catch (fault) {
     return { kind: "fault", name: fault.name, message: fault.message, time: 0 };
   }
@@ -86,8 +102,15 @@ function answerOrFault(library, message) {
 /** @type {Promise<any> | null} */
 let library = null;
 
+/** Holds a lock as long as this worker lives, so that the page is told when it has ended, however that was. */
+function hold(/** @type {string} */ name) {
+  const held = () => (self.postMessage("held"), new Promise(() => {}));
+  navigator.locks?.request(name, held).catch(() => {});
+}
+
 self.onmessage = async ({ data }) => {
   if ("library" in data) {
+    hold(data.lock);
     library = data.library ? load({ wasm: data.library }) : load();
     library.then(() => self.postMessage("ready")).catch(() => {});
     return;

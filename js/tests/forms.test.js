@@ -152,3 +152,41 @@ test("floats by a scale", () => {
   assert.equal(tenths.relate([half], [[[0.5, 0], [1, 0], [1, 1]]]).touches, true);
   assert.equal(tenths.isResolved([half]), true);
 });
+
+test("a minimum area is in squares of the floats' unit", () => {
+  const square = [[0, 0], [1, 0], [1, 1], [0, 1]];
+  const third = [[0, 0], [5, 0], [0, 1]];
+  const pair = [[0, 0], [1, 0], [1, 2], [0, 2]];
+  const thin = [[0, 0], [0.1, 0], [0.1, 0.7], [0, 0.7]];
+  // (the scale, a contour, an area, and whether the contour stays)
+  for (const [scale, contour, minimumArea, isKept] of [
+    [1e6, square, 2, false],
+    [1e6, square, 1, true],
+    [1e6, square, 1n, true],
+    [1, third, 2.5, true],
+    [1, third, 2.6, false],
+    [1, third, 3, false],
+    [1, pair, 2.5, true],
+    [1, pair, 2.51, false],
+    [10, thin, 0.07, true],
+    [10, thin, 0.08, false],
+    [0.5, [[0, 0], [8, 0], [8, 8], [0, 8]], 64, true],
+    [0.5, [[0, 0], [8, 0], [8, 8], [0, 8]], 68, false],
+    [1, square, 1e-300, true],
+  ]) {
+    const scaled = polyover.scaled(scale);
+    for (const found of [
+      scaled.overlay([contour], [], { minimumArea }),
+      scaled.hierarchy([contour], [], { minimumArea }).shapes,
+      scaled.simplify([contour], { minimumArea }),
+      [...scaled.overlay(new Flat(new Float64Array(contour.flat()), [contour.length]), [], { minimumArea })],
+    ]) {
+      assert.equal(found.length, isKept ? 1 : 0, `${minimumArea} at ${scale}`);
+    }
+  }
+});
+
+test("the library tells whether its module is proved", () => {
+  assert.ok(["proved", "unproved"].includes(polyover.built()), polyover.built());
+  assert.equal(polyover.scaled(2).built(), polyover.built());
+});

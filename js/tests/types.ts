@@ -1,6 +1,8 @@
 // What polyover.d.ts says of the calls: `tsc --strict --noEmit` takes it, but for the lines that are expected to fail.
-import { BadInput, Flat, FlatShapes, load, multiPolygon, NotResolved, Prepared as PreparedOf } from "../polyover.js";
-import type { Edge, Link, Location, MultiPolygon, Polyover, Prepared, Relations } from "../polyover.js";
+// It takes no library of a browser or of Node.
+import { BadInput, ERRORS, Flat, FlatShapes, load, multiPolygon, NotResolved } from "../polyover.js";
+import { Polyover as Calls, Prepared as PreparedOf } from "../polyover.js";
+import type { Built, Edge, Link, Location, MultiPolygon, Polyover, Prepared, Relations } from "../polyover.js";
 import type { RemotePolyover, RemotePrepared, Shapes } from "../polyover.js";
 
 const square = [[0, 0], [4, 0], [4, 4], [0, 4]];
@@ -12,7 +14,7 @@ interface Other {
   bbox?: [number, number, number, number];
 }
 
-export async function asked(): Promise<void> {
+export async function asked(): Promise<unknown[]> {
   const polyover: Polyover = await load();
   const lists: Shapes = polyover.overlay([square], [square], { rule: "xor", fill: "evenodd", minimumArea: 3n });
   const arrays: FlatShapes = polyover.overlay(new Flat(new Int32Array(8), [4]));
@@ -37,9 +39,11 @@ export async function asked(): Promise<void> {
   const far: RemotePrepared = await remote.prepare(arrays.contours);
   const answered: boolean[] = await far.contains({ type: "Point", coordinates: [1, 1] });
   remote.end();
-  console.log(asked, inside, truths, answered);
-  console.log(lists, named, other, found, relations, places, numbers, edges, parts, is, later, big);
-  console.log(multiPolygon(lists));
+  const built: Built = polyover.built();
+  const kind: typeof BadInput = ERRORS.BadInput;
+  const bytes: Polyover = await load({ wasm: new Uint8Array(8) });
+  const there: Polyover = await load({ wasm: "./polyover.wasm", worker: false });
+  new Calls({ exports: {} });
 
   // @ts-expect-error: there is no such rule
   polyover.overlay([square], [], { rule: "join" });
@@ -53,6 +57,17 @@ export async function asked(): Promise<void> {
   polyover.prepare([square], { answer: "lists" });
   // @ts-expect-error: contours are lists of points, in a list
   polyover.overlay(square);
+  // @ts-expect-error: a module is no number
+  await load({ wasm: 3 });
+  // @ts-expect-error: and a name that is wrong is none
+  await load({ wrker: true });
+  // @ts-expect-error: nor is there such an error
+  ERRORS.Missing;
+
+  return [
+    ...[asked, inside, truths, answered, lists, named, other, found, relations, places, numbers, edges, parts, is],
+    ...[later, big, built, kind, bytes, there, multiPolygon(lists)],
+  ];
 }
 
 export function told(fault: unknown): string {

@@ -2,8 +2,10 @@
 
 import assert from "node:assert/strict";
 import test from "node:test";
+import { Worker } from "node:worker_threads";
 import { BadInput, FlatShapes, LibraryMissing, NotResolved, PolyoverError, WorkerEnded } from "../polyover.js";
 import { RemotePolyover, load } from "../polyover.js";
+import { ofNode } from "../remote.js";
 import { flat, polyover, rows } from "./there.js";
 
 const { SQUARE, OTHER, NESTED } = rows;
@@ -132,6 +134,22 @@ test("calls that wait when a worker fails are rejected", AT_MOST, async () => {
   assert.ok(reason instanceof PolyoverError && reason.message.includes("out of memory"));
   await assert.rejects(remote.isResolved([SQUARE]), WorkerEnded);
   assert.equal(worker.ends, 1);
+});
+
+workerTest("whether the module is proved is told in a worker too", async (remote) => {
+  assert.equal(await remote.built(), polyover.built());
+});
+
+test("calls that wait when a worker of Node exits are rejected", AT_MOST, async () => {
+  const code = `
+    const { parentPort } = require("node:worker_threads");
+    let count = 0;
+    parentPort.on("message", ({ number }) => (count++ ? process.exit(3) : parentPort.postMessage({ number })));
+  `;
+  const remote = await RemotePolyover.over(null, ofNode(new Worker(code, { eval: true })));
+  const [{ reason }] = await Promise.allSettled([remote.isResolved([SQUARE])]);
+  assert.ok(reason instanceof PolyoverError && reason.message.includes("it ended by itself, with status 3"));
+  await assert.rejects(remote.isResolved([SQUARE]), WorkerEnded);
 });
 
 test("a worker that cannot load the module is ended", AT_MOST, async () => {

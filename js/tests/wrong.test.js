@@ -79,6 +79,56 @@ test("arrays that are out of range, or do not fit", () => {
   refused(() => new FlatShapes(new Flat(new Float64Array(2), [1]), [2]), "they rise to 2, and there are 1 contours");
 });
 
+test("values are told as a program has them", () => {
+  refused(() => polyover.overlay([[NaN]]), "subject: contour 1, point 1: NaN is no point of two numbers");
+  refused(() => polyover.overlay([[[NaN]]]), "subject: contour 1, point 1: [NaN] is no point");
+  refused(() => polyover.overlay([[[1n, -Infinity, 3]]]), "point 1: [1n,-Infinity,3] is no point");
+  refused(() => polyover.overlay({ ...BOX, coordinates: [[[0, NaN]]] }), "ring 1, point 1: [0,NaN] is no point");
+  refused(() => polyover.overlay([], [], { rule: NaN }), "unknown rule NaN");
+  refused(() => polyover.overlay([], [], { minimumArea: NaN }), "the minimum area NaN is no whole number");
+  refused(() => polyover.scaled(NaN), "the scale NaN is no finite number");
+  refused(() => polyover.scaled(1, [NaN, 1]), "the origin [NaN,1] is no point");
+  refused(() => polyover.simplify([], { clockwise: { a: NaN, b: 1n } }), 'clockwise: {"a":"NaN","b":"1"} is neither');
+  const looped = [];
+  looped.push(looped);
+  refused(() => polyover.overlay([looped]), "is no point of two numbers");
+});
+
+test("arrays that are detached", () => {
+  for (const kind of [BigInt64Array, Int32Array, Float64Array]) {
+    const numbers = new kind(8);
+    const group = new Flat(numbers, new Uint32Array([4]));
+    structuredClone(numbers, { transfer: [numbers.buffer] });
+    refused(() => polyover.overlay(group), "subject: the array is detached");
+    refused(() => polyover.overlay([], group), "clip: the array is detached");
+    refused(() => polyover.clip([SQUARE], group), "lines: the array is detached");
+    refused(() => polyover.locate([SQUARE], numbers), "points: the array is detached");
+    refused(() => polyover.prepare([SQUARE]).locate(numbers), "points: the array is detached");
+    refused(() => new Flat(numbers, [4]), "coordinates: the array is detached");
+  }
+  const ends = new Uint32Array([4]);
+  const group = new Flat(new Int32Array(8), ends);
+  const shapes = new FlatShapes(group, new Uint32Array([1]));
+  structuredClone(ends, { transfer: [ends.buffer] });
+  refused(() => polyover.overlay(group), "subject: ends: the array is detached");
+  refused(() => new Flat(new Int32Array(8), ends), "ends: the array is detached");
+  refused(() => new FlatShapes(shapes.contours, ends), "shape ends: the array is detached");
+});
+
+test("wrong options of load", async () => {
+  for (const [options, told] of [
+    [{ wrker: true }, 'unknown option "wrker": one of wasm, worker'],
+    [{ worker: 1 }, "worker: 1 is neither true nor false"],
+    [3, "options: 3 in the place of an object"],
+    [null, "options: null in the place of an object"],
+    ["./polyover.wasm", "options:"],
+  ]) {
+    await assert.rejects(load(options), (fault) => fault instanceof BadInput && fault.message.includes(told));
+  }
+  const plain = await load({ wasm: undefined, worker: undefined });
+  assert.equal(plain.overlay([SQUARE]).length, 1);
+});
+
 test("wrong options", () => {
   refused(() => polyover.overlay([], [], { rule: "join" }), 'unknown rule "join": one of subject,');
   refused(() => polyover.overlay([], [], { fill: 1 }), "unknown fill rule 1");
@@ -95,6 +145,11 @@ test("wrong options", () => {
   for (const minimumArea of [-1, 0.5, NaN, "1", -1n, 2n ** 127n, 2 ** 53]) {
     refused(() => polyover.overlay([], [], { minimumArea }), "the minimum area");
   }
+  for (const minimumArea of [-1, NaN, Infinity, "1", -1n, 2n ** 127n, 1e300]) {
+    refused(() => polyover.scaled(1).overlay([], [], { minimumArea }), "the minimum area");
+  }
+  const fine = polyover.scaled(1e6);
+  refused(() => fine.simplify([], { minimumArea: 1e27 }), "the minimum area 1e+27 at this scale is above");
   for (const scale of [0, -1, NaN, Infinity, "10", 10n, undefined]) {
     refused(() => polyover.scaled(scale), "the scale");
   }

@@ -312,17 +312,32 @@ class Browser:
 
     def give(self, name, text):
         """Opens a file of a name and a text. (Once the page has taken it, its field is empty.)"""
+        self.give_several([[name, text]])
+
+    def give_several(self, files):
+        """Opens files at once, each a name and a text."""
         script = """
-            const [name, text] = arguments;
             const given = new DataTransfer();
-            given.items.add(new File([text], name));
+            for (const [name, text] of arguments[0]) given.items.add(new File([text], name));
             const field = document.getElementById("file");
             field.files = given.files;
             field.dispatchEvent(new Event("change"));
         """
-        self.run(script, name, text)
+        self.run(script, files)
         self.until("return document.getElementById('file').files.length === 0")
         self.wait()
+
+    def give_made(self, name, made, *words):
+        """Opens a file of a name, whose text a function of the browser makes; the answer may be still to come."""
+        script = f"const text = ({made})(...[...arguments].slice(1));" """
+            const given = new DataTransfer();
+            given.items.add(new File([text], arguments[0]));
+            const field = document.getElementById("file");
+            field.files = given.files;
+            field.dispatchEvent(new Event("change"));
+        """
+        self.run(script, name, *words)
+        self.until("return document.getElementById('file').files.length === 0")
 
 
 @lru_cache

@@ -18,7 +18,7 @@ OPTIONS = {
     "relate": [{"fill": "negative"}],
     "clip": [{"invert": True}, {"boundary": True}],
     "slice": [{"fill": "evenodd"}],
-    "locate": [{}],
+    "locate": [{"fill": "evenodd"}],
     "edges": [{"fill": "positive"}],
 }
 # (the program has rounds alone)
@@ -45,6 +45,58 @@ def text_of(answer):
     if kind == "relations":
         return "".join(f"{name} {str(answer['relations'][name]).lower()}\n" for name in RELATIONS)
     return "".join(f"{place}\n" for place in answer["locations"])
+
+
+LATER = """
+    const { engine, state } = polyover;
+    const [x] = arguments;
+    const next = { ...state.figures, subject: [...state.figures.subject, [[x, 0], [x + 1, 0], [x, 1]]] };
+"""
+
+
+class Workers(unittest.TestCase):
+    """A worker that ends by itself is told, and another one answers the next question."""
+
+    def setUp(self):
+        self.page = browser()
+        self.page.size()
+        self.page.load(DRAWN)
+
+    def is_told(self):
+        """That the fault is seen, and that the page answers again: to the button, and to the next drawing."""
+        self.page.until("return polyover.state.answer?.name === 'WorkerEnded'")
+        self.page.frames()
+        self.assertIn("The worker ended by itself", self.page.text("answer"))
+        self.assertIn("The worker ended by itself", self.page.text("summary"))
+        self.page.press("#answer button")
+        self.page.until("return polyover.state.answer?.kind === 'shapes'")
+        self.page.run(LATER + "state.step({ figures: next });", 40)
+        self.assertEqual(self.page.answer()["kind"], "shapes")
+
+    def test_worker_that_ends_in_silence(self):
+        self.page.until("return polyover.engine.isReady")
+        self.page.run(LATER + "state.step({ figures: next }); engine.worker.terminate();", 20)
+        self.is_told()
+
+    def test_worker_that_ends_with_an_error(self):
+        fault = "engine.worker.dispatchEvent(new ErrorEvent('error', { message: 'out of memory', cancelable: true }));"
+        self.page.run(LATER + "state.step({ figures: next });" + fault, 20)
+        self.is_told()
+
+    def test_worker_that_ends_while_nothing_is_asked(self):
+        self.page.until("return polyover.engine.isReady")
+        self.page.run("polyover.engine.worker.terminate()")
+        self.page.until("return polyover.engine.worker === null")
+        self.page.run(LATER + "state.step({ figures: next });", 30)
+        self.assertEqual(self.page.answer()["kind"], "shapes")
+
+    def test_library_that_stops_in_its_midst(self):
+        """A trap of the module is told, and the next question goes to a new worker."""
+        told = "engine.receive({ kind: 'fault', name: 'RuntimeError', message: 'unreachable', time: 0 });"
+        self.page.run(LATER + "globalThis.before = engine.worker; state.step({ figures: next });" + told, 20)
+        self.page.until("return polyover.engine.worker !== globalThis.before")
+        self.page.run(LATER + "state.step({ figures: next });", 30)
+        self.assertEqual(self.page.answer()["kind"], "shapes")
 
 
 class Answers(unittest.TestCase):
@@ -92,6 +144,42 @@ class Answers(unittest.TestCase):
                     for name, value in {**BEFORE, **options}.items():
                         self.page.choose(name, value)
                     self.assertEqual(text_of(self.page.answer()), printed(self.called()))
+
+    def test_relations_of_the_program_are_those_of_the_page(self):
+        """They are told at the finest scale: as they are, the second triangle becomes a line, and they are disjoint."""
+        self.page.open("#subject=1+2+2+0+3+2&clip=0+0+3+2+2+1&run=relate+NonZero")
+        for solver in ("snapped", "rounds"):
+            self.page.choose("solver", solver)
+            answer = self.page.answer()
+            self.assertFalse(answer["relations"]["disjoint"])
+            self.assertEqual(text_of(answer), printed(self.called()))
+            self.assertIn("times a power of two", self.page.text("call-note"))
+        # (2^60 times 3 is in the range, and 2^61 times 3 is not)
+        self.assertIn(f"subject {2**60} {2 * 2**60} {2 * 2**60} 0 {3 * 2**60} {2 * 2**60}\n", self.called())
+        for language in ("c", "rattle"):
+            self.page.press(f'[data-language="{language}"]')
+            self.assertIn(str(3 * 2**60), self.page.text("call"))
+
+    def test_points_by_each_fill_rule(self):
+        """A square with another inside that runs the same way, and one beside it that runs the other way."""
+        wound = "#subject=0+0+9+0+9+9+0+9&subject=3+3+6+3+6+6+3+6&subject=20+0+20+9+29+9+29+0"
+        self.page.open(f"{wound}&point=1+1&point=4+4&point=3+5&point=25+5&point=0+9&run=locate")
+        inside, on, outside = "inside", "boundary", "outside"
+        for fill, places in (
+            ("evenodd", [inside, outside, on, inside, on]),
+            ("nonzero", [inside, inside, inside, inside, on]),
+            ("positive", [inside, inside, inside, outside, on]),
+            ("negative", [outside, outside, outside, inside, outside]),
+        ):
+            self.page.choose("fill", fill)
+            self.assertEqual(self.page.answer()["locations"], places)
+            told = self.called()
+            if fill == "evenodd":
+                self.assertEqual(text_of(self.page.answer()), printed(told))
+            else:
+                self.assertIn("choose Even-odd", told)
+                self.page.press('[data-language="python"]')
+                self.assertIn(f'polyover.Prepared(subject, "{fill}").locate(points)', self.page.text("call"))
 
     def test_simple_contour_stays(self):
         self.page.open("#subject=1+1+3+1+2+4&run=simplify+NonZero+ogc")

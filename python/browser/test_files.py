@@ -7,9 +7,11 @@ import subprocess
 import sys
 import tempfile
 import unittest
+import warnings
 from pathlib import Path
 from xml.etree import ElementTree
 
+import polyover
 from polyover.commands import printed
 
 from .page import DRAWN, EXAMPLES, ROOT, browser
@@ -20,6 +22,35 @@ INCLUDE, LIBRARY = ROOT / "include", ROOT / "out" / "libpolyover.a"
 
 # what runs texts of Python, one behind the other
 RUNNING = "import json, sys\nfor text in json.load(sys.stdin):\n    exec(text, {})"
+
+
+# where features are looked at
+POINTS = [[3, 3], [1, 1], [5, 5], [7, 7], [9, 9], [2, 1], [4, 2], [2, 4], [6, 3]]
+
+
+# 200,000 squares of side 2, in columns of 3
+MANY = """() => {
+    const coordinates = Array.from({ length: 200_000 }, (_, at) => {
+        const [x, y] = [3 * (at % 500), 3 * Math.floor(at / 500)];
+        return [[[x, y], [x + 2, y], [x + 2, y + 2], [x, y + 2], [x, y]]];
+    });
+    return JSON.stringify({ type: "MultiPolygon", coordinates });
+}"""
+
+
+def square(x, y, side):
+    """The ring of a square, by its lower left corner."""
+    return [[x, y], [x + side, y], [x + side, y + side], [x, y + side], [x, y]]
+
+
+def polygon(number):
+    """The text of two features, with some text in the place of a coordinate of the second."""
+    ring = f"[[0, 0], [4, 0], [{number}, 4], [0, 0]]"
+    features = [
+        f'{{"type": "Feature", "properties": {{}}, "geometry": {each}}}'
+        for each in ("null", f'{{"type": "Polygon", "coordinates": [{ring}]}}')
+    ]
+    return f'{{"type": "FeatureCollection", "features": [{", ".join(features)}]}}'
 
 
 def as_lists(value):
@@ -68,6 +99,47 @@ class Files(unittest.TestCase):
         self.assertEqual(self.page.figures()["subject"], [outline, hole])
         self.assertEqual(self.page.run("return polyover.state.drawing.digits"), 2)
 
+    def test_each_number_of_digits(self):
+        """A drawing comes back exactly, with its digits and what is asked, also at the end of the range."""
+        most = 2**53 - 1
+        far = f"{most}+{-most}+{most - 1}+{most}+{-most}+1"
+        for digits in range(16):
+            link = f"#subject=0+0+7+1+3+9&subject={far}&line=5+5+-1234567890123456+7&point=1+-1&run=edges+EvenOdd"
+            self.page.open(f"{link}&solver=rounds&digits={digits}")
+            before = self.page.run("return polyover.state.drawing")
+            text = self.page.saved("geojson")
+            self.assertEqual(len(json.loads(text)["features"]), 4)
+            self.page.open(DRAWN)
+            self.page.give("drawing.geojson", text)
+            self.assertEqual(self.page.run("return polyover.state.drawing"), before, digits)
+
+    def test_each_question_comes_back(self):
+        for question in (
+            "run=overlay+Xor+EvenOdd+ogc+clockwise+keep+min+3",
+            "run=locate",
+            "run=locate&fill=negative&solver=rounds",
+            "run=clip+Positive+invert+boundary",
+            "run=simplify+Negative",
+        ):
+            self.page.open(f"#subject=0+0+7+1+3+9&point=1+1&{question}")
+            before = self.page.run("return [polyover.state.drawing, polyover.state.answer.kind]")
+            text = self.page.saved("geojson")
+            self.page.press("#link")
+            self.page.until("return location.hash.length > 1")
+            link = self.page.run("return location.hash")
+            for again in (lambda: self.page.give("drawing.geojson", text), lambda: self.page.open(link)):
+                self.page.open(DRAWN)
+                again()
+                self.assertEqual(self.page.run("return [polyover.state.drawing, polyover.state.answer.kind]"), before)
+
+    def test_short_paths_come_back(self):
+        for part in ("subject=1+2", "subject=1+2+1+2", "clip=1+2+3+4", "line=1+2", "subject=0+0+4+0+0+4+0+0"):
+            self.page.open(f"#{part}&run=edges+NonZero")
+            before, text = self.page.figures(), self.page.saved("geojson")
+            self.page.open(DRAWN)
+            self.page.give("drawing.geojson", text)
+            self.assertEqual(self.page.figures(), before)
+
     def test_answer_and_picture(self):
         answer = json.loads(self.page.saved("answer"))
         self.assertEqual([each["geometry"]["type"] for each in answer["features"]], ["Polygon"])
@@ -82,8 +154,24 @@ class Files(unittest.TestCase):
             ("bad.txt", "run fly\n", "line 1: fly is no command here"),
             ("bad.txt", "subject 1 9999999999999999999\n", "line 1: 9999999999999999999 is beyond"),
             ("bad.geojson", "{", "no JSON"),
-            ("bad.geojson", '{"type": "Circle"}', "Circle is no geometry"),
+            ("bad.geojson", '{"type": "Circle"}', 'feature 1: "Circle" is no geometry'),
+            ("bad.geojson", "[]", "feature 1: [] is no geometry"),
+            ("bad.geojson", "null", "feature 1: null is no geometry"),
+            ("bad.geojson", polygon('"0"'), "feature 2, polygon 1, ring 1, point 3: "),
+            ("bad.geojson", polygon("null"), "point 3: [null,4] is no point of two finite numbers"),
+            ("bad.geojson", polygon("[1, 2]"), "point 3: [[1,2],4] is no point of two finite numbers"),
+            ("bad.geojson", polygon("true"), "point 3: [true,4] is no point of two finite numbers"),
+            ("bad.geojson", polygon("1e999"), "point 3: [Infinity,4] is no point of two finite numbers"),
+            ("bad.geojson", polygon("1e300"), "feature 2, polygon 1, ring 1, point 3: 1e+300 is out of range"),
+            ("bad.geojson", polygon("4").replace("[[[", "[[3, ["), "ring 1, point 1: 3 is no point of two"),
+            ("bad.geojson", '{"type": "Polygon", "coordinates": [3]}', "feature 1, polygon 1, ring 1: 3 in the place"),
+            ("bad.geojson", polygon("4").replace(", [4, 0]", ""), "ring 1: 2 points: a ring takes at least three"),
+            ("bad.geojson", '{"type": "Point", "coordinates": null}', "feature 1: coordinates: null in the place of"),
+            ("bad.geojson", '{"type": "LineString", "coordinates": [[1, 2]]}', "feature 1, line 1: 1 points: a line"),
+            ("bad.geojson", '{"type": "MultiPoint", "coordinates": [[1, 2], [3]]}', "feature 1, point 2: [3] is no"),
+            ("bad.geojson", '{"type": "FeatureCollection"}', "features: nothing in the place of a list"),
         ):
+            self.page.open(DRAWN)
             self.page.give(name, text)
             self.assertIn(f"{name}: ", self.page.text("notice"))
             self.assertIn(said, self.page.text("notice"))
@@ -98,8 +186,146 @@ class Files(unittest.TestCase):
             self.page.press("#clear")
             self.page.open(before[2])
             self.assertEqual(self.page.run("return [polyover.state.figures, polyover.state.asked]"), before[:2])
-        self.page.open("#subject=1+x&run=edges+NonZero")
-        self.assertIn("x is no whole number", self.page.text("notice"))
+
+    def test_broken_links_are_told(self):
+        for link, said in (
+            ("#subject=1+x&run=edges+NonZero", "x is no whole number"),
+            ("#subject=0+0+4+0+4+4", "it has no command: it may be cut short"),
+            ("#subject=0+0+4+0+4+4&run=overlay+Uni", "an unknown rule rule"),
+            ("#drawing", "drawing is no part of a drawing"),
+            ("#run=locate&shape=1+1", "shape is no part of a drawing"),
+            ("#run=edges+NonZero&digits=16", "16 is no number of digits"),
+            ("#run=edges+NonZero&solver=exact", "exact is no solver here"),
+            ("#run=edges+NonZero&fill=positive", "positive is no fill rule here"),
+        ):
+            with self.subTest(link):
+                self.page.open(DRAWN)
+                self.page.open(link)
+                self.assertIn(said, self.told())
+                self.assertEqual(self.page.figures(), self.figures)
+                # (where nothing is drawn before, the example stands there, and the notice over it)
+                self.page.load(link)
+                self.assertTrue(self.told().startswith("The link: "), self.told())
+                self.assertIn(said, self.told())
+                self.assertGreater(len(self.page.figures()["subject"]), 0)
+        self.page.press("#clear")
+        self.assertEqual(self.told(), "")
+
+    def told(self):
+        """The notice that is seen."""
+        return self.page.run("const told = document.getElementById('notice'); return told.hidden ? '' : told.innerText")
+
+    def test_file_can_be_chosen_again(self):
+        self.page.give("bad.geojson", polygon('"0"'))
+        self.assertIn("bad.geojson: feature 2", self.told())
+        self.page.press("#clear")
+        self.assertEqual(self.told(), "")
+        self.page.give("bad.geojson", polygon('"0"'))
+        self.assertIn("bad.geojson: feature 2", self.told())
+        self.assertEqual([each for each in self.page.messages() if each["level"] == "SEVERE"], [])
+
+    def test_many_polygons(self):
+        self.page.give_made("many.geojson", MANY)
+        self.assertEqual(self.told(), "")
+        self.assertIn("800,000 points", self.page.text("summary"))
+        self.assertEqual(self.page.run("return polyover.state.figures.subject.length"), 200_000)
+        self.assertEqual(self.page.run("return polyover.state.figures.subject[199_999]"), square(1497, 1197, 2)[:-1])
+        # (the next drawing is answered as ever)
+        self.page.open(DRAWN)
+        self.assertEqual(self.page.answer()["kind"], "shapes")
+
+
+class Regions(unittest.TestCase):
+    """What is opened means the region that its polygons cover, as in Python and JavaScript."""
+
+    def setUp(self):
+        self.page = browser()
+        self.page.size()
+        # (the page asks by even-odd before)
+        self.page.open("#subject=0+0+9+0+9+9&run=overlay+Union+EvenOdd+ogc")
+
+    def opened(self, *polygons):
+        """Opens the features of polygons, each a list of rings, and points at some places."""
+        shapes = [{"type": "Polygon", "coordinates": rings} for rings in polygons]
+        shapes.append({"type": "MultiPoint", "coordinates": POINTS})
+        features = [{"type": "Feature", "properties": {}, "geometry": each} for each in shapes]
+        text = json.dumps({"type": "FeatureCollection", "features": features})
+        self.page.give("features.geojson", text)
+        return json.loads(text)
+
+    def test_overlapping_features(self):
+        self.opened([square(0, 0, 4)], [square(2, 2, 4)])
+        self.assertEqual(self.page.run("return polyover.state.asked.fill"), "nonzero")
+        answer = self.page.answer()
+        self.assertEqual([len(shape) for shape in answer["shapes"]], [1])
+        self.page.choose("command", "locate")
+        self.assertEqual(self.page.answer()["locations"][:2], ["inside", "inside"])
+        self.page.choose("fill", "evenodd")
+        self.assertEqual(self.page.answer()["locations"][:2], ["outside", "inside"])
+
+    def test_regions_and_places_are_those_of_python(self):
+        wide, bow = square(0, 0, 8), [[0, 0], [4, 4], [4, 0], [0, 4], [0, 0]]
+        for polygons in (
+            [[square(0, 0, 4)], [square(2, 2, 4)]],
+            [[square(0, 0, 4)[::-1]], [square(2, 2, 4)]],
+            [[wide, square(2, 2, 4)], [square(3, 3, 2)]],
+            [[wide, square(1, 1, 3), square(2, 2, 3)]],
+            [[wide, square(6, 6, 4)]],
+            [[bow], [square(1, 1, 3)]],
+            [[[[0, 0], [4, 0], [2, 2], [4, 4], [0, 4], [2, 2], [0, 0]]], [square(3, 1, 3)]],
+            [[[[5, 0], [2, 9], [9.8, 3.5], [0.2, 3.5], [8, 9], [5, 0]], square(4, 4, 2)]],
+        ):
+            with self.subTest(polygons):
+                given = self.opened(*polygons)
+                digits = self.page.run("return polyover.state.drawing.digits")
+                scaled = polyover.Scaled.of_digits(digits)
+                shape = {"type": "GeometryCollection", "geometries": [each["geometry"] for each in given["features"]]}
+                with warnings.catch_warnings():
+                    warnings.simplefilter("ignore")
+                    contours = scaled.contours_of(shape)
+                shapes = [[[list(point) for point in path] for path in each] for each in scaled.overlay(contours)]
+                found = [
+                    [[[value / 10**digits for value in point] for point in path] for path in each]
+                    for each in self.page.answer()["shapes"]
+                ]
+                self.assertEqual(found, shapes)
+                self.page.choose("command", "locate")
+                self.assertEqual(self.page.answer()["locations"], scaled.prepared(contours).locate(POINTS))
+                self.page.choose("command", "overlay")
+
+    def test_two_files(self):
+        """The second is the clip; both have the digits of the finer one."""
+        fine = [[2.5, 2], [6, 2], [6, 6], [2.5, 6], [2.5, 2]]
+        both = [{"type": "Polygon", "coordinates": [each]} for each in (square(0, 0, 4), fine)]
+        self.page.open("#subject=0+0+9+0+9+9&run=overlay+Intersect+EvenOdd+ogc")
+        self.page.give_several([[name, json.dumps(each)] for name, each in zip(("a.geojson", "b.geojson"), both)])
+        self.assertIn("The subject is of a.geojson, the clip of b.geojson.", self.page.text("notice"))
+        self.assertEqual(self.page.figures()["subject"], [[[0, 0], [40, 0], [40, 40], [0, 40]]])
+        self.assertEqual(self.page.figures()["clip"], [[[25, 20], [60, 20], [60, 60], [25, 60]]])
+        self.assertEqual(self.page.answer()["shapes"], [[[[25, 40], [25, 20], [40, 20], [40, 40]]]])
+        # (what is said, and what is wrong, is of a file)
+        self.page.give_several([["a.geojson", json.dumps(both[0])], ["b.geojson", polygon('"0"')]])
+        self.assertIn("b.geojson: feature 2, polygon 1, ring 1, point 3", self.page.text("notice"))
+        self.assertNotIn("a.geojson", self.page.text("notice"))
+        self.page.press("#notice")
+        self.assertTrue(self.page.run("return document.getElementById('notice').hidden"))
+        beside = json.dumps({"type": "Polygon", "coordinates": [square(0, 0, 8), square(6, 6, 4)]})
+        self.page.give_several([["a.geojson", json.dumps(both[0])], ["b.geojson", beside]])
+        self.assertIn("b.geojson: 1 polygon meets itself or has holes", self.page.text("notice"))
+        self.page.give_several([["a.geojson", json.dumps(both[0])]] * 3)
+        self.assertIn("open one file, or two of GeoJSON", self.page.text("notice"))
+
+    def test_what_is_changed_is_told(self):
+        self.opened([square(0, 0, 8), square(6, 6, 4)])
+        self.assertIn("1 polygon meets itself or has holes that overlap or lie outside", self.page.text("notice"))
+        self.assertIn("(first: feature 1, polygon 1)", self.page.text("notice"))
+        points = {"type": "MultiPoint", "coordinates": [[1, 2, 3], [0.123456789, 1]]}
+        self.page.give("points.geojson", json.dumps(points))
+        self.assertIn("1 points have members beyond x and y", self.page.text("notice"))
+        self.assertIn("rounded to 7 digits", self.page.text("notice"))
+        self.assertEqual(self.page.figures()["point"], [[[10000000, 20000000]], [[1234568, 10000000]]])
+        self.page.give("none.geojson", '{"type": "Feature", "properties": null, "geometry": null}')
+        self.assertIn("1 features have no geometry (first: feature 1)", self.page.text("notice"))
 
 
 class Calls(unittest.TestCase):
@@ -114,9 +340,11 @@ class Calls(unittest.TestCase):
         """Shows an example of each command, in turn."""
         browser().size()
         browser().load()
-        for name in ("picture", "hierarchy", "winding", "relate", "clip", "floor", "locate", "edges"):
+        for name in ("picture", "hierarchy", "winding", "relate", "clip", "floor", "locate", "prepared", "edges"):
             if name == "edges":
                 browser().choose("command", "edges")
+            elif name == "prepared":
+                browser().choose("fill", "nonzero")
             else:
                 browser().example(name)
             yield name
@@ -167,7 +395,10 @@ class Calls(unittest.TestCase):
     def test_program(self):
         for name in self.each_command():
             with self.subTest(name):
-                self.assertGreater(len(printed(self.called("program"))), 2)
+                if name == "prepared":
+                    self.assertIn("choose Even-odd", self.called("program"))
+                else:
+                    self.assertGreater(len(printed(self.called("program"))), 2)
 
 
 if __name__ == "__main__":

@@ -1,9 +1,10 @@
 /** The calls that give an answer, by their languages. */
 
-import { COMMANDS } from "../commands.js";
+import { COMMANDS, isOption } from "../commands.js";
 import { pointCount, noFigures } from "../drawing.js";
-import { commandWords, figureLines } from "../text.js";
+import { commandWords, figureLines, isInText } from "../text.js";
 import { cOf } from "./c.js";
+import { finestOf } from "./finest.js";
 import { javascriptOf } from "./javascript.js";
 import { pythonOf } from "./python.js";
 import { rattleOf } from "./rattle.js";
@@ -12,8 +13,13 @@ import { rattleOf } from "./rattle.js";
 const MOST = 2000;
 const TOO_MANY = `(of more than ${MOST.toLocaleString("en")} points no call is written: save them)`;
 
+/** Calls that take relations at the scale of the coordinates as they are. */
+const SCALED = ["c", "rattle", "program"];
+const NO_RULE = "(the program locates points in contours that are joined by exclusive or: choose Even-odd)";
+
 /** The lines of the program. */
 function programOf({ figures, asked }) {
+  if (!isInText(asked)) return NO_RULE;
   const lines = figureLines(figures, COMMANDS[asked.command].takes);
   return [...lines, `run ${commandWords(asked).join(" ")}`, ""].join("\n");
 }
@@ -29,18 +35,21 @@ export const LANGUAGES = [
 
 /** In which the answer of a call may differ from that of the page. */
 export function noteOf(/** @type {string} */ name, /** @type {import("../commands.js").Asked} */ asked) {
-  if (name !== "program") return "";
+  const isTold = asked.command === "relate" && SCALED.includes(name);
+  const finest = isTold && "Coordinates are times a power of two: relations are told at the finest scale in the range.";
+  if (name !== "program") return finest || "";
   const notes = [
     asked.command === "simplify" && "It has no command simplify: one simple contour may begin at another point.",
-    asked.solver === "snapped" && asked.command !== "locate" && "It splits edges in rounds.",
+    asked.solver === "snapped" && isOption(asked, "solver") && "It splits edges in rounds.",
   ];
-  return notes.filter(Boolean).join(" ");
+  return [...notes, finest].filter(Boolean).join(" ");
 }
 
 /** The call in a language that gives the answer to a drawing. */
 export function callOf(/** @type {string} */ name, /** @type {import("../state.js").Drawing} */ drawing) {
   const { takes } = COMMANDS[drawing.asked.command];
-  const figures = { ...noFigures(), ...Object.fromEntries(takes.map((kind) => [kind, drawing.figures[kind]])) };
+  const taken = { ...noFigures(), ...Object.fromEntries(takes.map((kind) => [kind, drawing.figures[kind]])) };
+  const figures = drawing.asked.command === "relate" && SCALED.includes(name) ? finestOf(taken) : taken;
   if (pointCount(figures) > MOST) return TOO_MANY;
   const language = LANGUAGES.find((each) => each.name === name) ?? LANGUAGES[0];
   return language.write({ ...drawing, figures });

@@ -19,7 +19,8 @@ function group(/** @type {string} */ name, /** @type {number[][][]} */ paths, ty
 }
 
 /** A number as C takes it in an array of 64 bits. */
-const literal = (/** @type {number} */ value) => (Math.abs(value) > 2147483647 ? `INT64_C(${value})` : `${value}`);
+const literal = (/** @type {number | bigint} */ value) =>
+  Math.abs(Number(value)) > 2147483647 ? `INT64_C(${value})` : `${value}`;
 
 /** The options of an overlay. */
 function lookOf(/** @type {import("../commands.js").Asked} */ asked) {
@@ -61,6 +62,24 @@ const shapes = (/** @type {string} */ call, /** @type {number} */ room, links = 
   "    if (status != POLYOVER_OK) return 1;",
   ...PRINTED,
 ];
+
+/** The lines that locate some points: in contours that are joined by exclusive or, or in a prepared shape. */
+const located = (asked, /** @type {string} */ fill, /** @type {string} */ solver, /** @type {number} */ count) =>
+  asked.fill === "evenodd"
+    ? [
+        "    size_t unresolved;",
+        `    polyover_status status = polyover_locate(&subject, points, ${2 * count},`,
+        `        locations, ${count}, &unresolved);`,
+        "    if (status != POLYOVER_OK) return 1;",
+      ]
+    : [
+        "    polyover_prepared prepared;",
+        `    if (polyover_prepare(${fill}, ${solver}, &subject, &prepared) != POLYOVER_OK) return 1;`,
+        `    polyover_status status = polyover_prepared_locate(&prepared, points, ${2 * count},`,
+        `        locations, ${count});`,
+        "    polyover_prepared_free(&prepared);",
+        "    if (status != POLYOVER_OK) return 1;",
+      ];
 
 /** The lines of a program in C. */
 export function cOf(/** @type {import("../state.js").Drawing} */ { figures, asked }) {
@@ -105,10 +124,7 @@ export function cOf(/** @type {import("../state.js").Drawing} */ { figures, aske
       ...group("subject", figures.subject),
       `    const int64_t points[] = {${figures.point.flat(2).map(literal).join(", ") || "0"}};`,
       `    polyover_location locations[${figures.point.length || 1}];`,
-      "    size_t unresolved;",
-      `    polyover_status status = ${of(`&subject, points, ${2 * figures.point.length},`)}`,
-      `        locations, ${figures.point.length}, &unresolved);`,
-      "    if (status != POLYOVER_OK) return 1;",
+      ...located(asked, fill, solver, figures.point.length),
       `    for (size_t at = 0; at < ${figures.point.length}; at++) printf("%u\\n", locations[at]);`,
     ],
     edges: () => [

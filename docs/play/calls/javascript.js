@@ -31,6 +31,9 @@ export function javascriptOf(/** @type {import("../state.js").Drawing} */ { figu
   const both = [given("subject"), given("clip")];
   const lines = [given("subject"), given("line")];
   const points = `const points = [${figures.point.map(([[x, y]]) => `[${x}, ${y}]`).join(", ")}];`;
+  const prepared = `polyover.prepare(${["subject", ...optionsOf(asked, ["fill", "solver"])].join(", ")})`;
+  const locate = asked.fill === "evenodd" ? "polyover.locate(subject, " : `${prepared}.locate(`;
+  const located = `console.log(${locate}points));`;
   const parts = {
     overlay: [...both, call(["subject", "clip"], ["rule", ...look])],
     hierarchy: [...both, call(["subject", "clip"], ["rule", ...look])],
@@ -38,7 +41,7 @@ export function javascriptOf(/** @type {import("../state.js").Drawing} */ { figu
     relate: [...both, call(["subject", "clip"], ["fill", "solver"])],
     clip: [...lines, call(["subject", "lines"], ["fill", "invert", "boundary", "solver"])],
     slice: [...lines, call(["subject", "lines"], ["fill", "solver"])],
-    locate: [given("subject"), points, call(["subject", "points"], [])],
+    locate: [given("subject"), points, located],
     edges: [...both, call(["subject", "clip"], ["fill", "solver"])],
   };
   const head = ['import { load } from "polyover";', "", "const polyover = await load();"];

@@ -29,6 +29,8 @@ export function pythonOf(/** @type {import("../state.js").Drawing} */ { figures,
   const points = `points = [${figures.point.map(([[x, y]]) => `(${x}, ${y})`).join(", ")}]`;
   const call = (/** @type {string} */ name, ...words) => `print(polyover.${name}(${words.join(", ")}))`;
   const clipped = ["invert", "boundary"].filter((name) => asked[name]).map((name) => `${name}=True`);
+  const prepared = `polyover.Prepared(${["subject", fill, ...solver].join(", ")})`;
+  const located = `print(${asked.fill === "evenodd" ? "polyover.locate(subject, " : `${prepared}.locate(`}points))`;
   const parts = {
     overlay: [...both, call("overlay", "subject", "clip", quoted(asked.rule), fill, ...look)],
     hierarchy: [...both, call("hierarchy", "subject", "clip", quoted(asked.rule), fill, ...look)],
@@ -36,7 +38,7 @@ export function pythonOf(/** @type {import("../state.js").Drawing} */ { figures,
     relate: [...both, call("relate", "subject", "clip", fill, ...solver)],
     clip: [...lines, call("clip", "subject", "lines", fill, ...clipped, ...solver)],
     slice: [...lines, call("slice", "subject", "lines", fill, ...solver)],
-    locate: [given("subject"), points, call("locate", "subject", "points")],
+    locate: [given("subject"), points, located],
     edges: [...both, call("edges", "subject", "clip", fill, ...solver)],
   };
   return ["import polyover", "", ...parts[asked.command], ""].join("\n");

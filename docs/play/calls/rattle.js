@@ -53,6 +53,20 @@ const listed = (/** @type {string} */ name, /** @type {number[][][]} */ paths) =
   ]),
 ];
 
+/** The lines that locate points in a list of contours that are joined by exclusive or. */
+const located = (figures) => [
+  `let points: [IntPoint<i64>; ${figures.point.length}] = ${points(figures.point.flat())};`,
+  "shape.locate_points(alloc, &points)",
+];
+
+/** The lines that locate points in a prepared shape. */
+const preparedLocated = (figures, asked) => [
+  `let prepared = PreparedShape::new(alloc, &shape, ${fillOf(asked)}, ${solverOf(asked)})?;`,
+  "let mut places = Vec::new(alloc);",
+  ...figures.point.map(([point]) => `places.push(prepared.locate(${points([point]).slice(1, -1)}))?;`),
+  "Ok(places)",
+];
+
 const PLAIN = ["let options = IntOverlayOptions::default();"];
 const SHAPES = "IntShapes<i64, Global>";
 
@@ -110,12 +124,11 @@ const PARTS = {
       "}",
     ],
   }),
-  locate: (figures) => ({
+  locate: (figures, asked) => ({
     answers: "Vec<PointLocation, Global>",
     lines: [
       ...listed("shape", figures.subject),
-      `let points: [IntPoint<i64>; ${figures.point.length}] = ${points(figures.point.flat())};`,
-      "shape.locate_points(alloc, &points)",
+      ...(asked.fill === "evenodd" ? located(figures) : preparedLocated(figures, asked)),
     ],
   }),
   edges: (figures, asked) => ({
@@ -143,6 +156,7 @@ const PATHS = {
   OverlayError: "i_overlay::error::OverlayError",
   OverlayRule: "i_overlay::overlay_rule::OverlayRule",
   PointLocation: "i_overlay::point_location::PointLocation",
+  PreparedShape: "i_overlay::point_location::PreparedShape",
   PredicateOverlay: "i_overlay::relate::PredicateOverlay",
   Relations: "i_overlay::relate::Relations",
   ShapeType: "i_overlay::overlay::ShapeType",
