@@ -1,0 +1,15 @@
+//! Overlays, simplifying, relations, and location of points.
+
+pub mod answer;
+pub mod extract;
+pub mod fill_rule;
+pub mod graph;
+pub mod hierarchy;
+pub mod integer;
+pub mod overlay;
+pub mod overlay_rule;
+pub mod point_location;
+pub mod relate;
+pub mod simplify;
+pub mod single;
+pub mod solver;

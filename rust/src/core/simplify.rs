@@ -1,0 +1,272 @@
+//! Simplifying.
+
+use crate::core::fill_rule::FillRule;
+use crate::core::integer::OverlayInt;
+use crate::core::overlay::{IntOverlayOptions, Overlay, ShapeType};
+use crate::core::overlay_rule::OverlayRule;
+use crate::core::solver::Solver;
+use crate::engine::lists::{listed, make_room_instead, shapes_of};
+use crate::engine::options::Options;
+use crate::engine::width::Query;
+use crate::error::{answered, OverlayError};
+use crate::ffi::{Engine, Given};
+use crate::i_float::int::point::IntPoint;
+use crate::i_shape::flat::buffer::FlatContoursBuffer;
+use crate::i_shape::int::shape::{IntContour, IntShape, IntShapes};
+use crate::i_shape::source::int::resource::IntShapeResource;
+use ::core::marker::PhantomData;
+
+/// Simplifying in one call.
+///
+/// ```
+/// use polyover::core::{fill_rule::FillRule, overlay::IntOverlayOptions, simplify::Simplify};
+/// use polyover::i_float::int::point::IntPoint;
+///
+/// let bow = [[0, 0], [4, 4], [4, 0], [0, 4]].map(IntPoint::from);
+/// assert_eq!(bow.simplify(FillRule::NonZero, IntOverlayOptions::ogc()).len(), 2);
+/// ```
+pub trait Simplify<I: OverlayInt> {
+    /// The shapes round the points that the contours fill.
+    ///
+    /// # Errors
+    /// As of [`Overlay::try_overlay`].
+    fn try_simplify(
+        &self,
+        fill_rule: FillRule,
+        options: IntOverlayOptions<I::WideUInt>,
+    ) -> Result<IntShapes<I>, OverlayError>;
+
+    /// The shapes round the points that the contours fill.
+    ///
+    /// # Panics
+    /// Where [`Self::try_simplify`] is refused.
+    #[track_caller]
+    fn simplify(&self, fill_rule: FillRule, options: IntOverlayOptions<I::WideUInt>) -> IntShapes<I> {
+        answered(self.try_simplify(fill_rule, options))
+    }
+}
+
+impl<I, R> Simplify<I> for R
+where
+    I: OverlayInt,
+    R: IntShapeResource<I> + ?Sized,
+{
+    fn try_simplify(
+        &self,
+        fill_rule: FillRule,
+        options: IntOverlayOptions<I::WideUInt>,
+    ) -> Result<IntShapes<I>, OverlayError> {
+        Overlay::new_custom(0, options, Solver::default()).try_simplify_source(self, fill_rule)
+    }
+}
+
+struct Simplified<I>(FillRule, Options, PhantomData<I>);
+
+impl<I: OverlayInt> Query for Simplified<I> {
+    type Answer = IntShapes<I>;
+
+    fn ask<E: Engine>(&self, first: Given<'_, E::C>, _: Given<'_, E::C>) -> Result<IntShapes<I>, OverlayError> {
+        shapes_of(&E::simplify(self.0, &self.1, first)?)
+    }
+}
+
+struct Resolved;
+
+impl Query for Resolved {
+    type Answer = bool;
+
+    fn ask<E: Engine>(&self, first: Given<'_, E::C>, _: Given<'_, E::C>) -> Result<bool, OverlayError> {
+        E::is_resolved(first)
+    }
+}
+
+/// What becomes of a contour that is simplified.
+enum Outcome<I: OverlayInt> {
+    /// It is not simple, so it is to be overlaid.
+    NotSimple,
+    /// It is a shape as it is given.
+    AsGiven,
+    /// It is reversed, or is not filled and leaves nothing.
+    Turned(IntShapes<I>),
+}
+
+/// Whether a contour visits no point twice, and no point lies on one line with its two neighbours.
+fn has_corners_alone<I: OverlayInt>(contour: &[IntPoint<I>]) -> Result<bool, OverlayError> {
+    let (Some(&first), Some(&last)) = (contour.first(), contour.last()) else {
+        return Ok(false);
+    };
+    let mut sorted = listed(contour.len(), contour.iter().copied())?;
+    sorted.sort_unstable();
+    let twice = |it: &[IntPoint<I>]| matches!(it, [a, b] if a == b);
+    let next = contour.iter().skip(1).copied().chain([first]);
+    let mut before = last;
+    let mut is_straight = |(&at, after): (&IntPoint<I>, IntPoint<I>)| {
+        let x = |it: IntPoint<I>| it.x.wide_difference(before.x);
+        let y = |it: IntPoint<I>| it.y.wide_difference(before.y);
+        let is_on_line = x(at).saturating_mul(y(after)) == y(at).saturating_mul(x(after));
+        before = at;
+        is_on_line
+    };
+    Ok(!sorted.windows(2).any(twice) && !contour.iter().zip(next).any(&mut is_straight))
+}
+
+impl<I: OverlayInt> Overlay<I> {
+    /// Replaces the contours by those of a resource, and gives the shapes to which they are simplified.
+    ///
+    /// # Errors
+    /// As of [`Overlay::try_overlay`].
+    pub fn try_simplify_source<R: IntShapeResource<I> + ?Sized>(
+        &mut self,
+        resource: &R,
+        fill_rule: FillRule,
+    ) -> Result<IntShapes<I>, OverlayError> {
+        self.clear();
+        self.try_add_source(resource, ShapeType::Subject)?;
+        let options = self.options.for_engine(self.solver)?;
+        self.ask(&Simplified(fill_rule, options, PhantomData))
+    }
+
+    /// Replaces the contours by those of a resource, and simplifies them.
+    ///
+    /// # Panics
+    /// Where [`Self::try_simplify_source`] is refused.
+    #[track_caller]
+    pub fn simplify_source<R: IntShapeResource<I> + ?Sized>(
+        &mut self,
+        resource: &R,
+        fill_rule: FillRule,
+    ) -> IntShapes<I> {
+        answered(self.try_simplify_source(resource, fill_rule))
+    }
+
+    /// Replaces the contours by this one, and tells what becomes of it.
+    fn outcome_of(&mut self, contour: &[IntPoint<I>], fill_rule: FillRule) -> Result<Outcome<I>, OverlayError> {
+        self.clear();
+        self.subject.add(contour)?;
+        let mut options = self.options.for_engine(self.solver)?;
+        if !has_corners_alone(contour)? || !self.ask(&Resolved)? {
+            return Ok(Outcome::NotSimple);
+        }
+        options.min_area = 0;
+        let shapes = self.ask(&Simplified(fill_rule, options, PhantomData))?;
+        let is_as_given = matches!(shapes.as_slice(), [it] if matches!(it.as_slice(), [it] if it == contour));
+        Ok(if is_as_given {
+            Outcome::AsGiven
+        } else {
+            Outcome::Turned(shapes)
+        })
+    }
+
+    /// Replaces the contours by this one, and gives its shapes; none where it is a shape as it is given.
+    ///
+    /// A contour is simple that meets itself nowhere and has no point on one line with its two neighbours. As in
+    /// `i_overlay`, the smallest area plays no part for a simple one.
+    ///
+    /// # Errors
+    /// As of [`Overlay::try_overlay`].
+    pub fn try_simplify_contour(
+        &mut self,
+        contour: &[IntPoint<I>],
+        fill_rule: FillRule,
+    ) -> Result<Option<IntShapes<I>>, OverlayError> {
+        match self.outcome_of(contour, fill_rule)? {
+            Outcome::NotSimple => self.try_overlay(OverlayRule::Subject, fill_rule).map(Some),
+            Outcome::AsGiven => Ok(None),
+            Outcome::Turned(shapes) => Ok(Some(shapes)),
+        }
+    }
+
+    /// Replaces the contours by this one, and gives its shapes, as [`Self::try_simplify_contour`] does.
+    ///
+    /// # Panics
+    /// Where [`Self::try_simplify_contour`] is refused.
+    #[track_caller]
+    pub fn simplify_contour(&mut self, contour: &[IntPoint<I>], fill_rule: FillRule) -> Option<IntShapes<I>> {
+        answered(self.try_simplify_contour(contour, fill_rule))
+    }
+
+    /// Replaces the contours by these, and gives their shapes; none where it is one contour that is a shape as it is
+    /// given ([`Self::try_simplify_contour`]).
+    ///
+    /// # Errors
+    /// As of [`Overlay::try_overlay`].
+    pub fn try_simplify_shape(
+        &mut self,
+        shape: &[IntContour<I>],
+        fill_rule: FillRule,
+    ) -> Result<Option<IntShapes<I>>, OverlayError> {
+        if let [contour] = shape {
+            return self.try_simplify_contour(contour, fill_rule);
+        }
+        self.clear();
+        self.try_add_source(shape, ShapeType::Subject)?;
+        self.try_overlay(OverlayRule::Subject, fill_rule).map(Some)
+    }
+
+    /// Replaces the contours by these, and gives their shapes, as [`Self::try_simplify_shape`] does.
+    ///
+    /// # Panics
+    /// Where [`Self::try_simplify_shape`] is refused.
+    #[track_caller]
+    pub fn simplify_shape(&mut self, shape: &[IntContour<I>], fill_rule: FillRule) -> Option<IntShapes<I>> {
+        answered(self.try_simplify_shape(shape, fill_rule))
+    }
+
+    /// Replaces the contours by those of shapes, and gives the shapes of an overlay of them.
+    ///
+    /// # Panics
+    /// Where [`Overlay::try_overlay`] is refused.
+    #[deprecated(note = "Use `simplify_source` instead.")]
+    #[track_caller]
+    pub fn simplify_shapes(&mut self, shapes: &[IntShape<I>], fill_rule: FillRule) -> IntShapes<I> {
+        self.reinit_with_subj(shapes);
+        self.overlay(OverlayRule::Subject, fill_rule)
+    }
+
+    /// Replaces the contours of a buffer by those to which they are simplified: one contour as
+    /// [`Self::try_simplify_contour`] does where it is simple, others as [`Self::try_overlay_into`] does.
+    ///
+    /// # Errors
+    /// As of [`Overlay::try_overlay`]; the buffer stays then.
+    pub fn try_simplify_flat_buffer(
+        &mut self,
+        flat_buffer: &mut FlatContoursBuffer<I>,
+        fill_rule: FillRule,
+    ) -> Result<(), OverlayError> {
+        if flat_buffer.is_single_contour() {
+            match self.outcome_of(flat_buffer.as_first_contour(), fill_rule)? {
+                Outcome::NotSimple => {}
+                Outcome::AsGiven => return Ok(()),
+                Outcome::Turned(shapes) => return fill_buffer(flat_buffer, &shapes),
+            }
+        }
+        self.clear();
+        self.try_add_source(flat_buffer, ShapeType::Subject)?;
+        self.try_overlay_into(OverlayRule::Subject, fill_rule, flat_buffer)
+    }
+
+    /// Replaces the contours of a buffer by those to which they are simplified.
+    ///
+    /// # Panics
+    /// Where [`Self::try_simplify_flat_buffer`] is refused.
+    #[track_caller]
+    pub fn simplify_flat_buffer(&mut self, flat_buffer: &mut FlatContoursBuffer<I>, fill_rule: FillRule) {
+        answered(self.try_simplify_flat_buffer(flat_buffer, fill_rule));
+    }
+}
+
+/// Makes the contours of shapes those of a buffer.
+fn fill_buffer<I: OverlayInt>(buffer: &mut FlatContoursBuffer<I>, shapes: &IntShapes<I>) -> Result<(), OverlayError> {
+    let count = shapes
+        .iter()
+        .flatten()
+        .map(|it| it.len())
+        .fold(0, usize::saturating_add);
+    make_room_instead(&mut buffer.points, count)?;
+    make_room_instead(&mut buffer.ranges, shapes.iter().flatten().count())?;
+    buffer.clear_and_reserve(0, 0);
+    for contour in shapes.iter().flatten() {
+        buffer.add_contour(contour);
+    }
+    Ok(())
+}

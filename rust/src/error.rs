@@ -1,0 +1,67 @@
+//! Why a call was refused.
+
+use crate::ffi::{sys, text_of};
+use ::core::fmt;
+
+/// Why a call was refused. A refused call changes nothing.
+#[derive(Debug, Clone, Copy, PartialEq, Eq, Hash)]
+#[non_exhaustive]
+pub enum OverlayError {
+    /// Memory was refused.
+    Memory,
+    /// A coordinate is more than 2^62 - 1 away from 0. Of `i16` and `i32` coordinates all are taken.
+    OutOfRange,
+    /// A contour meets itself elsewhere than in its corners: the number of the first one that does.
+    NotResolved(usize),
+    /// After 64 rounds of splitting edges still meet: of [`Solver::ROUNDS`](crate::core::solver::Solver::ROUNDS) alone.
+    NotSettled,
+    /// The edges weigh 2^31 or more.
+    TooManyEdges,
+    /// A float is not a number, or infinite.
+    NotFinite,
+    /// An option that this version has not yet: its name.
+    NotHad(&'static str),
+    /// A status that this version does not know.
+    Other(u32),
+}
+
+impl OverlayError {
+    /// The refusal for which a status of the library stands.
+    pub(crate) fn of(status: sys::Status) -> Self {
+        match status {
+            sys::MEMORY => Self::Memory,
+            sys::OUT_OF_RANGE => Self::OutOfRange,
+            sys::NOT_SETTLED => Self::NotSettled,
+            sys::TOO_MANY_EDGES => Self::TooManyEdges,
+            other => Self::Other(other),
+        }
+    }
+}
+
+impl fmt::Display for OverlayError {
+    fn fmt(&self, f: &mut fmt::Formatter<'_>) -> fmt::Result {
+        f.write_str(match *self {
+            Self::Memory => text_of(sys::MEMORY),
+            Self::OutOfRange => text_of(sys::OUT_OF_RANGE),
+            Self::NotResolved(contour) => return write!(f, "contour {contour}: {}", text_of(sys::NOT_RESOLVED)),
+            Self::NotSettled => "edges still meet after 64 rounds of splitting; Solver::SNAPPED splits them",
+            Self::TooManyEdges => text_of(sys::TOO_MANY_EDGES),
+            Self::NotFinite => "a float is not a number, or infinite",
+            Self::NotHad(name) => return write!(f, "this version does not have the option {name}"),
+            Self::Other(status) => text_of(status),
+        })
+    }
+}
+
+impl ::core::error::Error for OverlayError {}
+
+/// The answer of a call with the signature of `i_overlay`: where its `try_` call is refused it panics, as `Vec` does
+/// where it cannot grow.
+#[track_caller]
+#[allow(clippy::panic)]
+pub(crate) fn answered<T>(answer: Result<T, OverlayError>) -> T {
+    match answer {
+        Ok(it) => it,
+        Err(error) => panic!("polyover: {error}"),
+    }
+}

@@ -1,0 +1,257 @@
+//! The calls of the library at each width, made safe.
+
+use super::given::Given;
+use super::held::Held;
+use super::ready::{Prepared, Ready};
+use super::sys;
+use crate::core::answer::Either;
+use crate::core::fill_rule::FillRule;
+use crate::core::overlay_rule::OverlayRule;
+use crate::core::solver::Solver;
+use crate::engine::options::{Keep, Options};
+use crate::error::OverlayError;
+use ::core::ffi::CStr;
+
+/// A width at which the library computes.
+pub(crate) trait Engine: 'static + Sized {
+    /// Its coordinates.
+    type C: Copy + Into<i64>;
+
+    /// The shapes of an overlay.
+    fn overlay(
+        rule: OverlayRule,
+        fill: FillRule,
+        options: &Options,
+        subject: Given<'_, Self::C>,
+        clip: Given<'_, Self::C>,
+    ) -> Result<Held<Self>, OverlayError>;
+
+    /// The shapes of an overlay, with links.
+    fn hierarchy(
+        rule: OverlayRule,
+        fill: FillRule,
+        options: &Options,
+        subject: Given<'_, Self::C>,
+        clip: Given<'_, Self::C>,
+    ) -> Result<Held<Self>, OverlayError>;
+
+    /// The shapes to which contours are simplified.
+    fn simplify(fill: FillRule, options: &Options, contours: Given<'_, Self::C>) -> Result<Held<Self>, OverlayError>;
+
+    /// The shapes into which lines cut a subject.
+    fn slice(
+        fill: FillRule,
+        solver: Solver,
+        subject: Given<'_, Self::C>,
+        lines: Given<'_, Self::C>,
+    ) -> Result<Held<Self>, OverlayError>;
+
+    /// The parts of lines that a clip keeps.
+    fn clip(
+        fill: FillRule,
+        keep: Keep,
+        solver: Solver,
+        shape: Given<'_, Self::C>,
+        lines: Given<'_, Self::C>,
+    ) -> Result<Held<Self>, OverlayError>;
+
+    /// The edges of the arrangement.
+    fn edges(
+        fill: FillRule,
+        solver: Solver,
+        subject: Given<'_, Self::C>,
+        clip: Given<'_, Self::C>,
+    ) -> Result<Held<Self>, OverlayError>;
+
+    /// The bits of the relations that hold.
+    fn relate(
+        fill: FillRule,
+        solver: Solver,
+        subject: Given<'_, Self::C>,
+        clip: Given<'_, Self::C>,
+    ) -> Result<u32, OverlayError>;
+
+    /// Whether each contour is resolved.
+    fn is_resolved(contours: Given<'_, Self::C>) -> Result<bool, OverlayError>;
+
+    /// Writes where points lie in resolved contours; there is a place for each point.
+    fn locate(shape: Given<'_, Self::C>, points: &[Self::C], locations: &mut [u8]) -> Result<(), OverlayError>;
+
+    /// Prepares a shape.
+    fn prepare(fill: FillRule, solver: Solver, contours: Given<'_, Self::C>) -> Result<Prepared, OverlayError>;
+
+    /// Writes where points lie in a prepared shape.
+    fn ask(prepared: &sys::Prepared, points: &[Self::C], locations: &mut [u8]) -> Result<(), OverlayError>;
+
+    /// Frees an answer, which is without items then.
+    fn free(answer: &mut sys::Answer<Self::C>);
+
+    /// Frees a prepared shape, which is without a boundary then.
+    fn free_prepared(prepared: &mut sys::Prepared);
+
+    /// An answer as one of either width.
+    fn either(held: Held<Self>) -> Either;
+}
+
+/// What a status says.
+pub(super) fn done(status: sys::Status) -> Result<(), OverlayError> {
+    if status == sys::OK {
+        Ok(())
+    } else {
+        Err(OverlayError::of(status))
+    }
+}
+
+/// The text of a status.
+pub(crate) fn text_of(status: sys::Status) -> &'static str {
+    // SAFETY: the text is never null, ends with a zero and is there for ever (polyover.h).
+    let text = unsafe { CStr::from_ptr(sys::polyover_status_text(status)) };
+    text.to_str().unwrap_or("refused")
+}
+
+// Calls of one width. In each, all pointers are of values that outlive the call, with the counts of their slices, and
+// what the call writes to lies apart from them.
+macro_rules! engine {
+    ($engine:ident, $c:ty, $width:ident) => {
+        impl Engine for $engine {
+            type C = $c;
+
+            fn overlay(
+                rule: OverlayRule,
+                fill: FillRule,
+                options: &Options,
+                subject: Given<'_, $c>,
+                clip: Given<'_, $c>,
+            ) -> Result<Held<Self>, OverlayError> {
+                let (rule, fill, options) = (rule.number(), fill.number(), options.$width());
+                let (subject, clip) = (subject.raw(), clip.raw());
+                // SAFETY: as said above.
+                unsafe { Held::of(|to| sys::$width::overlay(rule, fill, &options, &subject, &clip, to)) }
+            }
+
+            fn hierarchy(
+                rule: OverlayRule,
+                fill: FillRule,
+                options: &Options,
+                subject: Given<'_, $c>,
+                clip: Given<'_, $c>,
+            ) -> Result<Held<Self>, OverlayError> {
+                let (rule, fill, options) = (rule.number(), fill.number(), options.$width());
+                let (subject, clip) = (subject.raw(), clip.raw());
+                // SAFETY: as said above.
+                unsafe { Held::of(|to| sys::$width::hierarchy(rule, fill, &options, &subject, &clip, to)) }
+            }
+
+            fn simplify(
+                fill: FillRule,
+                options: &Options,
+                contours: Given<'_, $c>,
+            ) -> Result<Held<Self>, OverlayError> {
+                let (options, contours) = (options.$width(), contours.raw());
+                // SAFETY: as said above.
+                unsafe { Held::of(|to| sys::$width::simplify(fill.number(), &options, &contours, to)) }
+            }
+
+            fn slice(
+                fill: FillRule,
+                solver: Solver,
+                subject: Given<'_, $c>,
+                lines: Given<'_, $c>,
+            ) -> Result<Held<Self>, OverlayError> {
+                let (subject, lines) = (subject.raw(), lines.raw());
+                // SAFETY: as said above.
+                unsafe { Held::of(|to| sys::$width::slice(fill.number(), solver.number(), &subject, &lines, to)) }
+            }
+
+            fn clip(
+                fill: FillRule,
+                keep: Keep,
+                solver: Solver,
+                shape: Given<'_, $c>,
+                lines: Given<'_, $c>,
+            ) -> Result<Held<Self>, OverlayError> {
+                let options = keep.with(solver);
+                let (shape, lines) = (shape.raw(), lines.raw());
+                // SAFETY: as said above.
+                unsafe { Held::of(|to| sys::$width::clip(fill.number(), &options, &shape, &lines, to)) }
+            }
+
+            fn edges(
+                fill: FillRule,
+                solver: Solver,
+                subject: Given<'_, $c>,
+                clip: Given<'_, $c>,
+            ) -> Result<Held<Self>, OverlayError> {
+                let (subject, clip) = (subject.raw(), clip.raw());
+                // SAFETY: as said above.
+                unsafe { Held::of(|to| sys::$width::edges(fill.number(), solver.number(), &subject, &clip, to)) }
+            }
+
+            fn relate(
+                fill: FillRule,
+                solver: Solver,
+                subject: Given<'_, $c>,
+                clip: Given<'_, $c>,
+            ) -> Result<u32, OverlayError> {
+                let (subject, clip, mut to) = (subject.raw(), clip.raw(), 0);
+                // SAFETY: as said above.
+                done(unsafe { sys::$width::relate(fill.number(), solver.number(), &subject, &clip, &mut to) })?;
+                Ok(to)
+            }
+
+            fn is_resolved(contours: Given<'_, $c>) -> Result<bool, OverlayError> {
+                // SAFETY: as said above.
+                match unsafe { sys::$width::resolved(&contours.raw()) } {
+                    sys::NOT_RESOLVED => Ok(false),
+                    status => done(status).map(|()| true),
+                }
+            }
+
+            fn locate(shape: Given<'_, $c>, points: &[$c], to: &mut [u8]) -> Result<(), OverlayError> {
+                let (shape, mut unresolved) = (shape.raw(), 0);
+                let (at, count, room) = (points.as_ptr(), points.len(), to.len());
+                // SAFETY: as said above.
+                let status = unsafe { sys::$width::locate(&shape, at, count, to.as_mut_ptr(), room, &mut unresolved) };
+                match status {
+                    sys::NOT_RESOLVED => Err(OverlayError::NotResolved(unresolved)),
+                    _ => done(status),
+                }
+            }
+
+            fn prepare(fill: FillRule, solver: Solver, contours: Given<'_, $c>) -> Result<Prepared, OverlayError> {
+                let (fill, solver, contours) = (fill.number(), solver.number(), contours.raw());
+                // SAFETY: as said above.
+                let ready = unsafe { Ready::of(|to| sys::$width::prepare(fill, solver, &contours, to)) };
+                Ok(Prepared::$engine(ready?))
+            }
+
+            fn ask(prepared: &sys::Prepared, points: &[$c], to: &mut [u8]) -> Result<(), OverlayError> {
+                let (at, count, room) = (points.as_ptr(), points.len(), to.len());
+                // SAFETY: as said above; the shape is one that `prepare` left.
+                done(unsafe { sys::$width::prepared_locate(prepared, at, count, to.as_mut_ptr(), room) })
+            }
+
+            fn free(answer: &mut sys::Answer<$c>) {
+                // SAFETY: the answer is one that the library left.
+                unsafe { sys::$width::free(answer) }
+            }
+
+            fn free_prepared(prepared: &mut sys::Prepared) {
+                // SAFETY: the shape is one that the library left.
+                unsafe { sys::$width::prepared_free(prepared) }
+            }
+
+            fn either(held: Held<Self>) -> Either {
+                Either::$engine(held)
+            }
+        }
+    };
+}
+
+/// Calls at 64 bits.
+pub(crate) struct Wide;
+/// Calls at 32 bits.
+pub(crate) struct Narrow;
+
+engine!(Wide, i64, wide);
+engine!(Narrow, i32, narrow);

@@ -1,0 +1,16 @@
+//! The library behind the crate: all `unsafe` of the crate is in this module. Outside it the calls are safe functions,
+//! from borrowed lists ([`Given`]) to owned answers ([`Held`], [`Ready`]).
+#![allow(unsafe_code)]
+
+mod calls;
+mod given;
+mod held;
+#[cfg(polyover_native)]
+mod native;
+mod ready;
+pub(crate) mod sys;
+
+pub(crate) use calls::{text_of, Engine, Narrow, Wide};
+pub(crate) use given::{coordinates_of, Given};
+pub(crate) use held::Held;
+pub(crate) use ready::{Prepared, Ready};

@@ -1,0 +1,4 @@
+//! Coordinates of floats.
+
+pub mod compatible;
+pub mod number;

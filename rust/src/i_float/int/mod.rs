@@ -1,0 +1,5 @@
+//! Whole coordinates.
+
+pub mod number;
+pub mod point;
+pub mod vector;

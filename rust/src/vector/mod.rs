@@ -1,0 +1,100 @@
+//! Answers as edges.
+
+pub mod edge;
+
+use crate::core::fill_rule::FillRule;
+use crate::core::integer::OverlayInt;
+use crate::core::overlay::queries::Nested;
+use crate::core::overlay::Overlay;
+use crate::core::overlay_rule::OverlayRule;
+use crate::engine::lists::with_room;
+use crate::error::OverlayError;
+use crate::i_float::int::point::IntPoint;
+use crate::vector::edge::{DataVectorEdge, Reverse, VectorPath, VectorShape};
+use ::core::marker::PhantomData;
+use alloc::vec::Vec;
+
+/// The shapes of an overlay as edges, by the edges of its arrangement.
+///
+/// The library has no call for this yet: the contours are those of an overlay that keeps all points, of the same
+/// arrangement. Each step of them is one of its edges.
+pub(crate) fn shapes_by<I: OverlayInt>(
+    overlay: &Overlay<I>,
+    edges: &[DataVectorEdge<I>],
+    rule: OverlayRule,
+    fill: FillRule,
+) -> Result<Vec<VectorShape<I>>, OverlayError> {
+    let mut asked = overlay.asked(rule, fill)?;
+    let is_joined = !asked.options.keeps_points;
+    asked.options.keeps_points = true;
+    asked.options.may_touch = true;
+    let found = overlay.ask(&Nested(asked, PhantomData))?;
+    let mut shapes = with_room(found.len())?;
+    for contours in &found {
+        let mut shape = with_room(contours.len())?;
+        for contour in contours {
+            shape.push(path_of(edges, contour, is_joined)?);
+        }
+        shapes.push(shape);
+    }
+    Ok(shapes)
+}
+
+/// A contour as edges of the arrangement.
+fn path_of<I: OverlayInt>(
+    edges: &[DataVectorEdge<I>],
+    contour: &[IntPoint<I>],
+    is_joined: bool,
+) -> Result<VectorPath<I>, OverlayError> {
+    let mut path: VectorPath<I> = with_room(contour.len())?;
+    let next = contour.iter().skip(1).chain(contour.first());
+    for (&a, &b) in contour.iter().zip(next) {
+        let edge = edge_of(edges, a, b)?;
+        match path.last_mut() {
+            Some(last) if is_joined && is_straight(last, &edge) => last.b = edge.b,
+            _ => path.push(edge),
+        }
+    }
+    if is_joined {
+        join_ends(&mut path);
+    }
+    Ok(path)
+}
+
+/// The edge of the arrangement from one point to another. Edges are in order, each with its smaller end first.
+fn edge_of<I: OverlayInt>(
+    edges: &[DataVectorEdge<I>],
+    a: IntPoint<I>,
+    b: IntPoint<I>,
+) -> Result<DataVectorEdge<I>, OverlayError> {
+    let is_forward = a < b;
+    let ends = if is_forward { (a, b) } else { (b, a) };
+    let found = edges.binary_search_by(|it| (it.a, it.b).cmp(&ends));
+    // (each step is an edge; were it none, that would be told)
+    let edge = found
+        .ok()
+        .and_then(|at| edges.get(at))
+        .ok_or(OverlayError::Other(u32::MAX))?;
+    let fill = if is_forward { edge.fill } else { edge.fill.reverse() };
+    Ok(DataVectorEdge { a, b, fill, data: () })
+}
+
+/// Whether two edges lie on one line and have equal filled sides.
+fn is_straight<I: OverlayInt>(one: &DataVectorEdge<I>, other: &DataVectorEdge<I>) -> bool {
+    let along = |it: &DataVectorEdge<I>| (it.b.x.wide_difference(it.a.x), it.b.y.wide_difference(it.a.y));
+    let ((x, y), (z, w)) = (along(one), along(other));
+    one.fill == other.fill && x.saturating_mul(w) == y.saturating_mul(z)
+}
+
+/// Makes the last edge and the first one of a path one, where they lie on one line and have equal filled sides.
+fn join_ends<I: OverlayInt>(path: &mut VectorPath<I>) {
+    let Some(last) = path.last().copied() else { return };
+    if path.len() > 1 {
+        if let Some(first) = path.first_mut() {
+            if is_straight(&last, first) {
+                first.a = last.a;
+                path.pop();
+            }
+        }
+    }
+}

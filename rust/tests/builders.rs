@@ -1,0 +1,218 @@
+//! Builders, their views, and options that are not had.
+#![allow(missing_docs, dead_code)]
+#![allow(
+    clippy::unwrap_used,
+    clippy::arithmetic_side_effects,
+    clippy::as_conversions,
+    clippy::indexing_slicing
+)]
+
+mod common;
+
+use common::{square, RULES};
+use polyover::core::fill_rule::FillRule;
+use polyover::core::hierarchy::ChildLink;
+use polyover::core::overlay::{ContourDirection, IntOverlayOptions, Overlay, ShapeType};
+use polyover::core::overlay_rule::OverlayRule;
+use polyover::core::simplify::Simplify;
+use polyover::core::solver::Solver;
+use polyover::error::OverlayError;
+use polyover::i_float::int::point::IntPoint;
+use polyover::i_shape::flat::buffer::FlatContoursBuffer;
+use polyover::i_shape::int::area::Area;
+use polyover::string::clip::{ClipRule, IntClip};
+use polyover::string::overlay::StringOverlay;
+use polyover::string::rule::StringRule;
+use polyover::string::slice::IntSlice;
+use polyover::vector::edge::{Reverse, ToPath, CLIP_LEFT, SUBJ_LEFT, SUBJ_RIGHT};
+
+fn two_squares() -> Overlay<i32> {
+    Overlay::from_subj_and_clip(&square(0, 10), &square(5, 15))
+}
+
+#[test]
+fn queries_keep_what_was_added() {
+    let mut overlay = two_squares();
+    let areas = RULES.map(|it| overlay.overlay(it, FillRule::NonZero).area());
+    assert_eq!(areas, [100_i64, 100, 25, 175, 75, 75, 150]);
+    let view = overlay.build_graph_view(FillRule::NonZero).unwrap();
+    let areas = RULES.map(|it| view.extract_shapes(it, &mut Default::default()).area());
+    assert_eq!(areas, [100_i64, 100, 25, 175, 75, 75, 150]);
+    overlay.clear();
+    assert!(overlay.build_graph_view(FillRule::NonZero).is_none());
+    assert!(overlay.overlay(OverlayRule::Union, FillRule::NonZero).is_empty());
+}
+
+#[test]
+fn vectors_tell_filled_sides() {
+    let mut overlay = two_squares();
+    let shapes = overlay.build_shape_vectors(FillRule::NonZero, OverlayRule::Intersect);
+    let corners = [[5, 10], [5, 5], [10, 5], [10, 10]].map(IntPoint::from);
+    assert_eq!(shapes[0][0].to_path(), corners);
+    let fills: Vec<u8> = shapes[0][0].iter().map(|it| it.fill).collect();
+    // (down and to the right the clip begins, then the subject ends)
+    let (clip, subject) = (CLIP_LEFT | SUBJ_LEFT | SUBJ_RIGHT, SUBJ_LEFT | CLIP_LEFT | 8);
+    assert_eq!(fills, [clip, clip, subject, subject]);
+    assert_eq!(SUBJ_LEFT.reverse(), SUBJ_RIGHT);
+    let view = overlay.build_graph_view(FillRule::NonZero).unwrap();
+    assert_eq!(
+        view.extract_vector_shapes(OverlayRule::Intersect, &mut Default::default()),
+        shapes
+    );
+    // (each square has 4 edges, two of which are cut once)
+    assert_eq!(view.edges().len(), 12);
+}
+
+#[test]
+fn options_change_answers() {
+    let mut overlay = two_squares();
+    overlay.options.output_direction = ContourDirection::Clockwise;
+    assert_eq!(
+        overlay.overlay(OverlayRule::Intersect, FillRule::NonZero).area(),
+        -25_i64
+    );
+    overlay.options.min_output_area = 26;
+    assert!(overlay.overlay(OverlayRule::Intersect, FillRule::NonZero).is_empty());
+    overlay.options = IntOverlayOptions::keep_output_points();
+    // (the corners (5, 10) and (10, 5) of the shared square lie on sides of the subject)
+    assert_eq!(overlay.overlay(OverlayRule::Subject, FillRule::NonZero)[0][0].len(), 6);
+}
+
+#[test]
+fn links_tell_which_shapes_lie_in_which_holes() {
+    let nested = [
+        square(0, 100),
+        square(10, 90),
+        square(20, 80),
+        square(30, 70),
+        square(40, 60),
+    ];
+    let found = Overlay::from_subj(&nested).overlay_hierarchy(OverlayRule::Subject, FillRule::EvenOdd);
+    // (each shape but the innermost has one hole, so the contours are outline, hole, outline, hole, outline)
+    let link = |parent_shape_index, parent_contour_index, child_shape_index| ChildLink {
+        parent_shape_index,
+        parent_contour_index,
+        child_shape_index,
+    };
+    assert_eq!(found.links, [link(0, 1, 1), link(1, 3, 2)]);
+    assert_eq!(found.shapes.shape_ranges, [0..2, 2..4, 4..5]);
+    assert_eq!(found.shapes.contour_ranges[3], 12..16);
+}
+
+#[test]
+fn an_option_that_is_not_had_is_refused() {
+    let refused = Err(OverlayError::NotHad("preserve_input_collinear"));
+    let mut overlay = two_squares();
+    overlay.options = IntOverlayOptions::keep_all_points();
+    let (rule, fill) = (OverlayRule::Union, FillRule::NonZero);
+    assert_eq!(overlay.try_overlay(rule, fill), refused);
+    assert_eq!(overlay.try_overlay_hierarchy(rule, fill).map(|_| vec![]), refused);
+    assert_eq!(overlay.try_build_separate_vectors(fill).map(|_| vec![]), refused);
+    assert_eq!(overlay.try_build_shape_vectors(fill, rule).map(|_| vec![]), refused);
+    assert_eq!(overlay.try_build_graph_view(fill).map(|_| vec![]), refused);
+    assert_eq!(overlay.try_answer(rule, fill).map(|_| vec![]), refused);
+    let mut buffer = FlatContoursBuffer::default();
+    assert_eq!(
+        overlay.try_overlay_into(rule, fill, &mut buffer).map(|()| vec![]),
+        refused
+    );
+    assert_eq!(
+        overlay.try_simplify_contour(&square(0, 1), fill).map(|_| vec![]),
+        refused
+    );
+    assert_eq!(
+        square(0, 1).try_simplify(fill, IntOverlayOptions::keep_all_points()),
+        refused
+    );
+    let text = "this version does not have the option preserve_input_collinear";
+    assert_eq!(OverlayError::NotHad("preserve_input_collinear").to_string(), text);
+}
+
+#[test]
+fn options_of_strings_are_refused() {
+    let rule = StringRule::Slice;
+    let names = [
+        "preserve_input_collinear",
+        "output_direction",
+        "preserve_output_collinear",
+        "min_output_area",
+        "ogc",
+    ];
+    for (at, name) in names.into_iter().enumerate() {
+        let options = IntOverlayOptions {
+            preserve_input_collinear: at == 0,
+            output_direction: [ContourDirection::CounterClockwise, ContourDirection::Clockwise][usize::from(at == 1)],
+            preserve_output_collinear: at == 2,
+            min_output_area: u64::from(at == 3),
+            ogc: at == 4,
+        };
+        let mut overlay = StringOverlay::from_shape(&square(0, 10));
+        let view = overlay.build_graph_view(FillRule::NonZero).unwrap();
+        assert_eq!(view.extract_shapes(rule).area(), 100_i64);
+        assert_eq!(
+            view.try_extract_shapes_custom(rule, options),
+            Err(OverlayError::NotHad(name))
+        );
+        overlay.options = options;
+        assert_eq!(
+            overlay.try_slice(FillRule::NonZero, Solver::default()),
+            Err(OverlayError::NotHad(name))
+        );
+    }
+}
+
+#[test]
+fn lines_over_a_square() {
+    let shape = square(-10, 10);
+    let inside = ClipRule {
+        invert: false,
+        boundary_included: false,
+    };
+    let line = [[0, -15], [0, 15]].map(IntPoint::from);
+    let kept = [[0, -10], [0, 10]].map(IntPoint::from);
+    assert_eq!(shape.clip_line(line, FillRule::NonZero, inside), [kept]);
+    let outside = ClipRule { invert: true, ..inside };
+    assert_eq!(shape.clip_lines(&[line], FillRule::NonZero, outside).len(), 2);
+    assert_eq!(shape.slice_by_line(line, FillRule::NonZero).area(), 400_i64);
+    assert_eq!(shape.slice_by_line(line, FillRule::NonZero).len(), 2);
+}
+
+#[test]
+fn the_outcome_of_a_contour_is_told() {
+    let mut overlay = Overlay::<i32>::new(0);
+    let (simple, mut turned) = (square(0, 10), square(0, 10));
+    turned.reverse();
+    // (of a simple contour the smallest area plays no part)
+    overlay.options.min_output_area = 1000;
+    assert_eq!(overlay.simplify_contour(&simple, FillRule::NonZero), None);
+    assert_eq!(
+        overlay.simplify_contour(&turned, FillRule::NonZero),
+        Some(vec![vec![simple.clone()]])
+    );
+    assert_eq!(overlay.simplify_contour(&simple, FillRule::Negative), Some(vec![]));
+    // (one that touches itself comes back point by point, and is not simple: it is too small)
+    let touching = [[0, 4], [0, 0], [2, 2], [4, 0], [4, 4], [2, 2]].map(IntPoint::from);
+    assert_eq!(overlay.simplify_contour(&touching, FillRule::NonZero), Some(vec![]));
+    // (so is one with a point on one line)
+    let straight = [[0, 4], [0, 0], [2, 0], [4, 0], [4, 4]].map(IntPoint::from);
+    assert_eq!(overlay.simplify_contour(&straight, FillRule::NonZero), Some(vec![]));
+    assert_eq!(overlay.simplify_contour(&[], FillRule::NonZero), Some(vec![]));
+    let mut buffer = FlatContoursBuffer::default();
+    buffer.set_with_contour(&turned);
+    overlay.simplify_flat_buffer(&mut buffer, FillRule::NonZero);
+    assert_eq!(buffer.as_first_contour(), simple);
+    buffer.set_with_contour(&touching);
+    overlay.simplify_flat_buffer(&mut buffer, FillRule::NonZero);
+    assert!(buffer.ranges.is_empty() && buffer.points.is_empty());
+}
+
+#[test]
+fn adding_by_type() {
+    let mut overlay = Overlay::new(8);
+    overlay.add_path_iter(square(0, 4).into_iter(), ShapeType::Subject);
+    overlay.add_contour(&square(1, 2), ShapeType::Clip);
+    overlay.try_add_source(&[square(6, 8)], ShapeType::Clip).unwrap();
+    assert_eq!(overlay.overlay(OverlayRule::Union, FillRule::NonZero).area(), 20_i64);
+    let point: IntPoint = (1, 2).into();
+    assert_eq!((<[i32; 2]>::from(point), <(i32, i32)>::from(point)), ([1, 2], (1, 2)));
+}
