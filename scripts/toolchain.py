@@ -11,8 +11,11 @@ ROOT = Path(__file__).resolve().parent.parent
 LEAVING = """\
 #!/bin/sh
 for word in "$@"; do case "$word" in *.bc) cp "$word" "{module}";; esac; done
+{unless}
 exec "{clang}" "$@"
 """
+# (the module that is left is the last one, with all checks)
+UNLESS_LAST = 'case "$*" in *-fsanitize=address*) exit 1;; esac'
 
 
 def answer_of(words: Sequence, **how) -> str:
@@ -52,12 +55,13 @@ def link_all(source: Path, target: Path, *others: str) -> None:
             (target / each.name).symlink_to(each)
 
 
-def make_leaving_compiler(folder: Path, module: Path) -> None:
-    """The toolchain's folder of compilers as a folder of links, whose clang copies the last module it is given."""
+def make_leaving_compiler(folder: Path, module: Path, runs: bool = True) -> None:
+    """The toolchain's folder of compilers as a folder of links, whose clang copies the last module it is given. If
+    nothing is to be run it fails there."""
     link_all(kit() / "toolchain", folder, "bin")
     link_all(kit() / "toolchain" / "bin", folder / "bin", "clang")
     script = folder / "bin" / "clang"
-    script.write_text(LEAVING.format(module=module, clang=clang()))
+    script.write_text(LEAVING.format(module=module, clang=clang(), unless="" if runs else UNLESS_LAST))
     script.chmod(0o755)
 
 
@@ -75,8 +79,8 @@ def make_trying_kit(folder: Path, *others: str) -> Path:
     return folder / "bin" / "rt"
 
 
-def make_leaving_kit(folder: Path, module: Path) -> Path:
+def make_leaving_kit(folder: Path, module: Path, runs: bool = True) -> Path:
     """Such a folder with such a compiler; gives its `rt`."""
     rt = make_trying_kit(folder, "toolchain")
-    make_leaving_compiler(folder / "toolchain", module)
+    make_leaving_compiler(folder / "toolchain", module, runs)
     return rt

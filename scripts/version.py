@@ -9,6 +9,7 @@ from toolchain import ROOT
 PLACES = {
     "python/polyover/__init__.py": r'^__version__ = "(.*)"$',
     "js/package.json": r'^  "version": "(.*)",$',
+    "rust/Cargo.toml": r'^version = "(.*)"$',
     "c/CMakeLists.txt": r"^find_package\(polyover (\S+) REQUIRED\)$",
     "include/polyover.h": r'^#define POLYOVER_VERSION "(.*)"$',
     "CHANGELOG.md": r"^## (.*)$",
