@@ -135,8 +135,9 @@ down to Rattle's library. The order is that of reading: each definition cites on
 
 ## The contract
 
-`self.old.edges` is what the builder holds before the call: the edges of the contours that were added. `self.new.edges`
-is the arrangement that it holds after the call, and `result` is the answer. Clause `result` speaks of the arrangement:
+`self.old.edges` is what the builder holds before the call: the edges of the contours that were added, and where it was
+asked before, the arrangement that was left then. `self.new.edges` is the arrangement that it holds after the call, and
+`result` is the answer. Clause `result` speaks of the arrangement:
 `winds`, the first field of `IsResult`, is the first sentence. Clause `given` speaks of the edges before: `winds` of
 `WindsRoundGiven` is the second sentence. There k is the number of rounds that moved some point, at most one by snap
 rounding (field `few_moving` of `IsArranged`).
