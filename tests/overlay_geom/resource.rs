@@ -17,6 +17,19 @@ fn has_path<I: IntNumber + PartialEq, R: IntShapeResource<I>>(
     index < resource.path_count() && resource.path(index) == points
 }
 
+// Returns whether paths read in turn, from each number on, are those with their numbers.
+fn is_read_in_turn<I: IntNumber + PartialEq, R: IntShapeResource<I>>(resource: &R) -> bool {
+    for first in 0..resource.path_count() {
+        let mut cursor = None;
+        for index in first..resource.path_count() {
+            if resource.path_at(index, &mut cursor) != resource.path(index) {
+                return false;
+            }
+        }
+    }
+    true
+}
+
 // A contour with these points.
 fn contour_of<I: IntNumber>(
     alloc: Global,
@@ -49,8 +62,10 @@ fn is_one_path<I: IntNumber + PartialEq>(
     Ok(
         contour.path_count() == 1
             && has_path(&contour, 0, points)
+            && is_read_in_turn(&contour)
             && path.path_count() == 1
-            && has_path(&path, 0, points),
+            && has_path(&path, 0, points)
+            && is_read_in_turn(&path),
     )
 }
 
@@ -61,7 +76,12 @@ fn has_outline_and_hole<I: IntNumber + PartialEq>(
     hole: &[IntPoint<I>],
 ) -> Result<bool, Fail> {
     let shape = shape_of(alloc, outline, hole)?;
-    Ok(shape.path_count() == 2 && has_path(&shape, 0, outline) && has_path(&shape, 1, hole))
+    Ok(
+        shape.path_count() == 2
+            && has_path(&shape, 0, outline)
+            && has_path(&shape, 1, hole)
+            && is_read_in_turn(&shape),
+    )
 }
 
 // Tests whether shapes have the contours of each as paths, past a shape without contours.
@@ -79,7 +99,8 @@ fn has_contours_of_all<I: IntNumber + PartialEq>(
             && has_path(&shapes, 0, outline)
             && has_path(&shapes, 1, hole)
             && has_path(&shapes, 2, hole)
-            && has_path(&shapes, 3, outline),
+            && has_path(&shapes, 3, outline)
+            && is_read_in_turn(&shapes),
     )
 }
 
@@ -97,9 +118,11 @@ fn lends_paths<I: IntNumber + PartialEq>(
         contours.path_count() == 2
             && has_path(&contours, 0, outline)
             && has_path(&contours, 1, hole)
+            && is_read_in_turn(&contours)
             && shapes.path_count() == 2
             && has_path(&shapes, 0, hole)
-            && has_path(&shapes, 1, outline),
+            && has_path(&shapes, 1, outline)
+            && is_read_in_turn(&shapes),
     )
 }
 

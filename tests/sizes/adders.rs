@@ -38,6 +38,7 @@ fn adders(rt: HostRuntime) -> Result<(), Fail> {
         added(alloc, |it| it.add_contour(&one, SUBJECT))?,
         added(alloc, |it| it.add_path_iter(one.iter().copied(), SUBJECT))?,
         added(alloc, |it| it.add_source(&shape, SUBJECT))?,
+        added(alloc, |it| it.add_source(&shapes, SUBJECT))?,
         added(alloc, |it| it.add_source(&buffer, SUBJECT))?,
         added(alloc, |it| it.add_contours(&shape, SUBJECT))?,
         added(alloc, |it| it.add_shape(&shape, SUBJECT))?,
@@ -68,6 +69,7 @@ fn constructors(rt: HostRuntime) -> Result<(), Fail> {
     assert!(&rt; one == EDGES && edge_count(custom)? == EDGES);
     let counts = [
         edge_count(Overlay::from_subj_and_clip(alloc, &subj, &clip)?)?,
+        edge_count(Overlay::from_subj_and_clip(alloc, &alone, &others)?)?,
         edge_count(Overlay::from_subj_and_clip_custom(alloc, &subj, &clip, options, solver)?)?,
         edge_count(Overlay::with_contours(alloc, &subj, &clip)?)?,
         edge_count(Overlay::with_contours_custom(alloc, &subj, &clip, options, solver)?)?,

@@ -9,6 +9,7 @@ mod one_call;
 mod overlays;
 mod points;
 mod relations;
+mod revisits;
 mod simplified;
 mod strings;
 mod tiles;

@@ -30,6 +30,7 @@ pub mod source {
         pub mod resource {
             pub use overlay_geom::resource::IntShapeResource;
             pub use overlay_geom::resource::borrowed::{BorrowedContours, BorrowedShapes};
+            pub use overlay_geom::resource::cursor::PathCursor;
         }
     }
 }

@@ -161,8 +161,9 @@ impl<I: IntNumber, C: EdgeCount, A: Allocator + Clone> BuilderCore<I, C, A> {
             self.old self.new result }
     {
         self.check_usable()?;
+        let mut cursor = None;
         for index in 0..resource.path_count() {
-            self.add_path(resource.path(index), kind, passing)?;
+            self.add_path(resource.path_at(index, &mut cursor), kind, passing)?;
         }
         Ok(())
     }

@@ -65,3 +65,4 @@ pub mod TourSplits
 pub mod ToursCut
 pub mod TurnedLoops
 pub mod TurnedPoints
+pub mod Visits

@@ -24,4 +24,5 @@ pub mod SlicingWalks
 pub mod TakenBehind
 pub mod TourOrder
 pub mod Tours
+pub mod Visits
 pub mod WalkEntries

@@ -14,3 +14,4 @@ pub mod sliced_shapes;
 pub mod slices;
 mod tour_order;
 pub mod tours;
+mod visits;

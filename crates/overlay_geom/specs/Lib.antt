@@ -11,6 +11,7 @@ pub mod Numbered
 pub mod Numbers
 pub mod OrderedPoints
 pub mod Packed
+pub mod PathCursors
 pub mod Paths
 pub mod Placed
 pub mod Plane

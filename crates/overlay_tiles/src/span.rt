@@ -100,8 +100,9 @@ pub fn bounds_of<I: IntNumber, R0: IntShapeResource<I>>(resource: &R0) -> Option
     ensures in_range { IfSome result (λ b. AreBoundsInRange I.limit (plain_bounds I.whole b)) }
 {
     let mut bounds = None;
+    let mut cursor = None;
     for index in 0..resource.path_count() {
-        bounds = widened(bounds, resource.path(index));
+        bounds = widened(bounds, resource.path_at(index, &mut cursor));
     }
     bounds
 }

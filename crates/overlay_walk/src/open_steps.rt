@@ -160,7 +160,7 @@ impl<I: IntNumber, A: Allocator + Clone> OpenSteps<I, A> {
 }
 
 /// Sorts the steps by the points that they leave.
-fn sort_steps<I: IntNumber, A: Allocator + Clone>(
+pub fn sort_steps<I: IntNumber, A: Allocator + Clone>(
     steps: &mut Vec<Step<I>, A>,
 ) -> Result<(), AllocError>
     ensures permutation { IsPermutation steps.old.items steps.new.items }

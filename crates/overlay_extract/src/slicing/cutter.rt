@@ -5,11 +5,12 @@ ghost use Rattle.overlay_geom.specs.Points.{plain_point};
 ghost use Rattle.overlay_extract.specs.ClosedWalks.{HasLength, IsClosedWalk, IsCutIntoLoops};
 ghost use Rattle.overlay_extract.specs.ClosedWalks.{IsCutSoFar, IsPlaceLeft, NoneLeaves};
 ghost use Rattle.overlay_extract.specs.Repeats.{IsCutAtRepeats, IsCutOnTheWay};
+ghost use Rattle.overlay_extract.specs.Visits.{path_before};
 ghost use Rattle.overlay_walk.specs.Places.{step_at};
 ghost use Rattle.overlay_walk.specs.Steps.{plain_step, plain_steps};
 ghost use Rattle.overlay_walk.specs.Walks.{plain_walks};
 
-use overlay_geom::edge::compare_points;
+use crate::slicing::visits::Visits;
 use overlay_geom::number::IntNumber;
 use overlay_geom::point::IntPoint;
 use overlay_walk::step::Step;
@@ -29,9 +30,12 @@ pub fn cut_loops<I: IntNumber, A: Allocator + Clone>(
     ensures order { IfOk result
         (λ ls. IsCutAtRepeats (plain_steps I.whole walk.now) (plain_walks I.whole ls.items)) }
 {
+    let mut visits = Visits::new(alloc.clone()?, walk)?;
     let mut cutter = LoopCutter::new(alloc)?;
     for place in 0..walk.len() {
-        cutter.visit(walk[place])?;
+        let step = walk[place];
+        let left = visits.note(&cutter.path, step);
+        cutter.visit(step, left)?;
     }
     cutter.into_loops()
 }
@@ -57,9 +61,11 @@ impl<I: IntNumber, A: Allocator + Clone> LoopCutter<I, A> {
         })
     }
 
-    // Goes on by a step from the point reached.
-    fn visit(&mut self, step: Step<I>) -> Result<(), AllocError>
-        requires { HasLength (plain_step I.whole step) }
+    // Goes on by a step from the point reached, which the path may have left before, at this place.
+    fn visit(&mut self, step: Step<I>, left: Option<usize>) -> Result<(), AllocError>
+        requires long { HasLength (plain_step I.whole step) }
+        requires left { IsPlaceLeft (plain_steps I.whole self.old.path.items) (plain_step I.whole step).from left }
+        ensures path { OnOk result (self.new.path.items ≡ path_before left self.old.path.items ++ step ∷ []) }
         ensures on { OnOk result ((start : _) (walked : _) →
             IsCutSoFar start (plain_step I.whole step).from walked (plain_steps I.whole self.old.path.items)
             (plain_walks I.whole self.old.loops.items) →
@@ -71,13 +77,15 @@ impl<I: IntNumber, A: Allocator + Clone> LoopCutter<I, A> {
             IsCutOnTheWay walk (plain_steps I.whole self.new.path.items) rest
             (plain_walks I.whole self.new.loops.items)) }
     {
-        self.cut_at(step.from)?;
+        self.cut_at(step.from, left)?;
         self.path.push(step)?;
         Ok(())
     }
 
-    // Cuts off what is walked since the point reached was visited before, if it was.
-    fn cut_at(&mut self, point: IntPoint<I>) -> Result<(), AllocError>
+    // Cuts off what is walked since the path left the point reached, if it did.
+    fn cut_at(&mut self, point: IntPoint<I>, left: Option<usize>) -> Result<(), AllocError>
+        requires { IsPlaceLeft (plain_steps I.whole self.old.path.items) (plain_point I.whole point) left }
+        ensures path { OnOk result (self.new.path.items ≡ path_before left self.old.path.items) }
         ensures cut { OnOk result ((start : _) (walked : _) →
             IsCutSoFar start (plain_point I.whole point) walked (plain_steps I.whole self.old.path.items)
             (plain_walks I.whole self.old.loops.items) →
@@ -91,7 +99,7 @@ impl<I: IntNumber, A: Allocator + Clone> LoopCutter<I, A> {
             (plain_walks I.whole self.new.loops.items)
             × NoneLeaves (plain_point I.whole point) (plain_steps I.whole self.new.path.items)) }
     {
-        let Some(place) = place_left(&self.path, point) else {
+        let Some(place) = left else {
             return Ok(());
         };
         self.cut_from(place)?;
@@ -139,16 +147,4 @@ impl<I: IntNumber, A: Allocator + Clone> LoopCutter<I, A> {
         loops.push(path)?;
         Ok(loops)
     }
-}
-
-// The place of a step that leaves the point, if there is one.
-fn place_left<I: IntNumber>(path: &[Step<I>], point: IntPoint<I>) -> Option<usize>
-    ensures { IsPlaceLeft (plain_steps I.whole path.now) (plain_point I.whole point) result }
-{
-    for place in 0..path.len() {
-        if compare_points(path[place].from, point).is_eq() {
-            return Some(place);
-        }
-    }
-    None
 }

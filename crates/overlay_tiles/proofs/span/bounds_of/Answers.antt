@@ -12,9 +12,12 @@ loop-index-preserved g c =
     let whole = g.I.IntNumber.whole in
     let paths = g.R0.IntShapeResource.paths c.args.resource.now in
     let i = c.loop-index.index in
-    subst (λ ps. IsBoxFound whole ps c.widened-bounds.result)
-    (sym (flat_map-take_read paths i (plain_points whole c.path.result.now) c.path.ensures (λ p. p)))
-    (c.widened-bounds.ensures (points_of_paths (take i paths)) c.loop-index.invariant)
+    (
+      subst (λ ps. IsBoxFound whole ps c.widened-bounds.result)
+          (sym (flat_map-take_read paths i (plain_points whole c.path_at.result.now) c.path_at.ensures.path (λ p. p)))
+          (c.widened-bounds.ensures (points_of_paths (take i paths)) c.loop-index.invariant.0),
+      c.path_at.ensures.next,
+    )
 
 pub returns-clause-in_range : goal.returns-clause-in_range
 returns-clause-in_range g c =
@@ -25,4 +28,4 @@ returns-clause-in_range g c =
     (subst (λ ps. IsBoxFound whole (points_of_paths ps) c.loop-index.bounds)
     (take_all c.loop-index.index paths
     (subst (λ n. n ≤ c.loop-index.index) c.path_count-index-end.ensures c.loop-index-test.false))
-    c.loop-index.invariant)
+    c.loop-index.invariant.0)

@@ -1,6 +1,8 @@
--- What is walked so far is cut, in order, and what is to come leads back to the start.
-use Rattle.std.proofs.Common.{take, drop}
+-- What is walked so far is cut, in order, and what is to come leads back to the start. The places of the points on the
+-- path are noted.
+use Rattle.std.proofs.Common.{All, take, drop}
 use Rattle.overlay_extract.specs.Repeats.{IsCutOnTheWay}
+use Rattle.overlay_extract.specs.Visits.{AreNoted, IsLeft}
 use Rattle.overlay_extract.proofs.CutPlaces.{IsOnItsWay}
 use Rattle.overlay_walk.specs.Steps.{plain_steps}
 use Rattle.overlay_walk.specs.Walks.{plain_walks}
@@ -13,3 +15,5 @@ invariant-loop-place g l =
     let loops = plain_walks whole l.cutter.loops.items in
     IsOnItsWay (plain_steps whole (take l.place l.walk)) (plain_steps whole (drop l.place l.walk)) path loops
     × IsCutOnTheWay (plain_steps whole l.walk) path (plain_steps whole (drop l.place l.walk)) loops
+    × AreNoted whole l.visits.steps.items l.visits.places.items path
+    × All (λ s. IsLeft whole l.visits.steps.items s.from) (plain_steps whole l.walk)

@@ -5,11 +5,11 @@ use Rattle.overlay_geom.specs.Points.{plain_points}
 use Rattle.overlay_geom.proofs.JoinedLists.{within_cut, slice_get-cut}
 use Rattle.overlay_geom.proofs.resource.borrowed.BorrowedShapesIntShapeResource.path.Goals as goal
 
-pub contour_at-requires : goal.contour_at-requires
-contour_at-requires g c =
+pub contour_at-requires-clause-within : goal.contour_at-requires-clause-within
+contour_at-requires-clause-within g c =
     within_cut (2 ^ 64 - 1) (paths_of_shapes g.I.IntNumber.whole c.args.self.now.shapes.now) c.args.index c.requires
 
 pub returns : goal.returns
 returns g c =
     slice_get-cut (2 ^ 64 - 1) (paths_of_shapes g.I.IntNumber.whole c.args.self.now.shapes.now) c.args.index
-    (plain_points g.I.IntNumber.whole c.contour_at.result.now) c.requires c.contour_at.ensures
+    (plain_points g.I.IntNumber.whole c.contour_at.result.now) c.requires c.contour_at.ensures.contour
