@@ -140,7 +140,9 @@ asked before, the arrangement that was left then. `self.new.edges` is the arrang
 `result` is the answer. Clause `result` speaks of the arrangement:
 `winds`, the first field of `IsResult`, is the first sentence. Clause `given` speaks of the edges before: `winds` of
 `WindsRoundGiven` is the second sentence. There k is the number of rounds that moved some point, at most one by snap
-rounding (field `few_moving` of `IsArranged`).
+rounding (field `few_moving` of `IsArranged`). So the law `snapped_winds_far` (`crates/i_overlay/src/snapped_far.rt`)
+says it outright: by snap rounding the second sentence holds of each point more than 1/2 away, of this call and of those
+that leave no builder.
 """
 NOTATION = """## Notation
 

@@ -11,6 +11,7 @@ pub mod OneQuery
 pub mod OneShots
 pub mod OneSimplified
 pub mod Outcomes
+pub mod PathAnswers
 pub mod Queries
 pub mod Relations
 pub mod ReversedContours
@@ -19,6 +20,7 @@ pub mod SimpleEdges
 pub mod SimpleWindings
 pub mod SimplifiedContours
 pub mod SimplifiedPaths
+pub mod SnappedFar
 pub mod TestedContours
 pub mod ToldRelations
 pub mod TurnedParts

@@ -68,6 +68,7 @@ refused_before {V = V} {W = W} limit {now = now} {old = old} view mid e first =
       query = record {
         usable = tt;
         stays_usable = tt;
+        before = tt;
         arranged = tt;
         content = tt;
         fails = first.fails;

@@ -6,11 +6,13 @@ pub mod Laws
 pub mod OneOutcome
 pub mod OneShot
 pub mod Outcome
+pub mod PathAnswers
 pub mod Points
 pub mod Queries
 pub mod Relations
 pub mod ShapeVectors
 pub mod Simple
 pub mod Simplified
+pub mod SnappedFar
 pub mod UsedUp
 pub mod Views

@@ -1,14 +1,15 @@
 -- Facts that follow from the rounds of a split list: the laws of arrangements put together.
-use Rattle.std.proofs.Common.{◌≡◌, ℕ, ◌+◌, ◌≤◌, ◌^◌, List, [], ◌∷◌, length, refl, sym, ap, ◌∙◌, subst, arith}
+use Rattle.std.proofs.Common.{◌≡◌, ℕ, ◌+◌, ◌≤◌, ◌<◌, ◌^◌, List, [], ◌∷◌, length, refl, sym, ap, ◌∙◌, subst, arith}
 use Rattle.std.specs.Prelude.{Result, Ok, Err, OnOk, IfErr, IsErrOf}
+use Rattle.std.proofs.lemmas.List.Elements.{All-nil, All-cons}
 use Rattle.overlay_geom.specs.declared.error.OverlayError.{OverlayError}
 use Rattle.overlay_geom.specs.declared.error.OverlayError.TheVariants.{Memory, NotSettled, TooManyEdges, Failed}
 use Rattle.overlay_geom.specs.Plane.{Step}
-use Rattle.overlay_geom.specs.Edges.{CountedEdge, ends_of}
+use Rattle.overlay_geom.specs.Edges.{CountedEdge, ends_of, weight}
 use Rattle.overlay_geom.specs.Merged.{IsMerged}
 use Rattle.overlay_geom.specs.Settled.{IsSettled}
 use Rattle.overlay_geom.specs.declared.solver.Solver.{Solver}
-use Rattle.overlay_geom.specs.declared.solver.Solver.TheVariants.{Rounds}
+use Rattle.overlay_geom.specs.declared.solver.Solver.TheVariants.{Rounds, Snapping}
 use Rattle.overlay_arrange.specs.Arranged.{most_rounds, IsArranged, IsArrangedCarrying, IsSplitCarrying}
 use Rattle.overlay_arrange.specs.Arranged.{MayRefuseSplitting}
 use Rattle.overlay_arrange.specs.Content.{IsContent}
@@ -18,6 +19,7 @@ use Rattle.overlay_plane.proofs.DerivedLists.{given_weaker}
 use Rattle.overlay_plane.proofs.Entries.{Contains-map}
 use Rattle.overlay_plane.proofs.ExactRounds.{whole_meetings_are_exact}
 use Rattle.overlay_plane.proofs.FarPoints.{arrangements_keep_far_points, moving_few}
+use Rattle.overlay_plane.proofs.FarSides.{arrangements_keep_far_sides, snaps_keep_sides_beside}
 use Rattle.overlay_plane.proofs.HeldChains.{arrangements_hold_chains}
 use Rattle.overlay_plane.proofs.MovedPoints.{moving_rounds}
 use Rattle.overlay_plane.specs.Arrangements.{IsReachedBy, IsSplit, StaysUnsettled, WeighsTooMuch}
@@ -25,12 +27,18 @@ use Rattle.overlay_plane.specs.Carried.{Carried, edges_in}
 use Rattle.overlay_plane.specs.DerivedData.{AreGiven, ArePieces, AreCutAlong, CarriesMerged, GivesPiece}
 use Rattle.overlay_plane.specs.DerivedData.{done, round}
 use Rattle.overlay_plane.specs.EdgeLists.{IsForwardBy}
+use Rattle.overlay_plane.specs.FarSides.{KeepsSidesBeside}
 use Rattle.overlay_plane.specs.Meetings.{MeetInWholePoints}
 use Rattle.overlay_plane.specs.Rounds.{chain_of, pieces_of}
 
 -- the edges of a content lead forward
 pub forward_content : (limit : ℕ) (es : List CountedEdge) → IsContent limit es → IsForwardBy ends_of es
 forward_content limit es content = λ k d l. (content.held k d l).forward
+
+-- forward edges that were split by snap rounding keep each side beside its edges
+pub snapped_beside : (old new : List CountedEdge) → IsForwardBy ends_of old → IsSplit Snapping 1 old new →
+    KeepsSidesBeside old new
+snapped_beside old new forward split = snaps_keep_sides_beside split.rounds old new split.few forward split.reached
 
 -- forward edges that were split are arranged
 abbrev pub arranged_forward : (solver : Solver) (old new : List CountedEdge) → IsForwardBy ends_of old →
@@ -41,6 +49,7 @@ arranged_forward solver old new forward split =
       rounds = split.rounds;
       few = split.few;
       reached = split.reached;
+      light = split.light;
       moving = moving.0;
       moved = moving.1;
       few_moving = omega (arith, split.few, moving_few split.rounds moving.0 moving.1);
@@ -48,6 +57,9 @@ arranged_forward solver old new forward split =
       exact = λ whole. whole_meetings_are_exact.exact solver split.rounds moving.0 old new forward whole
           split.reached moving.1;
       far = arrangements_keep_far_points solver split.rounds moving.0 old new forward split.reached moving.1;
+      far_sides = arrangements_keep_far_sides solver split.rounds moving.0 old new forward split.reached moving.1;
+      beside = λ snapping. snapped_beside old new forward
+          (subst (λ s. IsSplit s (most_rounds s) old new) snapping split);
       balanced = arrangements_keep_balance solver split.rounds old new split.reached;
       stays = λ was. arranged_stays_arranged was.0 solver was.2 split.rounds was.1 old new was.3 split.reached;
     }
@@ -119,18 +131,19 @@ module _ {C : Type 0} (merges : C → C → C → Type 0) (splits reverses : C �
       rounds = [];
       few = omega arith;
       reached = record { cut = tt; merged = merged; settled = settled };
+      light = All-nil (λ r. weight (pieces_of r) < 2 ^ 31);
     };
     derived = done carries;
   }
 
-  -- a content that is merged, led along chains in a round, and then split was split with one round more
+  -- a content that is merged, led along chains in a round to light pieces, and then split was split with one round more
   pub carried_on : (solver : Solver) (fewer most : ℕ) (old kept left new : List (Carried C))
       (chain : CountedEdge → List Step) → fewer + 1 ≤ most →
       TakesRound solver (edges_in old) (edges_in kept) (edges_in left) chain → CarriesMerged merges old kept →
-      AreCutAlong splits reverses chain kept left →
+      AreCutAlong splits reverses chain kept left → weight (edges_in left) < 2 ^ 31 →
       IsSplitCarrying merges splits reverses solver fewer left new →
       IsSplitCarrying merges splits reverses solver most old new
-  carried_on solver fewer most old kept left new chain le takes carries cut h =
+  carried_on solver fewer most old kept left new chain le takes carries cut light h =
       let later : IsReachedBy solver h.split.rounds (pieces_of takes.taken) (edges_in new) =
       subst (λ (es : List CountedEdge). IsReachedBy solver h.split.rounds es (edges_in new)) (sym takes.leaves)
       h.split.reached in
@@ -139,6 +152,8 @@ module _ {C : Type 0} (merges : C → C → C → Type 0) (splits reverses : C �
           rounds = takes.taken ∷ h.split.rounds;
           few = omega (arith, h.split.few);
           reached = record { cut = (takes.is, later.cut); merged = later.merged; settled = later.settled };
+          light = All-cons (λ r. weight (pieces_of r) < 2 ^ 31) takes.taken h.split.rounds
+              (subst (λ (es : List CountedEdge). weight es < 2 ^ 31) (sym takes.leaves) light) h.split.light;
         };
         derived = round (sym takes.edges) carries
             (given_weaker (ArePieces splits reverses chain) (ArePieces splits reverses (chain_of takes.taken))

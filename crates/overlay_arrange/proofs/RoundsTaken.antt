@@ -1,6 +1,7 @@
 -- A further round: a list that is merged, cut, and then split, was split with that round more.
-use Rattle.std.proofs.Common.{◌≡◌, ◌↔◌, ℕ, ◌+◌, ◌≤◌, true, false, List, [], ◌∷◌, refl, sym, subst, arith}
+use Rattle.std.proofs.Common.{◌≡◌, ◌↔◌, ℕ, ◌+◌, ◌≤◌, ◌<◌, ◌^◌, true, false, List, [], ◌∷◌, refl, sym, subst, arith}
 use Rattle.std.proofs.lemmas.Bool.{false≢true}
+use Rattle.std.proofs.lemmas.List.Elements.{All-nil, All-cons}
 use Rattle.overlay_geom.specs.Edges.{CountedEdge, weight}
 use Rattle.overlay_geom.specs.Merged.{IsMerged}
 use Rattle.overlay_geom.specs.Settled.{IsSettled}
@@ -18,6 +19,7 @@ split_at_once most old new merged settled = record {
   rounds = [];
   few = omega arith;
   reached = record { cut = tt; merged = merged; settled = settled };
+  light = All-nil (λ r. weight (pieces_of r) < 2 ^ 31);
 }
 
 -- the answer that it was not cut is right
@@ -49,16 +51,18 @@ unsettled_at_once most old left none merged unsettled = record {
 abbrev pub Leaves : Solver → List CountedEdge → List CountedEdge → Type 0
 Leaves solver old left = (r : Round) × IsRoundBy solver old r × (pieces_of r ≡ left)
 
--- a list is split if the result of its first round is
+-- a list is split if the result of its first round is, which is light
 pub split_on : (solver : Solver) (fewer most : ℕ) (old left new : List CountedEdge) → fewer + 1 ≤ most →
-    Leaves solver old left → IsSplit solver fewer left new → IsSplit solver most old new
-split_on solver fewer most old left new le (r, is, left_is) h =
+    Leaves solver old left → weight left < 2 ^ 31 → IsSplit solver fewer left new → IsSplit solver most old new
+split_on solver fewer most old left new le (r, is, left_is) light h =
     let reached : IsReachedBy solver h.rounds (pieces_of r) new = subst
     (λ (es : List CountedEdge). IsReachedBy solver h.rounds es new) (sym left_is) h.reached in
     record {
       rounds = r ∷ h.rounds;
       few = omega (arith, h.few);
       reached = record { cut = (is, reached.cut); merged = reached.merged; settled = reached.settled };
+      light = All-cons (λ r. weight (pieces_of r) < 2 ^ 31) r h.rounds
+          (subst (λ (es : List CountedEdge). weight es < 2 ^ 31) (sym left_is) light) h.light;
     }
 
 -- it stays unsettled, so the list does

@@ -22,16 +22,17 @@ module _ {C : Type 0} (merges : C → C → C → Type 0) (splits reverses : C �
     (merged : IsMerged (edges_in old) (edges_in kept)) (unsettled : ¬ (IsSettled (edges_in kept))) where
   -- the pieces of snap rounding, merged, were split in one round, and the values of the edges derive along it
   pub snapped_carrying : (left new : List (Carried C)) → IsContent limit (edges_in old) →
-      CarriesMerged merges old kept → IsLedOnce splits reverses kept left → IsMerged (edges_in left) (edges_in new) →
-      CarriesMerged merges left new → IsSplitCarrying merges splits reverses Snapping 1 old new
-  snapped_carrying left new old_content carries led merged_left carries_left =
+      CarriesMerged merges old kept → IsLedOnce splits reverses kept left → IsContent limit (edges_in left) →
+      IsMerged (edges_in left) (edges_in new) → CarriesMerged merges left new →
+      IsSplitCarrying merges splits reverses Snapping 1 old new
+  snapped_carrying left new old_content carries led left_content merged_left carries_left =
       let forward = forward_content limit (edges_in kept) content in
       let settled = settled_by_snapping (edges_in old) (edges_in kept) forward merged unsettled
       (forward_content limit (edges_in old) old_content) led.points led.led (edges_in left) (edges_in new) led.edges
       merged_left in
       carried_on merges splits reverses Snapping 0 1 old kept left new (chain_by led.points) (omega arith)
       (led_by_snapping (edges_in old) (edges_in kept) forward merged unsettled led.points led.led (edges_in left)
-      led.edges) carries led.carried
+      led.edges) carries led.carried left_content.light
       (carried_at_once merges splits reverses 0 left new merged_left settled carries_left)
 
   -- where the pieces are heavy, the round of snap rounding leaves edges that weigh too much

@@ -5,12 +5,14 @@ use Rattle.overlay_geom.specs.declared.error.OverlayError.{OverlayError}
 use Rattle.overlay_geom.specs.declared.error.OverlayError.TheVariants.{Memory, NotSettled, TooManyEdges, Failed}
 use Rattle.overlay_geom.specs.declared.solver.Solver.{Solver}
 use Rattle.overlay_geom.specs.declared.solver.Solver.TheVariants.{Rounds, Snapping}
-use Rattle.overlay_plane.specs.Arrangements.{IsReachedBy, IsSplit, IsExact, StaysUnsettled, WeighsTooMuch}
+use Rattle.overlay_plane.specs.Arrangements.{IsReachedBy, IsSplit, IsExact, LeaveLightPieces}
+use Rattle.overlay_plane.specs.Arrangements.{StaysUnsettled, WeighsTooMuch}
 use Rattle.overlay_plane.specs.Balance.{HasBalancedCounts}
 use Rattle.overlay_plane.specs.Carried.{Carried, edges_in}
 use Rattle.overlay_plane.specs.ChainLinks.{ChainsHold}
 use Rattle.overlay_plane.specs.DerivedData.{AreDerived}
 use Rattle.overlay_plane.specs.FarPoints.{KeepsFarPoints}
+use Rattle.overlay_plane.specs.FarSides.{KeepsFarSides, KeepsSidesBeside}
 use Rattle.overlay_plane.specs.Meetings.{MeetInWholePoints}
 use Rattle.overlay_plane.specs.Rounds.{Round, MovingRounds}
 
@@ -29,6 +31,7 @@ pub record IsArranged (solver : Solver) (old new : List CountedEdge) : Type 0 wh
   pub rounds : List Round
   pub few : length rounds ≤ most_rounds solver
   pub reached : IsReachedBy solver rounds old new
+  pub light : LeaveLightPieces rounds
   -- the number of rounds that moved some point
   pub moving : ℕ
   pub moved : MovingRounds rounds moving
@@ -41,6 +44,10 @@ pub record IsArranged (solver : Solver) (old new : List CountedEdge) : Type 0 wh
   -- at each point more than half a unit for each moving round away from the edges, in x or in y, there is no edge, and
   -- no winding changes
   pub far : KeepsFarPoints moving old new
+  -- each side's winding stays where its own edges alone are so far, and by snap rounding where none of them has a point
+  -- in the unit square round the point
+  pub far_sides : KeepsFarSides moving old new
+  pub beside : solver ≡ Snapping → KeepsSidesBeside old new
   pub balanced : HasBalancedCounts old → HasBalancedCounts new
   -- an arrangement stays as it is
   pub stays : WasArranged old → new ≡ old

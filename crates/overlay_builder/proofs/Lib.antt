@@ -5,6 +5,7 @@ pub mod FirstPoints
 pub mod Fronts
 pub mod LeadOn
 pub mod LeftOut
+pub mod LightPaths
 pub mod Mapped
 pub mod OneAdding
 pub mod PassedEdges

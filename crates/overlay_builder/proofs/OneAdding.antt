@@ -1,11 +1,10 @@
 -- Paths of which all points are taken lead to one content, and the first that would weigh too much is one.
-use Rattle.std.proofs.Common.{◌≡◌, ◌⊎◌, inl, inr, ⊎_elim, ◌^◌, ◌<◌, ◌≤◌, Bool, true, false, List, [], ◌∷◌, ◌++◌, map}
-use Rattle.std.proofs.Common.{Result, Ok, Err, refl, sym, ap, ap₂, subst, ◌∙◌, arith}
+use Rattle.std.proofs.Common.{◌≡◌, ◌⊎◌, inl, inr, ⊎_elim, ◌^◌, ◌<◌, Bool, true, false, List, [], ◌∷◌, ◌++◌, map}
+use Rattle.std.proofs.Common.{Result, Ok, Err, refl, sym, ap, ap₂, subst, ◌∙◌}
 use Rattle.std.specs.Prelude.{IsErrOf}
 use Rattle.std.proofs.lemmas.Bool.{false≢true}
 use Rattle.std.proofs.lemmas.List.Elements.{All-head, All-tail}
-use Rattle.std.proofs.lemmas.List.Sums.{sum_by-append}
-use Rattle.overlay_geom.specs.Counts.{weight_of_counts}
+use Rattle.std.proofs.lemmas.List.Sorted.{IsPermutation-refl}
 use Rattle.overlay_geom.specs.Edges.{CountedEdge, weight}
 use Rattle.overlay_geom.specs.Plane.{Point}
 use Rattle.overlay_geom.specs.declared.error.OverlayError.{OverlayError}
@@ -18,6 +17,7 @@ use Rattle.overlay_builder.specs.PathLists.AddsPaths.{no_path, path_and_others}
 use Rattle.overlay_builder.specs.Paths.{IsTakenAs, path_steps_of, leads_back}
 use Rattle.overlay_builder.specs.declared.path.PathKind.{PathKind}
 use Rattle.overlay_builder.specs.declared.path.PathKind.TheVariants.{Open, Closed, Thinned}
+use Rattle.overlay_builder.proofs.LightPaths.{not_added, not_all_added}
 
 -- ---- one path
 
@@ -56,50 +56,6 @@ module _ {E : Type 0} where
 
 -- ---- refusals
 
--- edges that are added make no content lighter
-lighter : (xs ys : List CountedEdge) → weight xs ≤ weight (xs ++ ys)
-lighter xs ys = let sum = sum_by-append (λ e. weight_of_counts e.counts) xs ys in omega (arith, sum)
-
--- nor do paths
-lighter_before : (paths : List (AddedPath CountedEdge)) (old new : List CountedEdge) → AddsPaths paths old new →
-    weight old ≤ weight new
-lighter_before [] old new no_path = omega arith
-lighter_before (p ∷ ps) old new (path_and_others {mid = mid} one more) =
-    let first : weight old ≤ weight mid = subst (λ es. weight old ≤ weight es) (sym one.content)
-    (lighter old (map p.edge_for (path_steps_of (leads_back p.kind) one.taken))) in
-    let rest = lighter_before ps mid new more in
-    omega arith
-
--- a path that would weigh too much is not added, with others behind it, to a light content
-not_added : (p : AddedPath CountedEdge) (ps : List (AddedPath CountedEdge)) → takes_all p.kind ≡ true →
-    (old new : List CountedEdge) → WouldWeighTooMuch weight p old → weight new < 2 ^ 31 → ¬ (AddsPaths (p ∷ ps) old new)
-not_added p ps whole old new heavy light (path_and_others {mid = mid} one more) =
-    let same : heavy.content ≡ mid = one_path p whole old heavy.content mid heavy.adds one in
-    let much : (2 ^ 31) ≤ weight mid = subst (λ es. (2 ^ 31) ≤ weight es) same heavy.heavy in
-    let rest = lighter_before ps mid new more in
-    omega arith
-
--- so no list of paths is added of which one would weigh too much behind those before it
-not_all_added : (paths before after : List (AddedPath CountedEdge)) (p : AddedPath CountedEdge) →
-    AreTakenWhole paths → paths ≡ before ++ p ∷ after → (old mid new : List CountedEdge) → AddsPaths before old mid →
-    WouldWeighTooMuch weight p mid → weight new < 2 ^ 31 → ¬ (AddsPaths paths old new)
-not_all_added paths [] after p whole parts old mid new no_path heavy light added =
-    not_added p after (whole_head p after (subst AreTakenWhole parts whole)) old new heavy light
-    (subst (λ ps. AddsPaths ps old new) parts added)
-not_all_added paths (b ∷ bs) after p whole parts old mid new (path_and_others {mid = first} one more) heavy
-    light added =
-    by (subst (λ ps. AddsPaths ps old new) parts added)
-    (not_all_added (bs ++ p ∷ after) bs after p (whole_tail b (bs ++ p ∷ after) all) refl first mid new more
-    heavy light)
-  where
-    all : AreTakenWhole (b ∷ (bs ++ p ∷ after))
-    all = subst AreTakenWhole parts whole
-
-    by : AddsPaths (b ∷ (bs ++ p ∷ after)) old new → ¬ (AddsPaths (bs ++ p ∷ after) first new) → ⊥
-    by (path_and_others {mid = other} one' more') against =
-        against (subst (λ es. AddsPaths (bs ++ p ∷ after) es new)
-        (sym (one_path b (whole_head b (bs ++ p ∷ after) all) old first other one one')) more')
-
 -- two refusals come at one path
 same_stop : (paths before others after later : List (AddedPath CountedEdge)) (p q : AddedPath CountedEdge) →
     AreTakenWhole paths → paths ≡ before ++ p ∷ after → paths ≡ others ++ q ∷ later →
@@ -108,12 +64,12 @@ same_stop : (paths before others after later : List (AddedPath CountedEdge)) (p 
     new ≡ newer
 same_stop paths [] [] after later p q whole parts parts' old new newer no_path no_path heavy heavy' light light' = refl
 same_stop paths [] (b ∷ bs) after later p q whole parts parts' old new newer no_path added' heavy heavy' light light' =
-    absurd (not_added b bs (whole_head b (bs ++ q ∷ later) (subst AreTakenWhole parts' whole)) old newer
+    absurd (not_added b bs old old newer (IsPermutation-refl old)
     (subst (λ r. WouldWeighTooMuch weight r old) (same_head p b after (bs ++ q ∷ later) (sym parts ∙ parts')) heavy)
     light' added')
 same_stop paths (a ∷ front) [] after later p q whole parts parts' old new newer added no_path heavy heavy'
     light light' =
-    absurd (not_added a front (whole_head a (front ++ p ∷ after) (subst AreTakenWhole parts whole)) old new
+    absurd (not_added a front old old new (IsPermutation-refl old)
     (subst (λ r. WouldWeighTooMuch weight r old) (same_head q a later (front ++ p ∷ after) (sym parts' ∙ parts)) heavy')
     light added)
 same_stop paths (a ∷ front) (b ∷ bs) after later p q whole parts parts' old new newer
@@ -161,11 +117,11 @@ module _ (paths : List (AddedPath CountedEdge)) (whole : AreTakenWhole paths) (o
   same_edges new newer r s light light' (inl (ok, added)) (inl (ok', added')) =
       (ok ∙ sym ok', one_content paths whole old.edges new.edges newer.edges added added')
   same_edges new newer r s light light' (inl (ok, added)) (inr (err, stop)) =
-      absurd (not_all_added paths stop.added.before stop.added.after stop.path whole stop.added.parts old.edges
-      newer.edges new.edges stop.added.added stop.refused light added)
+      absurd (not_all_added paths stop.added.before stop.added.after stop.path stop.added.parts old.edges old.edges
+      newer.edges new.edges (IsPermutation-refl old.edges) stop.added.added stop.refused light added)
   same_edges new newer r s light light' (inr (err, stop)) (inl (ok, added)) =
-      absurd (not_all_added paths stop.added.before stop.added.after stop.path whole stop.added.parts old.edges
-      new.edges newer.edges stop.added.added stop.refused light' added)
+      absurd (not_all_added paths stop.added.before stop.added.after stop.path stop.added.parts old.edges old.edges
+      new.edges newer.edges (IsPermutation-refl old.edges) stop.added.added stop.refused light' added)
   same_edges new newer r s light light' (inr (err, stop)) (inr (err', stop')) = (
     err ∙ sym err',
     same_stop paths stop.added.before stop'.added.before stop.added.after stop'.added.after stop.path stop'.path whole

@@ -12,7 +12,7 @@ use Rattle.overlay_arrange.specs.Content.{IsContent}
 use Rattle.overlay_builder.specs.Held.{Held, AnswersQuery}
 
 module _ {V : Type 0} (limit : ℕ) (solver : Solver) (old : Held CountedEdge) where
-  module _ (ready : old.failed ≡ false) (new : Held CountedEdge) where
+  module _ (ready : old.failed ≡ false) (before : IsContent limit old.edges) (new : Held CountedEdge) where
     -- one that had not answers by the arrangement of its edges, or remembers that it was refused
     pub answers_arranged : (r : Result V OverlayError) → OnOk r (IsArranged solver old.edges new.edges) →
         IsContent limit new.edges
@@ -20,6 +20,7 @@ module _ {V : Type 0} (limit : ℕ) (solver : Solver) (old : Held CountedEdge) w
     answers_arranged (Ok v) arranged content refused flag = record {
       usable = ready;
       stays_usable = flag;
+      before = before;
       arranged = arranged;
       content = content;
       fails = tt;
@@ -33,6 +34,7 @@ module _ {V : Type 0} (limit : ℕ) (solver : Solver) (old : Held CountedEdge) w
     answers_arranged (Err e) arranged content refused flag = record {
       usable = tt;
       stays_usable = tt;
+      before = tt;
       arranged = tt;
       content = tt;
       fails = flag;
@@ -50,7 +52,8 @@ pub answers_after : {U V : Type 0} (limit : ℕ) (solver : Solver) (old mid new 
     → (r : Result V OverlayError) → new.edges ≡ mid.edges → new.failed ≡ is_err r → IfErr r (λ e. e ≡ Memory)
     → AnswersQuery limit solver old new r
 answers_after {V = V} limit solver old mid new v first r edges flag refused =
-    answers_arranged limit solver old first.usable new r (by r) (subst (IsContent limit) (sym edges) first.content)
+    answers_arranged limit solver old first.usable first.before new r (by r)
+    (subst (IsContent limit) (sym edges) first.content)
     (IfErr-weaker r _ _ (λ e is. subst (MayRefuseSplitting solver old.edges) (sym is) tt) refused) flag
   where
     by : (r : Result V OverlayError) → OnOk r (IsArranged solver old.edges new.edges)

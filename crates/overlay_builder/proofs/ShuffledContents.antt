@@ -67,7 +67,7 @@ taken_alike Thinned given first second a b =
     same_steps first second (one_thinning given given (one_round_itself given) first second a b)
 
 module _ {E : Type 0} where
-  one_shuffled : (p : AddedPath E) (old other new newer : List E) → IsPermutation old other → AddsOne p old new →
+  pub one_shuffled : (p : AddedPath E) (old other new newer : List E) → IsPermutation old other → AddsOne p old new →
       AddsOne p other newer → IsPermutation new newer
   one_shuffled p old other new newer before a b =
       subst (λ es. IsPermutation es newer) (sym a.content)

@@ -2,11 +2,14 @@
 -- left open, since a thinned path may begin at another point. So is whether memory is refused.
 use Rattle.std.specs.Prelude.{◌≡◌, Bool, true, false, List, All, Result, IsErrOf}
 use Rattle.std.specs.List.Sorted.{IsPermutation}
-use Rattle.overlay_geom.specs.Edges.{CountedEdge, weight}
+use Rattle.overlay_geom.specs.Edges.{CountedEdge, ends_of, weight}
 use Rattle.overlay_geom.specs.declared.error.OverlayError.{OverlayError}
 use Rattle.overlay_geom.specs.declared.error.OverlayError.TheVariants.{Memory}
+use Rattle.overlay_geom.specs.declared.solver.Solver.TheVariants.{Snapping}
+use Rattle.overlay_plane.specs.EdgeLists.{IsForwardBy}
+use Rattle.overlay_arrange.specs.Arranged.{IsArranged, MayRefuseSplitting}
 use Rattle.overlay_builder.specs.Held.{Held}
-use Rattle.overlay_builder.specs.PathLists.{AddedPath, AddsPaths, AddsAsAsked}
+use Rattle.overlay_builder.specs.PathLists.{AddedPath, AddsPaths, AddsAsAsked, HoldsPaths, SomePathWeighsTooMuch}
 use Rattle.overlay_builder.specs.declared.path.PathKind.{PathKind}
 use Rattle.overlay_builder.specs.declared.path.PathKind.TheVariants.{Open, Closed, Thinned}
 
@@ -36,3 +39,17 @@ OneAdding = (paths : List (AddedPath CountedEdge)) → AreTakenWhole paths → (
     (result other : Result (Unit {0}) OverlayError) → AddsAsAsked weight paths old new result →
     AddsAsAsked weight paths old newer other → ¬ (IsErrOf result Memory) → ¬ (IsErrOf other Memory) →
     (result ≡ other) × (new ≡ newer)
+
+-- ---- refusals
+
+-- no path weighs too much, and memory alone may refuse to arrange what they give by snap rounding
+pub record MemoryAloneRefuses (paths : List (AddedPath CountedEdge)) : Type 0 where
+  pub added : ¬ (SomePathWeighsTooMuch paths)
+  pub split : (content : List CountedEdge) → HoldsPaths paths content → (e : OverlayError) →
+      MayRefuseSplitting Snapping content e → e ≡ Memory
+
+-- so it is with paths whose edges snap rounding brings into an arrangement
+abbrev pub ArrangedPathsAreRefusedByMemoryAlone : Type 0
+ArrangedPathsAreRefusedByMemoryAlone = (paths : List (AddedPath CountedEdge)) (content edges : List CountedEdge) →
+    IsForwardBy ends_of content → HoldsPaths paths content → IsArranged Snapping content edges →
+    MemoryAloneRefuses paths

@@ -28,6 +28,7 @@ pub record AnswersQuery {V : Type 0} (limit : ℕ) (solver : Solver) (old new : 
   -- only a builder that has not failed answers, and it stays so; it then holds the arrangement of its edges
   pub usable : OnOk result (old.failed ≡ false)
   pub stays_usable : OnOk result (new.failed ≡ false)
+  pub before : OnOk result (IsContent limit old.edges)
   pub arranged : OnOk result (IsArranged solver old.edges new.edges)
   pub content : OnOk result (IsContent limit new.edges)
   -- any refusal leaves the builder failed; it is Failed exactly where the builder had failed before

@@ -1,7 +1,7 @@
 -- Edges cut through points on their lines keep their windings: along a line the signs of steps strictly below a point
 -- telescope.
-use Rattle.std.proofs.Common.{◌≡◌, ⊎_elim, Bool, true, false, cond, ◌&&◌, ℤ, pos, ◌-ℤ◌, ◌*ℤ◌, ◌<ℤ◌, int_lt, List, []}
-use Rattle.std.proofs.Common.{◌∷◌, ◌++◌, Contains, sym, ap, ◌∙◌}
+use Rattle.std.proofs.Common.{◌≡◌, ◌⊎◌, inr, ⊎_elim, Bool, true, false, cond, ◌&&◌, ℤ, pos, ◌-ℤ◌, ◌*ℤ◌, ◌<ℤ◌}
+use Rattle.std.proofs.Common.{int_lt, List, [], ◌∷◌, ◌++◌, Contains, sym, ap, ◌∙◌}
 use Rattle.std.specs.List.{All, flat_map}
 use Rattle.std.specs.Ordering.{int_eq}
 use Rattle.std.proofs.lemmas.Bool.{and_parts, or_cases}
@@ -11,7 +11,7 @@ use Rattle.std.proofs.lemmas.List.Elements.{All-contains, All-append, All-cons, 
 use Rattle.overlay_geom.specs.Plane.{Point, PlanePoint, Step, Edge, point_lt, edge_of, sign_of, is_strictly_below}
 use Rattle.overlay_geom.specs.Plane.{steps_between, steps_through, winding}
 use Rattle.overlay_geom.specs.Edges.{CountedEdge, ends_of, subj_of, clip_of, winding_by}
-use lib.IntN.{*ℤ-zero}
+use lib.IntN.{*ℤ-zero, *ℤ_comm}
 use Rattle.overlay_geom.proofs.Identities.{solve, number, ◌⊕◌, ◌⊗◌, ◌⊖◌, ◌≗◌}
 use Rattle.overlay_geom.proofs.Signs.{linear, zero_of_mul-zero, mul-zero}
 use Rattle.overlay_plane.specs.Heights.{width}
@@ -84,38 +84,51 @@ abbrev pub WindsAsBefore : (CountedEdge → List Point) → PlanePoint → Count
 WindsAsBefore points p e = winding (steps_through e.a (points e ++ e.b ∷ [])) p ≡ one_if
     (is_strictly_below (ends_of e) p)
 
--- the pieces of an edge make together the windings of the edge round a point round which its chain winds as the edge
+-- the pieces of an edge make together the windings of the edge round a point round which its chain winds as the edge,
+-- and none where the edge has no count
 pieces_wind : (count : CountedEdge → ℤ) (points : CountedEdge → List Point) →
     ((e : CountedEdge) (s : Step) → count (piece_along e s) ≡ sign_of s *ℤ count e) →
-    (p : PlanePoint) (e : CountedEdge) → WindsAsBefore points p e →
+    (p : PlanePoint) (e : CountedEdge) → (count e ≡ pos 0) ⊎ WindsAsBefore points p e →
     winding_by count (pieces_through points e) p ≡ cond (is_strictly_below (ends_of e) p) (count e) (pos 0)
-pieces_wind count points each p e winds =
+pieces_wind count points each p e counted =
     total-map (λ f. cond (is_strictly_below (ends_of f) p) (count f) (pos 0)) (piece_along e) chain
     ∙ total-same (λ s. cond (is_strictly_below (edge_of s) p) (count (piece_along e s)) (pos 0))
     (λ s. count e *ℤ winding_part p s) chain
     (λ s at. ap (λ z. cond (is_strictly_below (edge_of s) p) z (pos 0)) (each e s)
     ∙ taken_out (is_strictly_below (edge_of s) p) (sign_of s) (count e))
     ∙ total-times (count e) (winding_part p) chain
-    ∙ ap (λ z. count e *ℤ z) winds
+    ∙ ⊎_elim (λ none. times_none (count e) (winding chain p) (one_if (is_strictly_below (ends_of e) p)) none)
+    (λ winds. ap (λ z. count e *ℤ z) winds) counted
     ∙ times_one (is_strictly_below (ends_of e) p) (count e)
   where
     chain : List Step
     chain = steps_through e.a (points e ++ e.b ∷ [])
 
+    times_none : (c w z : ℤ) → c ≡ pos 0 → c *ℤ w ≡ c *ℤ z
+    times_none c w z none = *ℤ_comm c w ∙ mul-zero w c none ∙ sym (*ℤ_comm c z ∙ mul-zero z c none)
+
     times_one : (t : Bool) (c : ℤ) → c *ℤ one_if t ≡ cond t c (pos 0)
     times_one true c = solve 1 (λ c. c ⊗ number (pos 1) ≗ c) tt c
     times_one false c = *ℤ-zero c
 
--- a list whose edges are cut makes the windings of the list there
-pub winding_by-cut : (count : CountedEdge → ℤ) (points : CountedEdge → List Point) (es : List CountedEdge) →
+-- a list whose edges are cut makes the windings of the list there, where edges with counts wind as before
+pub winding_by-cut_counted : (count : CountedEdge → ℤ) (points : CountedEdge → List Point) (es : List CountedEdge) →
     ((e : CountedEdge) (s : Step) → count (piece_along e s) ≡ sign_of s *ℤ count e) →
-    (p : PlanePoint) → ((e : CountedEdge) → Contains es e → WindsAsBefore points p e) →
+    (p : PlanePoint) → ((e : CountedEdge) → Contains es e → (count e ≡ pos 0) ⊎ WindsAsBefore points p e) →
     winding_by count (flat_map (pieces_through points) es) p ≡ winding_by count es p
-winding_by-cut count points es each p winds =
+winding_by-cut_counted count points es each p winds =
     total-flat_map (λ f. cond (is_strictly_below (ends_of f) p) (count f) (pos 0)) (pieces_through points) es
     ∙ total-same (λ e. winding_by count (pieces_through points e) p)
     (λ e. cond (is_strictly_below (ends_of e) p) (count e) (pos 0)) es
     (λ e at. pieces_wind count points each p e (winds e at))
+
+-- so where all wind as before
+pub winding_by-cut : (count : CountedEdge → ℤ) (points : CountedEdge → List Point) (es : List CountedEdge) →
+    ((e : CountedEdge) (s : Step) → count (piece_along e s) ≡ sign_of s *ℤ count e) →
+    (p : PlanePoint) → ((e : CountedEdge) → Contains es e → WindsAsBefore points p e) →
+    winding_by count (flat_map (pieces_through points) es) p ≡ winding_by count es p
+winding_by-cut count points es each p winds = winding_by-cut_counted count points es each p
+    (λ e at. inr (winds e at))
 
 -- the law of edges cut on their lines
 pub cutting_on_lines_keeps_windings : CuttingOnLinesKeepsWindings

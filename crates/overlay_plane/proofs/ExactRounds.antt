@@ -1,11 +1,11 @@
 -- Edges that meet only in whole points or overlap: at most one round is taken, it moves no point, and no winding
 -- changes.
-use Rattle.std.proofs.Common.{◌≡◌, ℕ, ◌≤◌, pos, List, [], ◌∷◌, length, get_or, Contains, refl, ◌∙◌, arith}
+use Rattle.std.proofs.Common.{◌≡◌, ℕ, ◌≤◌, true, pos, List, [], ◌∷◌, length, get_or, Contains, refl, ◌∙◌, arith}
 use Rattle.std.specs.List.{All, Any}
 use Rattle.std.proofs.lemmas.List.Elements.{All-contains, Contains-get_or}
 use Rattle.overlay_geom.specs.Edges.{CountedEdge, ends_of}
 use Rattle.overlay_geom.specs.Merged.{HaveSameWindings}
-use Rattle.overlay_geom.specs.Plane.{Point, IsAt, in_plane, cross_at}
+use Rattle.overlay_geom.specs.Plane.{Point, PlanePoint, IsAt, in_plane, cross_at, point_lt}
 use Rattle.overlay_geom.specs.declared.solver.Solver.{Solver}
 use Rattle.overlay_geom.proofs.MergedWindings.{windings_from_merged}
 use Rattle.overlay_geom.proofs.Signs.{mul-zero}
@@ -19,7 +19,7 @@ use Rattle.overlay_plane.specs.Rounds.{pieces_of}
 use Rattle.overlay_plane.specs.Rounds.MovingRounds.{none, exact, moving}
 use Rattle.overlay_plane.proofs.AnyRounds.{IsAnyRound, any_round, whole_round}
 use Rattle.overlay_plane.proofs.Entries.{Contains-from_any}
-use Rattle.overlay_plane.proofs.CutOnLines.{cutting_on_lines_keeps_windings}
+use Rattle.overlay_plane.proofs.CutOnLines.{WindsAsBefore, winding-chain_on_line, cutting_on_lines_keeps_windings}
 use Rattle.overlay_plane.proofs.SettledPieces.{pieces_settled}
 use Rattle.overlay_plane.proofs.WholeCuts.{CutsWhole, cuts_whole, moves_none, cut_held}
 use Rattle.overlay_plane.proofs.WholeOnEdges.{at_itself, side_at}
@@ -53,6 +53,12 @@ cuts_on_line r h e has = λ k d l.
     let held = cut_held r h e v has (Contains-get_or (whole_cuts r e) k d l) in
     side_at (ends_of e) v (in_plane v) (at_itself v) ∙ mul-zero (pos 1) (cross_at e.a e.b v) held.on_line
 
+-- the chain of each edge winds as the edge
+pub winds_whole : (r : Round) → CutsWhole r → (p : PlanePoint) (e : CountedEdge) → Contains r.edges e →
+    WindsAsBefore (whole_cuts r) p e
+winds_whole r h p e has = winding-chain_on_line (ends_of e)
+    (All-contains (λ e. point_lt e.a e.b ≡ true) r.edges e h.forward has) (whole_cuts r e) (cuts_on_line r h e has) p
+
 -- such a round keeps the windings
 round_keeps_windings : (old : List CountedEdge) (r : Round) → IsRound old r → CutsWhole r →
     HaveSameWindings old (pieces_of r)
@@ -62,7 +68,7 @@ round_keeps_windings old r round h =
     (λ k d l. cuts_on_line r h (get_or r.edges k d) (Contains-get_or r.edges k d l)))
 
 -- no round comes after it
-no_second_round : (solver : Solver) (old : List CountedEdge) (r next : Round) (rounds : List Round) →
+pub no_second_round : (solver : Solver) (old : List CountedEdge) (r next : Round) (rounds : List Round) →
     IsForwardBy ends_of old → MeetInWholePoints old → ¬ (AreRounds solver old (r ∷ next ∷ rounds))
 no_second_round solver old r next rounds forward whole cut = second.unsettled
     (pieces_settled r (cuts_whole old r forward whole (whole_round solver old r whole cut.0)) next.edges second.merged)

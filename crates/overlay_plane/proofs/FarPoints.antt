@@ -27,7 +27,8 @@ use Rattle.overlay_plane.specs.Rounds.MovingRounds.{none, exact, moving}
 use Rattle.overlay_plane.specs.Snaps.{IsOnStep, AreWithinHalf}
 use Rattle.overlay_plane.proofs.AlongLines.{IsCrossedAlike}
 use Rattle.overlay_plane.proofs.AnyRounds.{IsAnyRound, any_rounds}
-use Rattle.overlay_plane.proofs.CutOnLines.{WindsAsBefore, winding_by-cut, cutting_on_lines_keeps_windings}
+use Rattle.overlay_plane.proofs.CutOnLines.{WindsAsBefore, winding-chain_on_line, winding_by-cut}
+use Rattle.overlay_plane.proofs.CutOnLines.{cutting_on_lines_keeps_windings}
 use Rattle.overlay_plane.proofs.EdgesOfSteps.{edge_by}
 use Rattle.overlay_plane.proofs.Ends.{start_on, end_on}
 use Rattle.overlay_plane.proofs.Entries.{Contains-from_map, Contains-from_flat_map, all_of_entries, All-first}
@@ -64,7 +65,7 @@ far_merged k old new merged p far = all_of_entries (IsFarFromEdge k p) new (λ g
     (All-contains (IsFarFromEdge k p) old found.0 far found.1))
 
 -- it is off them
-off_far : (k : ℕ) (es : List CountedEdge) (p : PlanePoint) → IsFarFrom k es p → IsOff (map ends_of es) p
+pub off_far : (k : ℕ) (es : List CountedEdge) (p : PlanePoint) → IsFarFrom k es p → IsOff (map ends_of es) p
 off_far k es p far = All-map (λ f. ¬ (IsOn f p)) ends_of es
     (All-weaker (IsFarFromEdge k p) (λ e. ¬ (IsOn (ends_of e) p))
     (λ e far on. far p on (halves_weaker 0 k (omega arith) p p (halves_of_itself p))) es far)
@@ -77,18 +78,25 @@ on_step s p on = by (is_forward s) on
     by true on = on
     by false on = on_turned (record { a = s.to; b = s.from }) p on
 
--- where each point of a chain that is within k/2 of p tells of one of its edge within m/2, a point more than m/2 away
--- from all edges is more than k/2 away from the pieces
+-- where each point of a step that is within k/2 of p tells of one of an edge within m/2, a point more than m/2 away
+-- from the edge is more than k/2 away from the step's piece
+pub far_piece : (k m : ℕ) (p : PlanePoint) (e : CountedEdge) (s : Step) →
+    ((h : PlanePoint) → IsOnStep s h → AreWithinHalves k h p →
+    (q : PlanePoint) × IsOn (ends_of e) q × AreWithinHalves m q p) →
+    IsFarFromEdge m p e → IsFarFromEdge k p (piece_along e s)
+far_piece k m p e s near far h on within = let q = near h (on_step s h on) within in far q.0 q.1 q.2
+
+-- so a point more than m/2 away from all edges is more than k/2 away from the pieces
 far_pieces : (k m : ℕ) (r : Round) (p : PlanePoint) →
     ((e : CountedEdge) → Contains r.edges e → (s : Step) → Contains (chain_of r e) s → (h : PlanePoint) →
     IsOnStep s h → AreWithinHalves k h p → (q : PlanePoint) × IsOn (ends_of e) q × AreWithinHalves m q p) →
     IsFarFrom m r.edges p → IsFarFrom k (pieces_of r) p
-far_pieces k m r p near far = all_of_entries (IsFarFromEdge k p) (pieces_of r) (λ g has h on within.
+far_pieces k m r p near far = all_of_entries (IsFarFromEdge k p) (pieces_of r) (λ g has.
     let of = Contains-from_flat_map (pieces_through (whole_cuts r)) r.edges g has in
     let along = Contains-from_map (piece_along of.0) (chain_of r of.0) g of.2 in
-    let q = near of.0 of.1 along.0 along.1 h
-    (on_step along.0 h (subst (λ (c : CountedEdge). IsOn (ends_of c) h) (sym along.2) on)) within in
-    All-contains (IsFarFromEdge m p) r.edges of.0 far of.1 q.0 q.1 q.2)
+    subst (IsFarFromEdge k p) along.2
+    (far_piece k m p of.0 along.0 (near of.0 of.1 along.0 along.1)
+    (All-contains (IsFarFromEdge m p) r.edges of.0 far of.1)))
 
 -- ---- whole points at most 1/2 away from points of an edge
 
@@ -201,33 +209,40 @@ module _ (old : List CountedEdge) (r : Round) (forward : IsForwardBy ends_of old
       (λ q at. (q, round.on e has q at, record { in_x = round.rounding.near_x q; in_y = round.rounding.near_y q }))
 
   -- each point of a chain is within half a unit of its edge
-  near_chain : (e : CountedEdge) → Contains r.edges e → (s : Step) → Contains (chain_of r e) s → (h : PlanePoint) →
+  pub near_chain : (e : CountedEdge) → Contains r.edges e → (s : Step) → Contains (chain_of r e) s → (h : PlanePoint) →
       IsOnStep s h → (q : PlanePoint) × IsOn (ends_of e) q × AreWithinHalf q h
   near_chain e has s has_s h on = near_taken_step (ends_of e) s
       (All-contains (IsBetweenGood (IsTakenFrom (ends_of e))) (chain_of r e) s
       (good_through (IsTakenFrom (ends_of e)) e.a (whole_cuts r e ++ e.b ∷ []) (taken_start e) (taken_after e has))
       has_s) h on
 
+  -- where it is within k/2 of p, the edge has a point half a unit further
+  pub near_by_moving : (k : ℕ) (p : PlanePoint) (e : CountedEdge) → Contains r.edges e → (s : Step) →
+      Contains (chain_of r e) s → (h : PlanePoint) → IsOnStep s h → AreWithinHalves k h p →
+      (q : PlanePoint) × IsOn (ends_of e) q × AreWithinHalves (suc k) q p
+  near_by_moving k p e has s has_s h on within =
+      let q = near_chain e has s has_s h on in (q.0, q.1, halves_on k q.0 h p q.2 within)
+
   -- a chain winds round p as its edge
-  winds_far : (k : ℕ) (p : PlanePoint) → IsFarFrom (suc k) r.edges p → (e : CountedEdge) → Contains r.edges e →
+  pub winds_far : (k : ℕ) (p : PlanePoint) (e : CountedEdge) → Contains r.edges e → IsFarFromEdge (suc k) p e →
       WindsAsBefore (whole_cuts r) p e
-  winds_far k p far e has = chain_winds_alike (IsTakenFrom (ends_of e)) (whole_cuts r) e (before_of e has) p
+  winds_far k p e has far = chain_winds_alike (IsTakenFrom (ends_of e)) (whole_cuts r) e (before_of e has) p
       (taken_start e) (taken_after e has)
       (crossed_far (ends_of e) (before_of e has) p
-      (λ q on half. All-contains (IsFarFromEdge (suc k) p) r.edges e far has q on
-      (halves_weaker 1 (suc k) (omega arith) q p (halves_of_half q p half))))
+      (λ q on half. far q on (halves_weaker 1 (suc k) (omega arith) q p (halves_of_half q p half))))
 
   -- the pieces leave p as it is, half a unit less far
   far_by_moving : (k : ℕ) (p : PlanePoint) → IsFarFrom (suc k) old p → StaysFar k old (pieces_of r) p
   far_by_moving k p far_old =
       let far = far_merged (suc k) old r.edges round.merged p far_old in
       let merged = windings_from_merged old r.edges round.merged in
+      let winds : (e : CountedEdge) → Contains r.edges e → WindsAsBefore (whole_cuts r) p e =
+      λ e has. winds_far k p e has (All-contains (IsFarFromEdge (suc k) p) r.edges e far has) in
       record {
         far = far_pieces k (suc k) r p
-            (λ e has s has_s h on within. let q = near_chain e has s has_s h on in
-            (q.0, q.1, halves_on k q.0 h p q.2 within)) far;
-        subj = winding_by-cut subj_of (whole_cuts r) r.edges subj_of_piece p (winds_far k p far) ∙ merged.subj p;
-        clip = winding_by-cut clip_of (whole_cuts r) r.edges clip_of_piece p (winds_far k p far) ∙ merged.clip p;
+            (near_by_moving k p) far;
+        subj = winding_by-cut subj_of (whole_cuts r) r.edges subj_of_piece p winds ∙ merged.subj p;
+        clip = winding_by-cut clip_of (whole_cuts r) r.edges clip_of_piece p winds ∙ merged.clip p;
       }
 
   -- ---- that moves none
@@ -245,7 +260,7 @@ module _ (old : List CountedEdge) (r : Round) (forward : IsForwardBy ends_of old
         (round.on e has q at))
 
     -- so it lies on the edge
-    on_chain : (e : CountedEdge) → Contains r.edges e → (s : Step) → Contains (chain_of r e) s → (h : PlanePoint) →
+    pub on_chain : (e : CountedEdge) → Contains r.edges e → (s : Step) → Contains (chain_of r e) s → (h : PlanePoint) →
         IsOnStep s h → IsOn (ends_of e) h
     on_chain e has s has_s h on = on_step_between (ends_of e) (before_of e has) s
         (All-contains (IsBetweenGood (λ v. IsOn (ends_of e) (in_plane v))) (chain_of r e) s
@@ -259,6 +274,12 @@ module _ (old : List CountedEdge) (r : Round) (forward : IsForwardBy ends_of old
         (λ v on. on.on_line)
         (whole_cuts r e)
         (All-first (λ v. IsOn (ends_of e) (in_plane v)) (whole_cuts r e) (e.b ∷ []) (on_edge_after e has)))
+
+    -- the chain of an edge winds as the edge
+    pub winds_still : (p : PlanePoint) (e : CountedEdge) → Contains r.edges e → WindsAsBefore (whole_cuts r) p e
+    winds_still p e has = winding-chain_on_line (ends_of e)
+        (All-contains (λ e. point_lt e.a e.b ≡ true) r.edges e edges_forward has) (whole_cuts r e)
+        (All-contains (AreOnLine (whole_cuts r)) r.edges e on_line has) p
 
     -- the pieces leave p as it is, and as far
     far_by_still : (k : ℕ) (p : PlanePoint) → IsFarFrom k old p → StaysFar k old (pieces_of r) p

@@ -62,6 +62,7 @@ pub mod Ends
 pub mod Entries
 pub mod ExactRounds
 pub mod FarPoints
+pub mod FarSides
 pub mod FilledEdges
 pub mod FirstInShape
 pub mod FoundEntries
@@ -70,6 +71,7 @@ pub mod FoundNumbers
 pub mod FoundWindings
 pub mod FourInARow
 pub mod FreeHoles
+pub mod GivenPredicates
 pub mod GreatestBelow
 pub mod GreatestTaken
 pub mod GroupSteps
@@ -121,6 +123,7 @@ pub mod NearAbove
 pub mod NearAbscissas
 pub mod NearBetween
 pub mod NearChains
+pub mod NearOff
 pub mod Nearest
 pub mod Neighbours
 pub mod NextAnchors

@@ -65,7 +65,7 @@ off_all es p h = All-map (λ e. ¬ (IsOn e p)) ends_of es (All-weaker (Contains 
     (All-contains_itself es))
 
 -- n times a number that is not above -1 is at most -n
-times_below : (n s : ℤ) → pos 0 <ℤ n → s <ℤ pos 0 → (n *ℤ s +ℤ n) ≤ℤ pos 0
+pub times_below : (n s : ℤ) → pos 0 <ℤ n → s <ℤ pos 0 → (n *ℤ s +ℤ n) ≤ℤ pos 0
 times_below n s positive low =
     let le = mul-le n (s +ℤ pos 1) (pos 0) (omega linear) (omega linear) in
     let sum = solve 2 (λ n s. n ⊗ (s ⊕ number (pos 1)) ≗ n ⊗ s ⊕ n) tt n s in
@@ -73,7 +73,7 @@ times_below n s positive low =
     omega linear
 
 -- and n times one above 0 is n or more
-times_above : (n s : ℤ) → pos 0 <ℤ n → pos 0 <ℤ s → n ≤ℤ (n *ℤ s)
+pub times_above : (n s : ℤ) → pos 0 <ℤ n → pos 0 <ℤ s → n ≤ℤ (n *ℤ s)
 times_above n s positive high =
     let le = mul-le n (pos 0) (s -ℤ pos 1) (omega linear) (omega linear) in
     let sum = solve 2 (λ n s. n ⊗ (s ⊖ number (pos 1)) ≗ n ⊗ s ⊖ n) tt n s in

@@ -1,31 +1,36 @@
 -- The rounds that a solver takes leave the same pieces one after another, and end together: an arrangement takes none.
-use Rattle.std.proofs.Common.{◌≡◌, inl, inr, true, false, List, [], ◌∷◌, ◌++◌, sym, subst, ◌∙◌}
+use Rattle.std.proofs.Common.{◌≡◌, inl, inr, ◌≤◌, ◌<◌, ◌^◌, true, false, List, [], ◌∷◌, ◌++◌, length, sym, subst}
+use Rattle.std.proofs.Common.{◌∙◌, arith}
 use Rattle.std.specs.Bool.{⊤}
 use Rattle.std.specs.List.Sorted.{IsPermutation}
-use Rattle.std.proofs.lemmas.List.Sorted.{IsPermutation-sym}
+use Rattle.std.proofs.lemmas.List.Sorted.{All-permutation, Contains-permutation, IsPermutation-sym}
 use Rattle.std.proofs.lemmas.List.Elements.{All-contains, All-head, All-tail, All-weaker}
-use Rattle.overlay_geom.specs.Edges.{CountedEdge, ends_of, counts_nothing}
+use Rattle.overlay_geom.specs.Edges.{CountedEdge, ends_of, counts_nothing, weight}
 use Rattle.overlay_geom.specs.Merged.{IsMerged, joined_edge}
 use Rattle.overlay_geom.specs.Plane.{Point, PlanePoint, Step, point_lt, steps_through}
 use Rattle.overlay_geom.specs.Settled.{IsSettled}
+use Rattle.overlay_geom.specs.declared.solver.Solver.{Solver}
 use Rattle.overlay_geom.specs.declared.solver.Solver.TheVariants.{Rounds, Snapping}
 use Rattle.overlay_geom.proofs.MergedOnce.{IsMerged-unique}
 use Rattle.overlay_geom.proofs.Merging.{JoinAlike, IsMerged-alike, IsMerged-from_alike}
 use Rattle.overlay_geom.proofs.Shuffled.{alike_shuffled}
-use Rattle.overlay_plane.specs.Arrangements.{IsReachedBy}
+use Rattle.overlay_plane.specs.Arrangements.{IsReachedBy, LeaveLightPieces, WeighsTooMuch}
 use Rattle.overlay_plane.specs.Cutting.{pieces_through, piece_along}
 use Rattle.overlay_plane.specs.Determined.{RoundAs, OneArrangement, OneSnappedArrangement}
-use Rattle.overlay_plane.specs.Determined.{OneSnappedArrangementOfShuffled}
+use Rattle.overlay_plane.specs.Determined.{OneSnappedArrangementOfShuffled, OneWholeArrangement}
+use Rattle.overlay_plane.specs.Determined.{LightSnapsAreNotHeavy}
 use Rattle.overlay_plane.specs.EdgeLists.{IsForwardBy}
 use Rattle.overlay_plane.specs.Meetings.{MeetInWholePoints}
 use Rattle.overlay_plane.specs.RoundLists.{AreEachRounds, IsSnapRound}
 use Rattle.overlay_plane.specs.Rounds.{Round, IsRound, pieces_of, whole_cuts, after_rounds}
-use Rattle.overlay_plane.proofs.AnyRounds.{IsAnyRound, any_round}
+use Rattle.overlay_plane.proofs.AnyRounds.{IsAnyRound, any_round, whole_round}
 use Rattle.overlay_plane.proofs.Entries.{all_of_entries, Contains-from_flat_map, Contains-from_map}
+use Rattle.overlay_plane.proofs.ExactRounds.{no_second_round}
 use Rattle.overlay_plane.proofs.LinksKept.{IsLong}
 use Rattle.overlay_plane.proofs.NearChains.{long_forward}
 use Rattle.overlay_plane.proofs.OneRound.{one_round, one_whole_round, one_snap}
 use Rattle.overlay_plane.proofs.StepsAlong.{long_through}
+use Rattle.overlay_plane.proofs.WholeCuts.{whole_meetings_merged}
 
 -- ---- rounds of one kind
 
@@ -153,3 +158,62 @@ pub one_arrangement_of_shuffled : OneSnappedArrangementOfShuffled
 one_arrangement_of_shuffled rounds others old other new newer forward shuffled reached reached' =
     one_snapped_arrangement rounds others old new newer forward reached
     (reached_alike other old newer others (alike_shuffled other old (IsPermutation-sym old other shuffled)) reached')
+
+-- ---- weights
+
+-- a snap round of a list is one of the list in another order
+snap_shuffled : (old other : List CountedEdge) (r : Round) → IsPermutation old other → IsSnapRound other r →
+    IsSnapRound old r
+snap_shuffled old other r shuffled =
+    snap_alike other old r (alike_shuffled other old (IsPermutation-sym old other shuffled))
+
+pub light_snaps_are_not_heavy : LightSnapsAreNotHeavy
+light_snaps_are_not_heavy rounds old other new forward shuffled reached light heavy =
+    by rounds heavy.rounds reached light heavy.some heavy.few heavy.cut heavy.heavy
+  where
+    by : (rs ss : List Round) → IsReachedBy Snapping rs old new → LeaveLightPieces rs → 1 ≤ length ss →
+        length ss ≤ 1 → AreEachRounds IsSnapRound other ss → ¬ ((2 ^ 31) ≤ weight (after_rounds other ss))
+    by rs [] reached light some few cut heavy = absurd (omega (arith, some))
+    by rs (s ∷ next ∷ ss) reached light some few cut heavy = absurd (omega (arith, few))
+    by [] (s ∷ []) reached light some few cut heavy =
+        (any_round Snapping old s (snap_shuffled old other s shuffled cut.0)).unsettled
+        (subst IsSettled (IsMerged-unique old new s.edges reached.merged
+        (any_round Snapping old s (snap_shuffled old other s shuffled cut.0)).merged) reached.settled)
+    by (r ∷ rs) (s ∷ []) reached light some few cut heavy =
+        let same = one_of_snaps old r s forward reached.cut.0 (snap_shuffled old other s shuffled cut.0) in
+        let small : weight (pieces_of s) < 2 ^ 31 = subst (λ (es : List CountedEdge). weight es < 2 ^ 31) same
+        (All-head (λ (r : Round). weight (pieces_of r) < 2 ^ 31) r rs light) in
+        omega (arith, small, heavy)
+
+-- ---- edges that meet in whole points alone
+
+-- what rounds reach from such edges, snap rounding reaches by them
+pub snapped_where_whole : (solver : Solver) (rounds : List Round) (old new : List CountedEdge) →
+    IsForwardBy ends_of old → MeetInWholePoints old → IsReachedBy solver rounds old new →
+    IsReachedBy Snapping rounds old new
+snapped_where_whole solver [] old new forward whole reached =
+    record { cut = tt; merged = reached.merged; settled = reached.settled }
+snapped_where_whole solver (r ∷ []) old new forward whole reached =
+    let round = whole_round solver old r whole reached.cut.0 in
+    record {
+      cut = (inl (whole_meetings_merged old r.edges round.merged whole, round), tt);
+      merged = reached.merged;
+      settled = reached.settled;
+    }
+snapped_where_whole solver (r ∷ next ∷ rounds) old new forward whole reached =
+    absurd (no_second_round solver old r next rounds forward whole reached.cut)
+
+-- in another order they do so too
+pub whole_shuffled : (old other : List CountedEdge) → IsPermutation old other → MeetInWholePoints old →
+    MeetInWholePoints other
+whole_shuffled old other shuffled whole e f p has_e has_f = whole e f p
+    (Contains-permutation other old e (IsPermutation-sym old other shuffled) has_e)
+    (Contains-permutation other old f (IsPermutation-sym old other shuffled) has_f)
+
+pub one_whole_arrangement : OneWholeArrangement
+one_whole_arrangement solver another rounds others old other new newer forward whole shuffled reached reached' =
+    one_arrangement_of_shuffled rounds others old other new newer forward shuffled
+    (snapped_where_whole solver rounds old new forward whole reached)
+    (snapped_where_whole another others other newer
+    (All-permutation (λ e. point_lt e.a e.b ≡ true) old other shuffled forward)
+    (whole_shuffled old other shuffled whole) reached')

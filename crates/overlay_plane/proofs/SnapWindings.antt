@@ -11,8 +11,9 @@ use Rattle.overlay_geom.proofs.AlongEdge.{over_le}
 use Rattle.overlay_geom.proofs.MergedWindings.{windings_from_merged}
 use Rattle.overlay_geom.proofs.PointOrder.{IsBefore}
 use Rattle.overlay_geom.proofs.Signs.{linear}
+use Rattle.overlay_plane.specs.EdgeLists.{IsForwardBy}
 use Rattle.overlay_plane.specs.Rounds.{Round, whole_cuts, pieces_of}
-use Rattle.overlay_plane.specs.Snaps.{IsSnappedAt, MeetsSquareRound, SnapsKeepWindings}
+use Rattle.overlay_plane.specs.Snaps.{IsSnap, IsSnappedAt, MeetsSquareRound, SnapsKeepWindings}
 use Rattle.overlay_plane.proofs.AlongLines.{winding_part, left_above, IsCrossedAlike, below_where_alike}
 use Rattle.overlay_plane.proofs.AlongLines.{winding_part-where_alike}
 use Rattle.overlay_plane.proofs.CutOnLines.{WindsAsBefore, winding_by-cut}
@@ -76,6 +77,15 @@ chain_winds r rounding e before on p misses =
     (subst (All (IsRounded (ends_of e))) (rounded_places r rounding e) (rounded_after r rounding e on))
     (crossed_alike (ends_of e) before p misses)
 
+-- so does that of each edge of a snap
+pub snapped_winds : (old : List CountedEdge) (r : Round) → IsForwardBy ends_of old → IsSnap old r →
+    (p : PlanePoint) (e : CountedEdge) → Contains r.edges e → ¬ (MeetsSquareRound (ends_of e) p) →
+    WindsAsBefore (whole_cuts r) p e
+snapped_winds old r forward snap p e has = chain_winds r snap.rounding e
+    (forward_from_test (ends_of e) (All-contains (λ e. point_lt e.a e.b ≡ true) r.edges e
+    (forward_merged old r.edges snap.merged forward) has))
+    (All-contains (λ e. IsSnappedAt r.edges e (r.cuts e)) r.edges e snap.cut has).on p
+
 -- the law
 pub snaps_keep_windings : SnapsKeepWindings
 snaps_keep_windings old new r forward snap left p misses = (
@@ -90,9 +100,6 @@ snaps_keep_windings old new r forward snap left p misses = (
     winds : (e : CountedEdge) → Contains r.edges e → WindsAsBefore (whole_cuts r) p e
     winds e has =
         let from = ends_of_merged old r.edges snap.merged e has in
-        chain_winds r snap.rounding e
-        (forward_from_test (ends_of e) (All-contains (λ e. point_lt e.a e.b ≡ true) r.edges e
-        (forward_merged old r.edges snap.merged forward) has))
-        (All-contains (λ e. IsSnappedAt r.edges e (r.cuts e)) r.edges e snap.cut has).on p
+        snapped_winds old r forward snap p e has
         (subst (λ (f : Edge). ¬ (MeetsSquareRound f p)) from.2
         (All-contains (λ e. ¬ (MeetsSquareRound (ends_of e) p)) old from.0 misses from.1))

@@ -1,5 +1,5 @@
 -- The arrangement of a list of counted edges: the result of a run of cutting rounds, merged, in order and settled.
-use Rattle.std.specs.Prelude.{◌≡◌, ℕ, ◌≤◌, List, length}
+use Rattle.std.specs.Prelude.{◌≡◌, ℕ, ◌≤◌, ◌<◌, ◌^◌, List, All, length}
 use Rattle.overlay_geom.specs.Edges.{CountedEdge, ends_of, weight}
 use Rattle.overlay_geom.specs.Merged.{IsMerged, HaveSameWindings}
 use Rattle.overlay_geom.specs.Settled.{IsSettled}
@@ -19,11 +19,16 @@ pub record IsReachedBy (solver : Solver) (rounds : List Round) (old new : List C
   pub merged : IsMerged (after_rounds old rounds) new
   pub settled : IsSettled new
 
--- the solver reaches the second list from the first in `most` rounds or fewer
+-- the pieces that each of the rounds leaves weigh less than 2^31
+abbrev pub LeaveLightPieces : List Round → Type 0
+LeaveLightPieces rounds = All (λ r. weight (pieces_of r) < 2 ^ 31) rounds
+
+-- the solver reaches the second list from the first in `most` rounds or fewer, each of which leaves light pieces
 pub record IsSplit (solver : Solver) (most : ℕ) (old new : List CountedEdge) : Type 0 where
   pub rounds : List Round
   pub few : length rounds ≤ most
   pub reached : IsReachedBy solver rounds old new
+  pub light : LeaveLightPieces rounds
 
 -- `most` cutting rounds leave edges that are not settled
 pub record StaysUnsettled (most : ℕ) (old : List CountedEdge) : Type 0 where

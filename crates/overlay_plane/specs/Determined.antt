@@ -1,12 +1,14 @@
--- Arrangements are determined: by snap rounding outright, and by rounds once it is told how each point of the plane is
--- rounded.
-use Rattle.std.specs.Prelude.{◌≡◌, List, All}
+-- Arrangements are determined: by snap rounding outright, by rounds once it is told how each point of the plane is
+-- rounded, and by both where edges meet in whole points alone.
+use Rattle.std.specs.Prelude.{◌≡◌, ◌^◌, List, All}
 use Rattle.std.specs.List.Sorted.{IsPermutation}
 use Rattle.overlay_geom.specs.Edges.{CountedEdge, ends_of}
 use Rattle.overlay_geom.specs.Plane.{Point, PlanePoint}
+use Rattle.overlay_geom.specs.declared.solver.Solver.{Solver}
 use Rattle.overlay_geom.specs.declared.solver.Solver.TheVariants.{Rounds, Snapping}
-use Rattle.overlay_plane.specs.Arrangements.{IsReachedBy}
+use Rattle.overlay_plane.specs.Arrangements.{IsReachedBy, LeaveLightPieces, WeighsTooMuch}
 use Rattle.overlay_plane.specs.EdgeLists.{IsForwardBy}
+use Rattle.overlay_plane.specs.Meetings.{MeetInWholePoints}
 use Rattle.overlay_plane.specs.Rounds.{Round}
 
 -- the rounds take each point of the plane to this whole point
@@ -29,3 +31,16 @@ abbrev pub OneSnappedArrangementOfShuffled : Type 0
 OneSnappedArrangementOfShuffled = (rounds others : List Round) (old other new newer : List CountedEdge) →
     IsForwardBy ends_of old → IsPermutation old other → IsReachedBy Snapping rounds old new →
     IsReachedBy Snapping others other newer → new ≡ newer
+
+-- where edges meet in whole points alone or overlap there is one arrangement, in whatever order they stand, whichever
+-- solvers reach it
+abbrev pub OneWholeArrangement : Type 0
+OneWholeArrangement = (solver another : Solver) (rounds others : List Round) (old other new newer : List CountedEdge) →
+    IsForwardBy ends_of old → MeetInWholePoints old → IsPermutation old other → IsReachedBy solver rounds old new →
+    IsReachedBy another others other newer → new ≡ newer
+
+-- a list that snap rounding arranges by light pieces does not weigh too much, in whatever order its edges stand
+abbrev pub LightSnapsAreNotHeavy : Type 0
+LightSnapsAreNotHeavy = (rounds : List Round) (old other new : List CountedEdge) → IsForwardBy ends_of old →
+    IsPermutation old other → IsReachedBy Snapping rounds old new → LeaveLightPieces rounds →
+    ¬ (WeighsTooMuch Snapping 1 (2 ^ 31) other)

@@ -18,6 +18,8 @@ pub mod Determined
 pub mod EdgeLists
 pub mod EdgePredicates
 pub mod FarPoints
+pub mod FarSides
+pub mod GivenPredicates
 pub mod GreatestBelow
 pub mod Groups
 pub mod HalfPlanes

@@ -3,6 +3,7 @@
 ghost use Rattle.overlay_plane.specs.Arrangements.{ArrangementsHoldChains, WholeMeetingsAreExact};
 ghost use Rattle.overlay_plane.specs.Arrangements.{ArrangementsKeepBalance, ArrangedStaysArranged};
 ghost use Rattle.overlay_plane.specs.FarPoints.{ArrangementsKeepFarPoints, FarPointsWindAsWanted};
+ghost use Rattle.overlay_plane.specs.FarSides.{ArrangementsKeepFarSides, SnapsKeepSidesBeside};
 ghost use Rattle.overlay_plane.specs.MarkedChains.{MarkedChainsStay};
 
 /// The chains of the edges keep their ends, stay near, and make the counts of the arrangement.
@@ -41,4 +42,16 @@ pub fn arrangements_keep_far_points()
 /// at each point far from these.
 pub fn far_points_wind_as_wanted()
     ensures { FarPointsWindAsWanted }
+{}
+
+/// Each side stays as it is far from its own edges: where k rounds move points, its winding stays at each point more
+/// than k/2 away from the edges that count for it, wherever the other side's edges lie.
+pub fn arrangements_keep_far_sides()
+    ensures { ArrangementsKeepFarSides }
+{}
+
+/// A round of snap rounding keeps a side's winding at each point in whose unit square no edge of this side has a point;
+/// the square includes its left and lower sides.
+pub fn snaps_keep_sides_beside()
+    ensures { SnapsKeepSidesBeside }
 {}

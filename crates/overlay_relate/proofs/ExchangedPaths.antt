@@ -170,7 +170,12 @@ exchanging_keeps_arrangements = record {
   where
     split_of : (solver : Solver) (old new : List CountedEdge) → IsArranged solver old new →
         IsSplit solver (most_rounds solver) old new
-    split_of solver old new h = record { rounds = h.rounds; few = h.few; reached = h.reached }
+    split_of solver old new h = record {
+      rounds = h.rounds;
+      few = h.few;
+      reached = h.reached;
+      light = h.light;
+    }
 
     arranged_of : (keep : Bool) (paths : List GivenPath) (solver : Solver) (old new : List CountedEdge) →
         HoldsPaths (added_paths keep paths) old → IsSplit solver (most_rounds solver) old new →

@@ -1,14 +1,14 @@
 -- The rounds that lead from edges to an arrangement lead from the exchanged edges to the exchanged arrangement, and
 -- from the edges in another order to the same one.
-use Rattle.std.proofs.Common.{◌≡◌, ℕ, ◌≤◌, Bool, true, false, cond, inl, inr, List, [], ◌∷◌, ◌++◌, map, refl, sym}
-use Rattle.std.proofs.Common.{ap, ap₂, ◌∙◌, subst}
+use Rattle.std.proofs.Common.{◌≡◌, ℕ, ◌≤◌, ◌<◌, ◌^◌, Bool, true, false, cond, inl, inr, List, [], ◌∷◌, ◌++◌, map}
+use Rattle.std.proofs.Common.{refl, sym, ap, ap₂, ◌∙◌, subst}
 use Rattle.std.specs.List.{flat_map}
 use Rattle.std.specs.List.Sorted.{IsPermutation}
 use Rattle.std.proofs.lemmas.List.{length-map, map-append}
 use Rattle.std.proofs.lemmas.List.Elements.{All-map, All-weaker}
 use Rattle.overlay_geom.specs.Counts.{Counts, reversed_counts}
 use Rattle.overlay_geom.specs.Plane.{Point, PlanePoint, Step, edge_of, is_forward, steps_through}
-use Rattle.overlay_geom.specs.Edges.{CountedEdge, ends_of}
+use Rattle.overlay_geom.specs.Edges.{CountedEdge, ends_of, weight}
 use Rattle.overlay_geom.specs.Merged.{IsMerged}
 use Rattle.overlay_geom.specs.declared.solver.Solver.{Solver}
 use Rattle.overlay_geom.specs.declared.solver.Solver.TheVariants.{Rounds, Snapping}
@@ -20,7 +20,7 @@ use Rattle.overlay_plane.specs.Rounds.{Round, IsCutAt, IsRound, pieces_of, after
 use Rattle.overlay_relate.specs.PredicateLaws.{exchanged}
 use Rattle.overlay_relate.proofs.ExchangedMeetings.{settled_back, settled_exchanged, meets_exchanged, meets_back}
 use Rattle.overlay_relate.proofs.ExchangedMeetings.{whole_back, whole_exchanged}
-use Rattle.overlay_relate.proofs.ExchangedMerges.{merged_exchanged, merged_shuffled}
+use Rattle.overlay_relate.proofs.ExchangedMerges.{merged_exchanged, merged_shuffled, weight_exchanged}
 use Rattle.overlay_relate.proofs.ExchangedSnaps.{exchanged_round, snap_exchanged, snap_shuffled}
 
 -- ---- one round
@@ -134,13 +134,17 @@ split_exchanged solver most old new h = record {
         (merged_exchanged (after_rounds old h.rounds) new h.reached.merged);
     settled = settled_exchanged new h.reached.settled;
   };
+  light = All-map (λ r. weight (pieces_of r) < 2 ^ 31) exchanged_round h.rounds
+      (All-weaker (λ r. weight (pieces_of r) < 2 ^ 31) (λ r. weight (pieces_of (exchanged_round r)) < 2 ^ 31)
+      (λ r light. subst (λ n. n < 2 ^ 31)
+      (sym (ap weight (left_exchanged r) ∙ weight_exchanged (pieces_of r))) light) h.rounds h.light);
 }
 
 -- and edges in another order into the same ones
 pub split_shuffled : (solver : Solver) (most : ℕ) (old other new : List CountedEdge) → IsPermutation old other →
     IsSplit solver most old new → IsSplit solver most other new
 split_shuffled solver most old other new same h =
-    record { rounds = h.rounds; few = h.few; reached = by h.rounds h.reached }
+    record { rounds = h.rounds; few = h.few; reached = by h.rounds h.reached; light = h.light }
   where
     by : (rs : List Round) → IsReachedBy solver rs old new → IsReachedBy solver rs other new
     by [] reached = record {

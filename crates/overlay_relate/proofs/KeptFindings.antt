@@ -1,13 +1,14 @@
 -- A query of a builder for predicates that keeps what was found, and the answer of one that has found it.
 use Rattle.std.proofs.Common.{◌≡◌, ℕ, ℤ, Bool, true, false, List, [], Option, None, Some, is_err, sym, ap, subst, ◌∙◌}
-use Rattle.std.proofs.Common.{arith}
+use Rattle.std.proofs.Common.{◌<◌, ◌^◌, arith}
 use Rattle.std.proofs.lemmas.Bool.{false≢true}
+use Rattle.std.proofs.lemmas.List.Elements.{All-nil}
 use Rattle.std.specs.Prelude.{◌↔◌, Ok, IfSome, IsTrue, is_some}
-use Rattle.overlay_geom.specs.Edges.{CountedEdge}
+use Rattle.overlay_geom.specs.Edges.{CountedEdge, weight}
 use Rattle.overlay_geom.specs.declared.solver.Solver.{Solver}
 use Rattle.overlay_geom.proofs.Merging.{IsMerged-again}
 use Rattle.overlay_plane.specs.Predicates.{IsFillable}
-use Rattle.overlay_plane.specs.Rounds.{after_rounds}
+use Rattle.overlay_plane.specs.Rounds.{after_rounds, pieces_of}
 use Rattle.overlay_arrange.specs.Arranged.{IsArranged, WasArranged}
 use Rattle.overlay_arrange.specs.Content.{IsContent}
 use Rattle.overlay_arrange.specs.Rules.{is_filled}
@@ -35,6 +36,7 @@ arranged_of_itself limit solver es content was = arranged_of_split limit solver 
     merged = IsMerged-again (after_rounds was.1 was.2) es was.3.merged;
     settled = was.3.settled;
   };
+  light = All-nil (λ r. weight (pieces_of r) < 2 ^ 31);
 })
 
 -- so a builder that keeps something answers a query as it is, whichever solver is set
@@ -43,7 +45,7 @@ pub answers_as_it_is : (limit : ℕ) (solver : Solver) (b : Held CountedEdge) (k
     AnswersQuery {V = Unit {0}} limit solver b b (Ok tt)
 answers_as_it_is limit solver b None some right = absurd (false≢true some)
 answers_as_it_is limit solver b (Some f) some right =
-    answers_arranged limit solver b right.usable b (Ok tt)
+    answers_arranged limit solver b right.usable right.content b (Ok tt)
     (arranged_of_itself limit solver b.edges right.content right.arranged) right.content tt right.usable
 
 module _ {U : Type 0} (limit : ℕ) (old mid new : PredicateBuilder) (u : U)

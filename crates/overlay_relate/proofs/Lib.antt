@@ -19,6 +19,7 @@ pub mod ExchangedRounds
 pub mod ExchangedShapes
 pub mod ExchangedSnaps
 pub mod Forms
+pub mod GivenRelations
 pub mod Highest
 pub mod Insides
 pub mod JoinedParts
@@ -32,6 +33,7 @@ pub mod OneLocation
 pub mod OneTruth
 pub mod OnWalls
 pub mod Parities
+pub mod PathRelations
 pub mod PredicateBuilders
 pub mod PredicatesTogether
 pub mod PreparedOf

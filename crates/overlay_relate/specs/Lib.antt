@@ -7,9 +7,11 @@ pub mod EdgeTests
 pub mod Exchanged
 pub mod Findings
 pub mod Found
+pub mod GivenRelations
 pub mod Joined
 pub mod Laws
 pub mod Locations
+pub mod PathRelations
 pub mod PredicateBuilder
 pub mod PredicateLaws
 pub mod PredicateQueries

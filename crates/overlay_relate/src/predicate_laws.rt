@@ -1,6 +1,9 @@
-//! How the predicates of one arrangement hang together, and what they have to do with overlays.
+//! How the predicates of one arrangement hang together, and what they have to do with overlays and with the contours
+//! as added.
 
 ghost use Rattle.overlay_relate.specs.Exchanged.{ExchangingKeepsArrangements};
+ghost use Rattle.overlay_relate.specs.GivenRelations.{QueriesTellOfGivenEdges};
+ghost use Rattle.overlay_relate.specs.PathRelations.{ArrangementsTellOfPaths};
 ghost use Rattle.overlay_relate.specs.PredicateLaws.{TouchesIsIntersectsAlone, PointIntersectsTouches};
 ghost use Rattle.overlay_relate.specs.PredicateLaws.{WithinInteriorsIntersect, EmptyIsWithinNothing};
 ghost use Rattle.overlay_relate.specs.PredicateLaws.{DisjointIsNoIntersection, CoversIsWithinExchanged};
@@ -52,4 +55,17 @@ pub fn regions_tell_predicates()
 /// Without edges no predicate holds.
 pub fn nothing_holds_without_edges()
     ensures { NothingHoldsWithoutEdges }
+{}
+
+/// Answers about interiors, within and covers are those of the edges as given, where these meet only in whole points or
+/// overlap. For any edges they tell of the points more than k/2 away from all of them, in x or in y: where a round of
+/// snap rounding moves some point k is 1, and else the number of rounds that move some.
+pub fn queries_tell_of_given_edges()
+    ensures { QueriesTellOfGivenEdges }
+{}
+
+/// Where the edges are those of closed paths, with points on one line kept or dropped, the answers tell so of the paths
+/// themselves: of a new builder, and of one call about two resources.
+pub fn arrangements_tell_of_paths()
+    ensures { ArrangementsTellOfPaths }
 {}

@@ -48,18 +48,18 @@ module _ (fill : ℕ) (Other Choices : Type 0) (apart : Other → ¬ Choices) wh
   abbrev IsUnknownHere : Status → Type 0
   IsUnknownHere s = ((s ≡ BadFill) × (4 ≤ fill)) ⊎ ((s ≡ BadOption) × ((fill < 4) × Other))
 
-  one_of_two : (s t : Status) → IsUnknownHere s → IsUnknownHere t → s ≡ t
+  pub one_of_two : (s t : Status) → IsUnknownHere s → IsUnknownHere t → s ≡ t
   one_of_two s t (inl a) (inl b) = a.0 ∙ sym b.0
   one_of_two s t (inl a) (inr b) = absurd (let more = a.1 in let less = b.1.0 in omega (arith, more, less))
   one_of_two s t (inr a) (inl b) = absurd (let more = b.1 in let less = a.1.0 in omega (arith, more, less))
   one_of_two s t (inr a) (inr b) = a.0 ∙ sym b.0
 
-  not_both : (s : Status) → IsUnknownHere s → ¬ ((fill < 4) × Choices)
+  pub not_both : (s : Status) → IsUnknownHere s → ¬ ((fill < 4) × Choices)
   not_both s (inl a) known = let more = a.1 in let less = known.0 in omega (arith, more, less)
   not_both s (inr a) known = apart a.1.1 known.1
 
 -- no number of a solver is both below 2 and not
-few_or_many : (solver : ℕ) → 2 ≤ solver → ¬ (solver < 2)
+pub few_or_many : (solver : ℕ) → 2 ≤ solver → ¬ (solver < 2)
 few_or_many solver more less = omega (arith, more, less)
 
 -- ---- calls on two lists of contours
@@ -209,7 +209,7 @@ module _ {I U : Type 0} (whole : I → ℤ) (limit : ℕ) (width : Width) (natur
   }
 
   -- after the numbers of options
-  with_options : (fill : ℕ) (options : OptionNumbers U) (given : Contours I) →
+  pub with_options : (fill : ℕ) (options : OptionNumbers U) (given : Contours I) →
       FaultsAreApart (IsUnknown 0 fill options) (AreKnown 0 fill options) (IsFaulty whole limit given)
       (AreGiven whole limit given)
   with_options fill options = given_apart (IsUnknown 0 fill options) (AreKnown 0 fill options)
@@ -224,7 +224,7 @@ module _ {I U : Type 0} (whole : I → ℤ) (limit : ℕ) (width : Width) (natur
       (not_both fill (2 ≤ solver) (solver < 2) (few_or_many solver))
 
   -- that it may be refused is told where it is given
-  abbrev MayAlone : OptionNumbers U → Contours I → OverlayError → Type 0
+  abbrev pub MayAlone : OptionNumbers U → Contours I → OverlayError → Type 0
   MayAlone options given e = AreGiven whole limit given
       × MayRefuseAlone false (solver_of options.solver) (paths_for Subject (paths_of whole given)) e
 

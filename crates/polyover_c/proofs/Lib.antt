@@ -5,6 +5,7 @@ pub mod ComeBack
 pub mod EachFault
 pub mod EarlyFaults
 pub mod Endings
+pub mod EndsOnce
 pub mod FittedOverlays
 pub mod FittedQueries
 pub mod FittedSimplifications

@@ -17,17 +17,23 @@ use Rattle.i_overlay.proofs.OneAnswer.{one_answer, one_hierarchy, one_list_of_ed
 use Rattle.i_overlay.proofs.OneAnswer.{one_list_of_relations}
 use Rattle.polyover_c.specs.Arrays.{coordinates_of, ends_of}
 use Rattle.polyover_c.specs.Asked.{rule_of, fill_of, solver_of, options_of}
-use Rattle.polyover_c.specs.Clipped.{clip_rule_of}
+use Rattle.polyover_c.specs.Clipped.{AreClips, clip_rule_of}
 use Rattle.polyover_c.specs.Given.{Contours, paths_given, paths_of}
 use Rattle.polyover_c.specs.Lines.{shape_and_lines}
-use Rattle.polyover_c.specs.Linked.{LinkedFlat, ArePutLinked, link_at}
-use Rattle.polyover_c.specs.Listed.{EdgeArrays, AreListed, AreEdgesPut, ends_of_vector}
+use Rattle.polyover_c.specs.Hierarchies.{IsLinkedOverlay}
+use Rattle.polyover_c.specs.Linked.{LinkedFlat, AreFlatLinked, ArePutLinked, link_at}
+use Rattle.polyover_c.specs.Listed.{EdgeArrays, AreEdgesIn, AreListed, AreEdgesPut, ends_of_vector}
 use Rattle.polyover_c.specs.OneAnswer.{OneOverlay, OneLinkedOverlay, OneListing, OneSimplificationOfArrays}
 use Rattle.polyover_c.specs.OneAnswer.{OneSlicingOfArrays, OneClipOfArrays, OneRelating}
+use Rattle.polyover_c.specs.Overlays.{IsOverlay}
 use Rattle.polyover_c.specs.Related.{bits_of}
-use Rattle.polyover_c.specs.Written.{Flat, AreFlattened, ArePut}
-use Rattle.polyover_c.specs.WrittenPaths.{FlatPaths, ArePathsFlattened, ArePathsPut}
+use Rattle.polyover_c.specs.Simplified.{IsSimplification}
+use Rattle.polyover_c.specs.Sliced.{AreSlices}
+use Rattle.polyover_c.specs.Written.{Flat, IsFlat, AreFlattened, ArePut}
+use Rattle.polyover_c.specs.WrittenPaths.{FlatPaths, AreFlatPaths, ArePathsFlattened, ArePathsPut}
+use Rattle.polyover_c.specs.declared.clip_options.ClipOptions.{ClipOptions}
 use Rattle.polyover_c.specs.declared.links.Link.{Link}
+use Rattle.polyover_c.specs.declared.numbers.OptionNumbers.{OptionNumbers}
 use Rattle.polyover_c.proofs.OnePacking.{one_packing, one_packing_of_shapes}
 use Rattle.polyover_c.proofs.OnePut.{one_put}
 
@@ -106,78 +112,108 @@ module _ {I : Type 0} (whole : I → ℤ) (limit : ℕ) (one : (x y : I) → who
       arrays : flat.coordinates ≡ other.coordinates → flat.fills ≡ other.fills → flat ≡ other
       arrays c d i = record { coordinates = c i; fills = d i }
 
-  -- ---- calls
+  -- ---- answers
 
-  pub one_listing : OneListing whole limit
-  one_listing fill subject clip old new newer s t a b =
-      let same = one_flat_of_edges a.right.vectors b.right.vectors a.answer b.answer
-      (one_list_of_edges (fill_of fill) (paths_given whole subject clip) a.right.vectors b.right.vectors
-      a.right.answer b.right.answer) a.right.listed b.right.listed in
-      one_put _ _ _ new newer s t (subst (λ f. AreEdgesPut f old new s) same a.put) b.put
+  pub same_edges : (fill : ℕ) (subject clip : Contours I) (f g : EdgeArrays I) →
+      AreEdgesIn whole limit fill 0 subject clip f → AreEdgesIn whole limit fill 0 subject clip g → f ≡ g
+  same_edges fill subject clip f g a b = one_flat_of_edges a.vectors b.vectors f g
+      (one_list_of_edges (fill_of fill) (paths_given whole subject clip) a.vectors b.vectors a.answer b.answer)
+      a.listed b.listed
 
-  pub one_clip : OneClipOfArrays whole limit
-  one_clip fill options shape lines old new newer s t snaps a b =
-      let solver = snapping options.solver snaps in
+  pub same_clip : (fill : ℕ) (options : ClipOptions) (shape lines : Contours I) (f g : FlatPaths I) →
+      options.solver ≡ 0 → AreFlatPaths (AreClips whole limit fill options shape lines) whole f →
+      AreFlatPaths (AreClips whole limit fill options shape lines) whole g → f ≡ g
+  same_clip fill options shape lines f g snaps a b =
       let rule = clip_rule_of options in
       let by : (paths : List (List Point)) → AreClippedOfPaths (solver_of options.solver) (fill_of fill) rule
       (shape_and_lines whole shape lines) paths → AreClippedOfPaths Snapping (fill_of fill) rule
       (shape_and_lines whole shape lines) paths = λ paths. subst (λ v. AreClippedOfPaths v (fill_of fill) rule
-      (shape_and_lines whole shape lines) paths) solver in
-      let same = one_flat_of_paths a.right.paths b.right.paths a.answer b.answer
-      (one_clip_of_strings (fill_of fill) rule (paths_of whole shape) (paths_of whole lines) a.right.paths
-      b.right.paths (by a.right.paths a.right.answer.clipped) (by b.right.paths b.right.answer.clipped))
-      a.right.flattened b.right.flattened in
+      (shape_and_lines whole shape lines) paths) (snapping options.solver snaps) in
+      one_flat_of_paths a.paths b.paths f g
+      (one_clip_of_strings (fill_of fill) rule (paths_of whole shape) (paths_of whole lines) a.paths b.paths
+      (by a.paths a.answer.clipped) (by b.paths b.answer.clipped)) a.flattened b.flattened
+
+  -- ---- calls
+
+  pub one_listing : OneListing whole limit
+  one_listing fill subject clip old new newer s t a b =
+      let same = same_edges fill subject clip a.answer b.answer a.right b.right in
+      one_put _ _ _ new newer s t (subst (λ f. AreEdgesPut f old new s) same a.put) b.put
+
+  pub one_clip : OneClipOfArrays whole limit
+  one_clip fill options shape lines old new newer s t snaps a b =
+      let same = same_clip fill options shape lines a.answer b.answer snaps a.right b.right in
       one_put _ _ _ new newer s t (subst (λ f. ArePathsPut f old new s) same a.put) b.put
 
   module _ (width : Width) where
+    pub same_slices : (fill : ℕ) (subject lines : Contours I) (f g : Flat I) →
+        IsFlat (AreSlices whole limit width fill 0 subject lines) whole f →
+        IsFlat (AreSlices whole limit width fill 0 subject lines) whole g → f ≡ g
+    same_slices fill subject lines f g a b = one_flat a.shapes b.shapes f g
+        (one_slicing_along_strings width (fill_of fill) (paths_of whole subject) (paths_of whole lines) a.shapes
+        b.shapes a.answer.sliced b.answer.sliced) a.flattened b.flattened
+
     pub one_slicing : OneSlicingOfArrays whole limit width
     one_slicing fill subject lines old new newer s t a b =
-        let same = one_flat a.right.shapes b.right.shapes a.answer b.answer
-        (one_slicing_along_strings width (fill_of fill) (paths_of whole subject) (paths_of whole lines)
-        a.right.shapes b.right.shapes a.right.answer.sliced b.right.answer.sliced) a.right.flattened
-        b.right.flattened in
+        let same = same_slices fill subject lines a.answer b.answer a.right b.right in
         one_put _ _ _ new newer s t (subst (λ f. ArePut f old new s) same a.put) b.put
 
     module _ {U : Type 0} (natural : U → ℕ) where
-      pub one_overlay : OneOverlay whole limit width natural
-      one_overlay rule fill options subject clip old new newer s t snaps a b =
+      pub same_overlay : (rule fill : ℕ) (options : OptionNumbers U) (subject clip : Contours I) (f g : Flat I) →
+          options.solver ≡ 0 →
+          IsFlat (IsOverlay whole limit width natural rule fill options subject clip) whole f →
+          IsFlat (IsOverlay whole limit width natural rule fill options subject clip) whole g → f ≡ g
+      same_overlay rule fill options subject clip f g snaps a b =
           let q = asked width natural (fill_of fill) (rule_of rule) (options_of options) in
           let paths = paths_given whole subject clip in
           let by : (shapes : List (List (List Point))) → IsResultOfPaths (solver_of options.solver) q paths shapes →
           IsResultOfPaths Snapping q paths shapes = λ shapes. subst (λ v. IsResultOfPaths v q paths shapes)
           (snapping options.solver snaps) in
-          let same = one_flat a.right.shapes b.right.shapes a.answer b.answer
-          (one_answer q paths a.right.shapes b.right.shapes (by a.right.shapes a.right.answer.is_result)
-          (by b.right.shapes b.right.answer.is_result)) a.right.flattened b.right.flattened in
-          one_put _ _ _ new newer s t (subst (λ f. ArePut f old new s) same a.put) b.put
+          one_flat a.shapes b.shapes f g (one_answer q paths a.shapes b.shapes (by a.shapes a.answer.is_result)
+          (by b.shapes b.answer.is_result)) a.flattened b.flattened
 
-      pub one_simplification_of_arrays : OneSimplificationOfArrays whole limit width natural
-      one_simplification_of_arrays fill options given old new newer s t snaps a b =
+      pub same_simplification : (fill : ℕ) (options : OptionNumbers U) (given : Contours I) (f g : Flat I) →
+          options.solver ≡ 0 → IsFlat (IsSimplification whole limit width natural fill options given) whole f →
+          IsFlat (IsSimplification whole limit width natural fill options given) whole g → f ≡ g
+      same_simplification fill options given f g snaps a b =
           let q = asked width natural (fill_of fill) (rule_of 0) (options_of options) in
           let paths = paths_of whole given in
           let by : (shapes : List (List (List Point))) →
           IsSimplifiedAlone (solver_of options.solver) q false paths shapes → IsSimplifiedAlone Snapping q false paths
           shapes = λ shapes. subst
           (λ v. IsSimplifiedAlone v q false paths shapes) (snapping options.solver snaps) in
-          let same = one_flat a.right.shapes b.right.shapes a.answer b.answer
-          (one_simplification q false paths a.right.shapes b.right.shapes
-          (by a.right.shapes a.right.answer.simplified) (by b.right.shapes b.right.answer.simplified))
-          a.right.flattened b.right.flattened in
-          one_put _ _ _ new newer s t (subst (λ f. ArePut f old new s) same a.put) b.put
+          one_flat a.shapes b.shapes f g (one_simplification q false paths a.shapes b.shapes
+          (by a.shapes a.answer.simplified) (by b.shapes b.answer.simplified)) a.flattened b.flattened
 
-      pub one_linked_overlay : OneLinkedOverlay whole limit width natural
-      one_linked_overlay rule fill options subject clip old new newer s t snaps a b =
+      pub same_hierarchy : (rule fill : ℕ) (options : OptionNumbers U) (subject clip : Contours I)
+          (f g : LinkedFlat I) → options.solver ≡ 0 →
+          AreFlatLinked (IsLinkedOverlay whole limit width natural rule fill options subject clip) whole f →
+          AreFlatLinked (IsLinkedOverlay whole limit width natural rule fill options subject clip) whole g → f ≡ g
+      same_hierarchy rule fill options subject clip f g snaps a b =
           let q = asked width natural (fill_of fill) (rule_of rule) (options_of options) in
           let paths = paths_given whole subject clip in
           let by : (shapes : List (List (List Point))) (links : List ChildLink) →
           IsHierarchyOfPaths (solver_of options.solver) q paths shapes links →
           IsHierarchyOfPaths Snapping q paths shapes links = λ shapes links. subst
           (λ v. IsHierarchyOfPaths v q paths shapes links) (snapping options.solver snaps) in
-          let both = one_hierarchy q paths a.right.shapes b.right.shapes (map link_at a.answer.links)
-          (map link_at b.answer.links) (by a.right.shapes (map link_at a.answer.links) a.right.answer.is_hierarchy)
-          (by b.right.shapes (map link_at b.answer.links) b.right.answer.is_hierarchy) in
-          let flat = one_flat a.right.shapes b.right.shapes a.answer.shapes b.answer.shapes both.0 a.right.flattened
-          b.right.flattened in
-          let links = same_links a.answer.links b.answer.links both.1 in
-          let same : a.answer ≡ b.answer = λ i. record { shapes = flat i; links = links i } in
+          let both = one_hierarchy q paths a.shapes b.shapes (map link_at f.links) (map link_at g.links)
+          (by a.shapes (map link_at f.links) a.answer.is_hierarchy)
+          (by b.shapes (map link_at g.links) b.answer.is_hierarchy) in
+          let flat = one_flat a.shapes b.shapes f.shapes g.shapes both.0 a.flattened b.flattened in
+          let links = same_links f.links g.links both.1 in
+          λ i. record { shapes = flat i; links = links i }
+
+      pub one_overlay : OneOverlay whole limit width natural
+      one_overlay rule fill options subject clip old new newer s t snaps a b =
+          let same = same_overlay rule fill options subject clip a.answer b.answer snaps a.right b.right in
+          one_put _ _ _ new newer s t (subst (λ f. ArePut f old new s) same a.put) b.put
+
+      pub one_simplification_of_arrays : OneSimplificationOfArrays whole limit width natural
+      one_simplification_of_arrays fill options given old new newer s t snaps a b =
+          let same = same_simplification fill options given a.answer b.answer snaps a.right b.right in
+          one_put _ _ _ new newer s t (subst (λ f. ArePut f old new s) same a.put) b.put
+
+      pub one_linked_overlay : OneLinkedOverlay whole limit width natural
+      one_linked_overlay rule fill options subject clip old new newer s t snaps a b =
+          let same = same_hierarchy rule fill options subject clip a.answer b.answer snaps a.right b.right in
           one_put _ _ _ new newer s t (subst (λ f. ArePutLinked f old new s) same a.put) b.put

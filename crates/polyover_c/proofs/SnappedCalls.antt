@@ -26,12 +26,12 @@ apart is = subst is_snapping is tt
     is_snapping Snapping = Unit {0}
 
 -- contours are not refused so, nor are a shape and lines
-not_alone : (keep : Bool) (solver : ℕ) (paths : List GivenPath) → solver ≡ 0 →
+pub not_alone : (keep : Bool) (solver : ℕ) (paths : List GivenPath) → solver ≡ 0 →
     ¬ (MayRefuseAlone keep (solver_of solver) paths error.NotSettled)
 not_alone keep solver paths zero may =
     apart (subst (λ n. MayRefuseAlone keep (solver_of n) paths error.NotSettled) zero may).refused.0
 
-not_lines : (solver : ℕ) (paths : List (AddedPath CountedEdge)) → solver ≡ 0 →
+pub not_lines : (solver : ℕ) (paths : List (AddedPath CountedEdge)) → solver ≡ 0 →
     ¬ (MayRefusePaths (solver_of solver) paths error.NotSettled)
 not_lines solver paths zero may =
     apart (subst (λ n. MayRefusePaths (solver_of n) paths error.NotSettled) zero may).refused.0

@@ -4,6 +4,7 @@ pub mod Asked
 pub mod Clipped
 pub mod Determined
 pub mod EachFault
+pub mod EndsOnce
 pub mod Given
 pub mod Held
 pub mod Hierarchies

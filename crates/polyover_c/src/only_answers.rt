@@ -2,6 +2,7 @@
 
 ghost use Rattle.polyover_c.specs.OneAnswer.{OneOverlay, OneLinkedOverlay, OneListing, OneSimplificationOfArrays};
 ghost use Rattle.polyover_c.specs.OneAnswer.{OneSlicingOfArrays, OneClipOfArrays, OneRelating};
+ghost use Rattle.polyover_c.specs.EndsOnce.{CallsEndOnce, ResultsEndOnce, ShapesArePreparedOnce};
 
 use overlay_geom::integer::OverlayInt;
 
@@ -14,4 +15,12 @@ pub fn one_answer<I: OverlayInt>()
     ensures slice { OneSlicingOfArrays I.whole I.limit I.Wide.width }
     ensures clip { OneClipOfArrays I.whole I.limit }
     ensures relate { OneRelating I.whole I.limit }
+{}
+
+/// Two runs of a call with the same arguments end alike by snap rounding, unless memory is refused: with one status,
+/// and with equal arrays. Shapes that are prepared of the same contours are asked alike.
+pub fn one_end<I: OverlayInt>()
+    ensures calls { CallsEndOnce I.whole I.limit I.Wide.width I.WideUInt.natural }
+    ensures results { ResultsEndOnce I.whole I.limit I.Wide.width I.WideUInt.natural }
+    ensures prepared { ShapesArePreparedOnce I.whole I.limit }
 {}

@@ -55,7 +55,8 @@ returns-in_ok-split_since-clause-split g n c =
     let first = leaves_cut g.I.IntNumber.limit (edges_in c.args.self.now) (edges_in c.merge_runs.new.self)
     (edges_in c.cut_at.new.self) c.merge_runs.ensures.content c.in_ok-merge_runs.ensures.ok
     (not_settled c.in-Some.is c.in_ok-meetings.ensures.settled) c.in_ok-is_rounded.ensures.ok in
-    split_on Rounds (c.args.rounds - 1) c.args.rounds _ _ _ (omega arith) first c.in_ok-split_since.ensures.split
+    split_on Rounds (c.args.rounds - 1) c.args.rounds _ _ _ (omega arith) first
+    c.split_since.ensures.before.light c.in_ok-split_since.ensures.split
 
 pub returns-in_default-clause-cut : goal.returns-in_default-clause-cut
 returns-in_default-clause-cut g n c = uncut_where_settled c.in_ok-merge_runs.ensures.ok
@@ -104,7 +105,7 @@ returns-in_ok-split_since-clause-carried g n c =
     (not_settled c.in-Some.is c.in_ok-meetings.ensures.settled) (edges_in c.cut_at.new.self)
     c.in_ok-is_rounded.ensures.ok)
     c.in_ok-merge_runs.ensures.carried c.in_ok-is_rounded.ensures.carried
-    c.in_ok-split_since.ensures.carried
+    c.split_since.ensures.before.light c.in_ok-split_since.ensures.carried
 
 -- where no point was rounded, the pieces, merged, are settled
 pub returns-in_ok-merge_runs-2-clause-split : goal.returns-in_ok-merge_runs-2-clause-split
@@ -121,6 +122,7 @@ returns-in_ok-merge_runs-2-clause-split g n c =
     unsettled (c.in_ok-is_rounded.ensures.rounded.0 c.if-is_rounded.false) c.in_ok-is_rounded.ensures.ok
     c.in_ok-merge_runs-2.ensures.ok in
     split_on Rounds (c.args.rounds - 1) c.args.rounds _ _ _ (omega arith) first
+    c.merge_runs-else-is_rounded.ensures.before.light
     (split_at_once (c.args.rounds - 1) _ _ c.in_ok-merge_runs-2.ensures.ok settled)
 
 pub returns-in_ok-merge_runs-2-clause-cut : goal.returns-in_ok-merge_runs-2-clause-cut
@@ -146,6 +148,7 @@ returns-in_ok-merge_runs-2-clause-carried g n c =
     c.in_ok-merge_runs.ensures.ok
     unsettled (edges_in c.cut_at.new.self) c.in_ok-is_rounded.ensures.ok)
     c.in_ok-merge_runs.ensures.carried c.in_ok-is_rounded.ensures.carried
+    c.merge_runs-else-is_rounded.ensures.before.light
     (carried_at_once g.C.EdgeCount.merges g.C.EdgeCount.splits g.C.EdgeCount.reverses (c.args.rounds - 1)
     c.cut_at.new.self c.merge_runs-else-is_rounded.new.self
     c.in_ok-merge_runs-2.ensures.ok settled c.in_ok-merge_runs-2.ensures.carried)

@@ -39,6 +39,7 @@ returns-clause-carried g c =
     c.args.self.now c.merge_runs.new.self c.merge_runs.ensures.content c.in_ok-merge_runs.ensures.ok
     (not_settled c.in-Some.is c.in_ok-meetings.ensures.settled) c.lead_once.new.self c.merge_runs-2.new.self
     c.merge_runs.ensures.before c.in_ok-merge_runs.ensures.carried c.in_ok-lead_once.ensures.ok
+    c.merge_runs-2.ensures.before
     c.in_ok-merge_runs-2.ensures.ok
     c.in_ok-merge_runs-2.ensures.carried
 
@@ -48,6 +49,7 @@ returns-clause-split g c =
     c.args.self.now c.merge_runs.new.self c.merge_runs.ensures.content c.in_ok-merge_runs.ensures.ok
     (not_settled c.in-Some.is c.in_ok-meetings.ensures.settled) c.lead_once.new.self c.merge_runs-2.new.self
     c.merge_runs.ensures.before c.in_ok-merge_runs.ensures.carried c.in_ok-lead_once.ensures.ok
+    c.merge_runs-2.ensures.before
     c.in_ok-merge_runs-2.ensures.ok
     c.in_ok-merge_runs-2.ensures.carried).split
 

@@ -24,7 +24,7 @@ returns-clause-query g c =
     subst (λ h. AnswersQuery limit c.args.solver (plain_held h) new r) c.self.view_is
     (answers_arranged limit c.args.solver
     (plain_held (record { edges = c.self.inside.content; failed = c.self.inside.is_failed }))
-    (ap (λ h. h.failed) c.self.view_is ∙ ready) new r c.arrange-arranged.ensures.arranged
+    (ap (λ h. h.failed) c.self.view_is ∙ ready) c.self.invariant new r c.arrange-arranged.ensures.arranged
     c.arrange-arranged.ensures.content c.arrange-arranged.ensures.err c.is_err-self-inside.ensures.value)
 
 pub returns-in_err-check_usable-clause-store : goal.returns-in_err-check_usable-clause-store

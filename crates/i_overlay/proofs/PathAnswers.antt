@@ -1,0 +1,23 @@
+-- What answers about the relations of two resources tell of their paths: each holds an arrangement of what these give.
+use Rattle.std.proofs.Common.{false}
+use Rattle.overlay_arrange.specs.Rules.{is_filled}
+use Rattle.overlay_relate.proofs.PathRelations.{arrangements_tell_of_paths}
+use Rattle.i_overlay.specs.PathAnswers.{AnswersTellOfPaths, AllRelationsTellOfPaths}
+
+pub answers_tell_of_paths : AnswersTellOfPaths
+answers_tell_of_paths = record {
+  interiors_intersect = λ solver fill paths answer told. arrangements_tell_of_paths.interiors_intersect false paths
+      solver told.content told.edges (is_filled fill) answer told.holds told.arranged told.tells;
+  within = λ solver fill paths answer told. arrangements_tell_of_paths.within false paths solver told.content told.edges
+      (is_filled fill) answer told.holds told.arranged told.tells;
+}
+
+pub all_relations_tell_of_paths : AllRelationsTellOfPaths
+all_relations_tell_of_paths solver fill paths exchanged r told = record {
+  interiors_intersect = arrangements_tell_of_paths.interiors_intersect false paths solver told.content told.edges
+      (is_filled fill) r.interiors_intersect told.holds told.arranged told.relations.interiors_intersect;
+  within = arrangements_tell_of_paths.within false paths solver told.content told.edges (is_filled fill) r.within
+      told.holds told.arranged told.relations.within;
+  covers = arrangements_tell_of_paths.covers false paths solver told.content told.edges (is_filled fill) r.covers
+      told.holds told.arranged told.relations.covers;
+}
