@@ -8,14 +8,17 @@ from .errors import PolyoverWarning, TooManyEdges
 from .flat import Flat, FlatFloats, FlatShapes
 from .prepared import Prepared
 from .reading import contours_of, lines_of
+from .rules import covers, difference, disjoint, interiors_intersect, intersection, intersects, point_intersects
+from .rules import symmetric_difference, touches, union, union_all, within
 from .scaled import Scaled
 from .shapes import Paths, Shapes
-from .text import LOCATIONS
+from .text import LOCATIONS, Fill, Rule, Solver
 
 __version__ = "0.2.0"
 
 __all__ = [
     "BadInput",
+    "Fill",
     "Flat",
     "FlatFloats",
     "FlatShapes",
@@ -29,20 +32,34 @@ __all__ = [
     "PolyoverWarning",
     "Prepared",
     "ProgramMissing",
+    "Rule",
     "Scaled",
     "Shapes",
+    "Solver",
     "TooManyEdges",
     "backend",
     "built",
     "clip",
     "contours_of",
+    "covers",
+    "difference",
+    "disjoint",
     "edges",
     "hierarchy",
+    "interiors_intersect",
+    "intersection",
+    "intersects",
     "is_resolved",
     "lines_of",
     "locate",
     "overlay",
+    "point_intersects",
     "relate",
     "simplify",
+    "symmetric_difference",
     "tiles",
+    "touches",
+    "union",
+    "union_all",
+    "within",
 ]

@@ -3,9 +3,7 @@
 from __future__ import annotations
 
 import argparse
-import os
 import re
-import signal
 import sys
 from fractions import Fraction
 from typing import Any, Callable, Mapping, Sequence
@@ -14,6 +12,7 @@ from . import calls, runs
 from .answers import say, warnings_as_lines
 from .errors import PolyoverError
 from .files import STANDARD, leave
+from .interrupts import end_at_once, end_by_interrupt
 from .one_file import page_in_one
 from .picture import WIDTH
 from .play import page, serve
@@ -39,6 +38,7 @@ LIBRARIES = {
     "unproved": "an unproved library",
     "unknown": "a library that does not tell whether it is proved",
 }
+KEEPS = ("first", "both")
 OF_POLYGONS, OF_LINES = ("overlay", "relate"), ("clip", "slice")
 
 
@@ -111,6 +111,7 @@ def add_answers(command: argparse.ArgumentParser, name: str) -> None:
     command.add_argument("--out", metavar="FILE", help=f"where the {what} goes, if not to standard output")
     if name not in ("relate", "svg"):
         command.add_argument("--svg", metavar="FILE", help="where a picture goes")
+    command.add_argument("--quiet", action="store_true", help="no bar or line of work that takes long")
     if name != "relate":
         command.add_argument("--width", type=width_in, default=WIDTH, metavar="N", help=f"of the picture ({WIDTH})")
 
@@ -118,8 +119,14 @@ def add_answers(command: argparse.ArgumentParser, name: str) -> None:
 def add_options(commands: Mapping[str, argparse.ArgumentParser]) -> None:
     """The words of single commands."""
     commands["overlay"].add_argument("--rule", choices=list(RULES), default="union", help="(union)")
-    keeps = "a feature for each of A that gives pieces, with its members; of the rules intersect and difference"
-    commands["overlay"].add_argument("--keep", action="store_true", help=keeps)
+    keeps = (
+        "first, or no word: a feature for each of A that gives pieces, with its members, of the rules intersect and"
+        " difference; both: one for each pair that meets, with the properties of both, and for what is left of each;"
+        " subject and clip stand for all of that in A, or in B"
+    )
+    commands["overlay"].add_argument("--keep", choices=KEEPS, help=keeps)
+    ids = "with --keep both, properties id_1 and id_2: the ids of the features, or their numbers where they have none"
+    commands["overlay"].add_argument("--id", action="store_true", help=ids)
     for name in ("overlay", "simplify"):
         least = "the smallest area of a contour that is kept, in squares of the coordinates' unit (0)"
         commands[name].add_argument("--min-area", type=number_in, default=Fraction(0), metavar="N", help=least)
@@ -182,6 +189,18 @@ class Parser(argparse.ArgumentParser):
         write_all(self.format_help())
 
 
+def with_keep(words: Sequence[str]) -> list[str]:
+    """The words of the command line, where --keep has a word of its own: first, where none of both follows it."""
+    found: list[str] = []
+    for word in words:
+        if found and found[-1] == "--keep":
+            found[-1] = f"--keep={word if word in KEEPS else KEEPS[0]}"
+            if word in KEEPS:
+                continue
+        found.append(word)
+    return [f"--keep={KEEPS[0]}" if word == "--keep" else word for word in found]
+
+
 def parsed(words: Sequence[str] | None) -> argparse.Namespace:
     """The words of the command line."""
     prog = "python -m polyover"
@@ -201,15 +220,7 @@ def parsed(words: Sequence[str] | None) -> argparse.Namespace:
     add_options(commands.choices)
     commands.add_parser("run", help=run_program.__doc__).set_defaults(run=run_program)
     add_play(commands)
-    return parser.parse_args(words)
-
-
-def end_by_interrupt() -> int:
-    """Ends as Ctrl-C ends a program that does not know of it, so that a shell ends its loop too; or gives the status
-    that stands for that."""
-    signal.signal(signal.SIGINT, signal.SIG_DFL)
-    os.kill(os.getpid(), signal.SIGINT)
-    return 128 + signal.SIGINT
+    return parser.parse_args(with_keep(sys.argv[1:] if words is None else words))
 
 
 def main(words: Sequence[str] | None = None) -> int:
@@ -219,6 +230,8 @@ def main(words: Sequence[str] | None = None) -> int:
     """
     try:
         given = parsed(words)
+        if words is None and given.run not in (run_program, run_play):
+            end_at_once()
         if [getattr(given, name, None) for name in ("subject", "other")] == [STANDARD] * 2:
             say("standard input can't be two files")
             return 1

@@ -4,7 +4,6 @@ from __future__ import annotations
 
 import warnings
 from contextlib import contextmanager
-from threading import Timer
 from typing import Any, Iterable, Iterator, Sequence
 
 from . import files, geojson, streams
@@ -18,17 +17,6 @@ from .picture import Picture
 def say(text: object) -> None:
     """A line on standard error."""
     streams.say(f"polyover: {streams.told(text)}")
-
-
-@contextmanager
-def told_where_it_takes_long(what: str) -> Iterator[None]:
-    """A line on standard error where this takes longer than a second."""
-    timer = Timer(1, lambda: say(f"{what} .."))
-    timer.start()
-    try:
-        yield
-    finally:
-        timer.cancel()
 
 
 @contextmanager

@@ -17,7 +17,7 @@ from .text import FILLS, RELATIONS, RULES, SOLVERS
 NAME, BUILT = "library", "polyover_built"
 RULE_NUMBERS = {name: number for number, name in enumerate(RULES)}
 FILL_NUMBERS = {name: number for number, name in enumerate(FILLS)}
-SOLVER_NUMBERS = {name: number for number, name in enumerate(SOLVERS)}
+SOLVER_NUMBERS: dict[str, int] = {name: number for number, name in enumerate(SOLVERS)}
 Found = Callable[[Held], Any]
 RESULTS = ("overlay", "hierarchy", "simplify", "edges", "clip", "slice")
 # the function of the library that each call takes
@@ -188,7 +188,7 @@ def locate(shape: Any, points: Any) -> bytearray:
     given = queries.coordinates, queries.coordinate_count
     status = asked.call("polyover_locate", contours, *given, room, len(found), unresolved)
     if status == Status.NOT_RESOLVED:
-        raise NotResolved(unresolved.value)
+        raise NotResolved(unresolved.value + 1)
     check(status)
     return found
 

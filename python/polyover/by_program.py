@@ -103,4 +103,4 @@ def locate(shape: Any, points: Any) -> bytearray:
     try:
         return bytearray(map(LOCATIONS.index, answer(f"{given}run locate\n").split()))
     except BadLine as bad:
-        raise NotResolved(bad.line - 1) from None
+        raise NotResolved(bad.line) from None

@@ -12,7 +12,7 @@ from .errors import BadInput, NotSettled, PolyoverWarning
 from .flat import Flat, FlatFloats, FlatShapes, whole_path
 from .geojson import is_geometry, points_of
 from .shapes import Paths, Shapes
-from .text import FILLS, LOCATIONS, RULES, SNAPPED, SOLVERS, coordinate, items_of, known
+from .text import FILLS, LOCATIONS, RULES, SNAPPED, SOLVERS, Fill, Rule, Solver, coordinate, items_of, known
 from .told import Told
 
 AREA_LIMIT = 2**127 - 1
@@ -28,10 +28,10 @@ class Look(NamedTuple):
     clockwise: bool
     keep: bool
     minimum_area: int
-    solver: str = SNAPPED
+    solver: Solver = SNAPPED
 
 
-def look_of(ogc: bool, clockwise: bool, keep: bool, minimum_area: Any, solver: str) -> Look:
+def look_of(ogc: bool, clockwise: bool, keep: bool, minimum_area: Any, solver: Solver) -> Look:
     """How an answer looks by these options."""
     return Look(bool(ogc), bool(clockwise), bool(keep), area_of(minimum_area), solver_of(solver))
 
@@ -47,7 +47,7 @@ def area_of(minimum_area: Any) -> int:
     return area
 
 
-def solver_of(solver: object) -> str:
+def solver_of(solver: Solver) -> Solver:
     """The name of a solver."""
     return known(SOLVERS, solver, "solver")
 
@@ -93,6 +93,9 @@ def listed(name: str, paths: Any, told: Told | None = None) -> Any:
     if isinstance(paths, Flat):
         return paths
     if not isinstance(paths, (list, tuple)):
+        if is_geometry(paths):
+            what = "points" if name == "points" else f"{kind_of(name)}s"
+            raise BadInput(f"{name}: a geometry in the place of a list of {what}: Scaled takes geometries, at a scale")
         paths = iterated(name, paths, f"a list of {kind_of(name)}s")
     found: list[Any] = []
     for number, path in enumerate(paths, 1):
@@ -198,14 +201,14 @@ def check_coordinates(name: str, number: int, path: Any) -> None:
 def overlay(
     subject: Any,
     clip: Any = (),
-    rule: str = "union",
-    fill: str = "nonzero",
+    rule: Rule = "union",
+    fill: Fill = "nonzero",
     *,
     ogc: bool = True,
     clockwise: bool = False,
     keep: bool = False,
     minimum_area: int = 0,
-    solver: str = SNAPPED,
+    solver: Solver = SNAPPED,
     arrays: bool = False,
 ) -> Any:
     """Returns the shapes round the region where the rules hold of two lists of contours. A shape is its outline, then
@@ -223,14 +226,14 @@ def overlay(
 def hierarchy(
     subject: Any,
     clip: Any = (),
-    rule: str = "union",
-    fill: str = "nonzero",
+    rule: Rule = "union",
+    fill: Fill = "nonzero",
     *,
     ogc: bool = True,
     clockwise: bool = False,
     keep: bool = False,
     minimum_area: int = 0,
-    solver: str = SNAPPED,
+    solver: Solver = SNAPPED,
 ) -> tuple[Shapes, list[tuple[int, int, int]]]:
     """Returns the shapes of `overlay`, and a triple for each shape in a hole of another: the number of the other shape,
     of the hole among all contours, and of the shape, counted from 0."""
@@ -244,13 +247,13 @@ def hierarchy(
 
 def simplify(
     subject: Any,
-    fill: str = "nonzero",
+    fill: Fill = "nonzero",
     *,
     ogc: bool = True,
     clockwise: bool = False,
     keep: bool = False,
     minimum_area: int = 0,
-    solver: str = SNAPPED,
+    solver: Solver = SNAPPED,
     arrays: bool = False,
 ) -> Any:
     """Returns the shapes round the filled region, as `overlay` with the rule subject does. One simple contour stays as
@@ -262,7 +265,7 @@ def simplify(
 
 
 def edges(
-    subject: Any, clip: Any = (), fill: str = "nonzero", *, solver: str = SNAPPED
+    subject: Any, clip: Any = (), fill: Fill = "nonzero", *, solver: Solver = SNAPPED
 ) -> list[tuple[Any, Any, int]]:
     """Returns the edges of the arrangement in order: two points, and the sum of the bits of the filled sides."""
     fill, subject, clip = known(FILLS, fill, "fill rule"), listed("subject", subject), listed("clip", clip)
@@ -281,7 +284,7 @@ def relations_as_given(subject: list[Any], clip: list[Any], fill: str, solver: s
     return dict(asked("relate").relate(subject, clip, fill, solver))
 
 
-def relate(subject: Any, clip: Any, fill: str = "nonzero", *, solver: str = SNAPPED) -> dict[str, bool]:
+def relate(subject: Any, clip: Any, fill: Fill = "nonzero", *, solver: Solver = SNAPPED) -> dict[str, bool]:
     """Returns which relations hold: a dictionary from the seven names to truths.
 
     They hold of the arrangement of the coordinates times the greatest power of two that keeps them in the range. Its
@@ -309,11 +312,11 @@ def relate(subject: Any, clip: Any, fill: str = "nonzero", *, solver: str = SNAP
 def clip(
     shape: Any,
     lines: Any,
-    fill: str = "nonzero",
+    fill: Fill = "nonzero",
     *,
     invert: bool = False,
     boundary: bool = False,
-    solver: str = SNAPPED,
+    solver: Solver = SNAPPED,
     arrays: bool = False,
 ) -> Any:
     """Returns the parts of open paths inside the shape, with `invert` outside, with `boundary` also along its boundary.
@@ -329,7 +332,7 @@ def clip(
 
 
 def slice(  # pylint: disable=redefined-builtin
-    shape: Any, lines: Any, fill: str = "nonzero", *, solver: str = SNAPPED, arrays: bool = False
+    shape: Any, lines: Any, fill: Fill = "nonzero", *, solver: Solver = SNAPPED, arrays: bool = False
 ) -> Any:
     """Returns the shapes into which open paths cut a shape, with `arrays` as `FlatShapes`."""
     fill, shape, lines = known(FILLS, fill, "fill rule"), listed("shape", shape), listed("lines", lines)
@@ -339,7 +342,7 @@ def slice(  # pylint: disable=redefined-builtin
 
 
 def tiles(
-    shape: Any, width: int, height: int, fill: str = "nonzero", *, solver: str = SNAPPED, arrays: bool = False
+    shape: Any, width: int, height: int, fill: Fill = "nonzero", *, solver: Solver = SNAPPED, arrays: bool = False
 ) -> Any:
     """Returns the shapes into which the cells of a grid cut a shape, each in one cell. A node of the grid is at (0, 0).
     With `arrays` they are `FlatShapes`."""

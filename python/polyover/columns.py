@@ -65,3 +65,12 @@ def whole_points(axes: Sequence[Any], points: Sequence[Any]) -> list[tuple[int, 
         # (a number that is none: one by one it is found)
         return None
     return list(zip(xs, ys))
+
+
+def whole_columns(axes: Sequence[Any], xs: Sequence[float], ys: Sequence[float]) -> tuple[list[int], list[int]]:
+    """The whole numbers of two columns of floats. Raises ValueError or OverflowError where one is no number."""
+    numpy = numpy_for(len(xs))
+    if numpy is None or any(axis.floats is None for axis in axes):
+        return axes[0].column(xs), axes[1].column(ys)
+    floats = [numpy.array(column, numpy.float64) for column in (xs, ys)]
+    return whole_column(numpy, axes[0], floats[0]), whole_column(numpy, axes[1], floats[1])

@@ -10,7 +10,7 @@ from .program import BadLine
 from .text import FILLS, LIMIT, ROUNDS, RULES, points_in, printed_path, printed_shapes
 
 KINDS = ("subject", "clip", "line", "point")
-NAMES = {word: name for words in (RULES, FILLS) for name, word in words.items()}
+NAMES: dict[str, Any] = {word: name for words in (RULES, FILLS) for name, word in words.items()}
 PATH, FILL, NUMBER = "( -?[0-9]+ -?[0-9]+)*", f" ({'|'.join(FILLS.values())})", " -?[0-9]+"
 OVERLAY = f" ({'|'.join(RULES.values())}){FILL}( ogc| keep| clockwise| min{NUMBER})*"
 COMMANDS = {

@@ -2,6 +2,7 @@
 
 from __future__ import annotations
 
+from itertools import chain
 from typing import Any, Sequence
 
 from .text import LIMIT
@@ -40,7 +41,8 @@ def visits_once(contour: WholePath) -> bool:
 
 def extent_of(contours: Sequence[WholePath]) -> int:
     """How far the coordinates are from 0 at most."""
-    return max((max(abs(x), abs(y)) for contour in contours for x, y in contour), default=0)
+    numbers = list(chain.from_iterable(chain.from_iterable(contours)))
+    return max(-min(numbers), max(numbers)) if numbers else 0
 
 
 def surplus_of(contours: Sequence[WholePath]) -> int:

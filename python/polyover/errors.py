@@ -18,7 +18,7 @@ class TooManyEdges(PolyoverError):
 
 
 class NotResolved(PolyoverError):
-    """A contour of a shape in which points are located meets itself; `contour` is its number, from 0."""
+    """A contour of a shape in which points are located meets itself; `contour` is its number, from 1."""
 
     def __init__(self, contour: int) -> None:
         super().__init__(f"contour {contour} is not resolved: two of its steps share a point that is no end of both")

@@ -13,8 +13,9 @@ from typing import Any, Sequence
 
 from .errors import BadInput
 from .geojson import LINES, POINTS, POLYGONS, Feature, features_of, geometry_of
+from .interrupts import held, let_in
 from .reading import Lines, Polygons
-from .streams import INPUT, named, read_all, write_all
+from .streams import INPUT, PART, named, read_all, write_all
 from .told import Told
 
 STANDARD = "-"
@@ -24,12 +25,14 @@ OWN = ("type", "features", "bbox")
 
 @dataclass
 class File:
-    """What a file of GeoJSON has: its features, of one kind, and the members of its collection."""
+    """What a file of GeoJSON has: its features, of one kind, and the members of its collection. `told` counts what is
+    to be said of features that are read one by one."""
 
     name: str
     features: list[Feature]
     members: dict[str, Any]
     has_box: bool
+    told: Told
 
     @property
     def polygons(self) -> Polygons:
@@ -120,7 +123,7 @@ def read(name: str, kinds: Sequence[str], skip_invalid: bool = False, tells_null
     what.say()
     is_collection = whole["type"] == "FeatureCollection"
     members = {key: value for key, value in whole.items() if key not in OWN} if is_collection else {}
-    return File(shown_name(name), features, members, is_collection and "bbox" in whole)
+    return File(what.source, features, members, is_collection and "bbox" in whole, Told(what.source))
 
 
 def polygons_of(name: str, skip_invalid: bool = False, tells_nulls: bool = True) -> File:
@@ -157,39 +160,45 @@ def is_plain(target: str) -> bool:
         return True
 
 
-def beside(text: str, target: str) -> str:
-    """The path of a new file beside the target, with the text; none is left where writing fails."""
+def write_beside(text: str, target: str, made: list[tuple[str, str]]) -> None:
+    """Writes a text to a new file beside the target, and notes both paths once the file is there."""
     path = os.path.join(os.path.dirname(target), f".{os.path.basename(target)[:100]}.{os.getpid()}.part")
     handle = os.open(path, os.O_WRONLY | os.O_CREAT | os.O_EXCL, 0o666)
-    try:
-        with open(handle, "w", encoding="utf-8") as file:
-            file.write(text)
-        if os.path.exists(target):
-            shutil.copymode(target, path)
-    except BaseException:
-        os.unlink(path)
-        raise
-    return path
+    made.append((path, target))
+    with open(handle, "w", encoding="utf-8") as file:
+        with let_in():
+            for at in range(0, len(text), PART):
+                file.write(text[at : at + PART])
+    if os.path.exists(target):
+        shutil.copymode(target, path)
 
 
 def leave(answers: Sequence[tuple[str, str | None]]) -> None:
-    """Leaves texts in their files, or on standard output where none is named: all, or, where one fails, none.
+    """Leaves texts in their files, or on standard output where none is named: all, or, where one fails or Ctrl-C comes,
+    none.
 
     Each text is written beside its file first. What is no plain file, as a pipe, is written to as it is."""
-    made: list[tuple[str, str]] = []
     targets = [os.path.realpath(file) for _, file in answers if file]
     if len(set(targets)) < len(targets):
         raise BadInput(f"{targets[0]}: two answers can't go to one file")
+    with held():
+        leave_all(answers)
+
+
+def leave_all(answers: Sequence[tuple[str, str | None]]) -> None:
+    """Leaves all texts, while Ctrl-C comes only where it is let in."""
+    made: list[tuple[str, str]] = []
+    direct = []
     try:
-        direct = []
         for text, file in answers:
             if file and is_plain(file):
                 with named(file):
-                    made.append((beside(text, os.path.realpath(file)), os.path.realpath(file)))
+                    write_beside(text, os.path.realpath(file), made)
             else:
                 direct.append((text, file))
         for text, file in direct:
-            write_to(text, file)
+            with let_in():
+                write_to(text, file)
         while made:
             with named(made[0][1]):
                 os.replace(*made[0])

@@ -101,6 +101,11 @@ class Flat:
         made.numbers, made.counts = numbers, counts
         return made
 
+    @classmethod
+    def of_arrays(cls, numbers: array[Any], ends: array[Any]) -> Flat:
+        """Contours in arrays of Python's own, whose ends are not tested."""
+        return cls.answered(memoryview(numbers), memoryview(ends))
+
     @property
     def coordinates(self) -> memoryview:
         """The points, two coordinates in a row."""

@@ -3,6 +3,8 @@
 from __future__ import annotations
 
 from dataclasses import dataclass, field
+from itertools import chain
+from math import isfinite
 from typing import Any, Iterable, Iterator, NamedTuple, Sequence
 
 from .errors import BadInput
@@ -17,6 +19,7 @@ KINDS = {*POLYGONS, *LINES, *POINTS}
 # (how many lists stand round a point)
 DEPTHS = {"Point": 0, "MultiPoint": 1, "LineString": 1, "MultiLineString": 2, "Polygon": 2, "MultiPolygon": 3}
 NESTED = 50
+LISTS, NUMBERS = {list, tuple}, {float, int}
 DROPPED = "members of # points beyond x and y are left out"
 PASSED_OVER = "# geometries that are no {} are passed over"
 SKIPPED = "# rings or lines with too few points are skipped"
@@ -76,9 +79,9 @@ class Reader:
 
     def points(self, place: Place, path: object, least: int) -> Path | None:
         """The points of a ring or line, with x and y alone; none where too few of them are to be skipped."""
-        points = []
-        for number, point in enumerate(listed(place, path), 1):
-            points.append(checked_point(place, number, point))
+        points = plain_points(path)
+        if points is None:
+            points = [checked_point(place, number, point) for number, point in enumerate(listed(place, path), 1)]
         if least == 3 and len(points) > 1 and tuple(points[0]) == tuple(points[-1]):
             points.pop()
         if len(points) < least:
@@ -90,7 +93,7 @@ class Reader:
         more = sum(len(point) > 2 for point in points)
         if more:
             self.told.add(DROPPED, place, more)
-        return [tuple(point[:2]) for point in points]
+        return [tuple(point[:2]) for point in points] if more else list(map(tuple, points))
 
     def polygon(self, place: Place, rings: object) -> Iterator[Part]:
         """A polygon, if its outline is one."""
@@ -202,6 +205,20 @@ def checked_point(place: Place, number: int, point: object) -> Point:
     return point
 
 
+def plain_points(path: Any) -> list[Any] | None:
+    """The points of a list, where each is a list of two numbers of Python's own, which are finite."""
+    if type(path) not in LISTS or not set(map(type, path)) <= LISTS or set(map(len, path)) != {2}:
+        return None
+    numbers: list[Any] = list(chain.from_iterable(path))
+    if not set(map(type, numbers)) <= NUMBERS:
+        return None
+    try:
+        return list(zip(numbers[0::2], numbers[1::2])) if all(map(isfinite, numbers)) else None
+    except OverflowError:
+        # (a whole number that is too large for a float)
+        return None
+
+
 def check_nested(place: Place, coordinates: object, depth: int) -> None:
     """That coordinates that are passed over are points in as many lists."""
     if depth == 0:
@@ -277,7 +294,8 @@ def points_of(thing: object) -> list[Point]:
 
 def is_geometry(thing: object) -> bool:
     """Whether a thing is given as a geometry, and not as a list of paths."""
-    return isinstance(thing, dict) or hasattr(thing, "__geo_interface__")
+    # (asked of the type first: an instance would make its dictionary)
+    return isinstance(thing, dict) or hasattr(type(thing), "__geo_interface__") or hasattr(thing, "__geo_interface__")
 
 
 # ---- answers

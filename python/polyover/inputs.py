@@ -73,7 +73,7 @@ def picture_of(text: str, with_nodes: bool = False) -> Picture:
 
 def nodes_of(figures: dict[str, Any], words: list[str]) -> set[Any]:
     """The ends of the edges of the arrangement of subject and clip, and of the lines where the command takes them."""
-    fill = next((NAMES[word] for word in words if word in FILLS.values()), "evenodd")
+    fill: Any = next((NAMES[word] for word in words if word in FILLS.values()), "evenodd")
     clip = figures["clip"] if words[0] in CLIP_COMMANDS else []
     nodes = {point for edge in calls.edges(figures["subject"], clip, fill, solver=ROUNDS) for point in edge[:2]}
     lines = lines_in(figures, words)

@@ -1,35 +1,87 @@
-"""The part of a shape that matters to lines: the same region near them, by fewer edges.
+"""The part of a shape that matters to a feature: the same region near it, by fewer edges.
 
-A run of a line lies in a convex region, with a margin. A chain of a contour that lies beyond one side of each of these
-regions can be made one step: the straight step lies beyond these sides too, so the contour winds as often round each
-point of a region, and each edge that may meet a line stays."""
+A feature lies in convex regions, with a margin. A contour that lies beyond one side of each of them is left out. A
+chain of a contour that does so is made one step: that lies beyond these sides too, so the contour winds as often round
+each point of a region, and each edge that may meet the feature stays. A contour that winds round a region comes near
+it, however far its edges are: its box, which is asked for, holds the region.
+
+Contours, and the chains of each, stand in trees of boxes, so that a question costs by what is near."""
 
 from __future__ import annotations
 
-from typing import NamedTuple, Sequence
+from math import ceil, sqrt
+from typing import Iterable, NamedTuple, Sequence
 
-from .contour import WholePath, box_of
+from .contour import WholePath
 
-CHAIN = 128
+# (how many points a chain has, and how many boxes stand in one)
+CHAIN = 16
+GROUP = 8
 RUNS = 16
+# (as many near points are taken as they are: to look closer costs more)
+FEW = 200
 # (64 rounds of splitting move a chain by 32 units at most)
 MARGIN = 128
 
+Box = tuple[int, int, int, int]
+
+
+class Node:
+    """A box: of the nodes in it, or of the steps from its points, to the next chain's too. The points of an inner node
+    are its first one. `place` is that of a thing which is asked for by its box."""
+
+    __slots__ = ("left", "low", "right", "high", "points", "parts", "place")
+
+    def __init__(self, box: Box, points: WholePath, parts: Sequence[Node] = (), place: int = -1) -> None:
+        self.left, self.low, self.right, self.high = box
+        self.points, self.parts, self.place = points, parts, place
+
 
 class Side(NamedTuple):
-    """A side of a region: beyond it a x + b y is above c."""
+    """A side of a region that is neither upright nor level: beyond it a x + b y is above c."""
 
     a: int
     b: int
     c: int
 
-    def is_beyond(self, box: tuple[int, int, int, int]) -> bool:
+    def is_beyond(self, node: Node) -> bool:
         """Whether all of a box is beyond."""
-        left, low, right, high = box
-        return self.a * (left if self.a > 0 else right) + self.b * (low if self.b > 0 else high) > self.c
+        least = self.a * (node.left if self.a > 0 else node.right)
+        return least + self.b * (node.low if self.b > 0 else node.high) > self.c
 
 
-Region = list[Side]
+class Region(NamedTuple):
+    """A convex region: a box, and other sides."""
+
+    left: int
+    low: int
+    right: int
+    high: int
+    sides: tuple[Side, ...] = ()
+
+    def has_near(self, node: Node) -> bool:
+        """Whether a box is beyond no side."""
+        if node.right < self.left or node.left > self.right or node.high < self.low or node.low > self.high:
+            return False
+        for side in self.sides:
+            if side.is_beyond(node):
+                return False
+        return True
+
+
+# ---- regions
+
+
+def box_round(points: WholePath) -> Box:
+    """The box of points: left, low, right, high."""
+    xs, ys = zip(*points)
+    return min(xs), min(ys), max(xs), max(ys)
+
+
+def box_region(points: WholePath) -> Region:
+    """The box round points, with the margin."""
+    left, low, right, high = box_round(points)
+    return Region(left - MARGIN, low - MARGIN, right + MARGIN, high + MARGIN)
 
 
 def side_of(points: WholePath, a: int, b: int) -> Side:
@@ -37,67 +89,155 @@ def side_of(points: WholePath, a: int, b: int) -> Side:
     return Side(a, b, max(a * x + b * y for x, y in points) + MARGIN * (abs(a) + abs(b)))
 
 
-def region_of(points: WholePath) -> Region:
-    """The sides of a region round points: upright and level ones, and those along the way from first to last."""
+def run_region(points: WholePath) -> Region:
+    """The region round points: their box, and sides along the way from first to last, and across."""
     along, up = points[-1][0] - points[0][0], points[-1][1] - points[0][1]
-    ways = [(1, 0), (-1, 0), (0, 1), (0, -1)]
-    if along and up:
-        ways += [(-up, along), (up, -along), (along, up), (-along, -up)]
-    return [side_of(points, a, b) for a, b in ways]
+    ways = [(-up, along), (up, -along), (along, up), (-along, -up)] if along and up else []
+    return box_region(points)._replace(sides=tuple(side_of(points, a, b) for a, b in ways))
 
 
-def regions_of(lines: Sequence[WholePath]) -> list[Region]:
+def regions_of_runs(lines: Sequence[WholePath]) -> list[Region]:
     """Regions that hold all steps of lines: each has a run of one line; some runs in all, but one a line at least."""
     most = max(2, 1 + sum(map(len, lines)) // RUNS)
-    runs = [line[at : at + most] for line in lines for at in range(0, max(1, len(line) - 1), most - 1) if line]
-    return [region_of(run) for run in runs]
+    runs = [line[at : at + most] for line in lines for at in range(0, max(1, len(line) - 1), most - 1)]
+    return [run_region(run) for run in runs]
 
 
-class Chain(NamedTuple):
-    """Some points of a contour, and the box round them and the next one."""
-
-    points: WholePath
-    box: tuple[int, int, int, int]
-
-    def is_far(self, regions: Sequence[Region]) -> bool:
-        """Whether of each region it lies beyond one side."""
-        return all(any(side.is_beyond(self.box) for side in region) for region in regions)
+def regions_of_contours(contours: Sequence[WholePath]) -> list[Region]:
+    """Regions that hold all that contours wind round: boxes, each of one of them, or of some where they are many."""
+    count = ceil(len(contours) / RUNS)
+    groups = [contours[at : at + count] for at in range(0, len(contours), max(1, count))]
+    return [box_region([point for contour in group for point in contour]) for group in groups]
 
 
-class Nearby:
-    """A shape that is asked again and again for its part near lines."""
-
-    def __init__(self, contours: Sequence[WholePath]) -> None:
-        self.contours = [(Chain(contour, box_of(contour)), chains_of(contour)) for contour in contours if contour]
-
-    def part(self, lines: Sequence[WholePath]) -> list[WholePath]:
-        """Contours that wind near the lines as those of the shape do."""
-        regions = regions_of(lines)
-        near = [chains for whole, chains in self.contours if not whole.is_far(regions)]
-        return [[point for each in chains for point in kept(each, regions)] for chains in near]
+# ---- trees
 
 
-def chains_of(contour: WholePath) -> list[Chain]:
+def joined(nodes: Sequence[Node]) -> Node:
+    """A node of nodes."""
+    box = (
+        min(node.left for node in nodes),
+        min(node.low for node in nodes),
+        max(node.right for node in nodes),
+        max(node.high for node in nodes),
+    )
+    return Node(box, nodes[0].points[:1], nodes)
+
+
+def grouped(nodes: Sequence[Node]) -> list[Node]:
+    """Nodes of some nodes each, whose order stays."""
+    return [joined(nodes[at : at + GROUP]) for at in range(0, len(nodes), GROUP)]
+
+
+def tree_of(nodes: list[Node]) -> Node:
+    """The root over nodes, whose order stays."""
+    while len(nodes) > 1:
+        nodes = grouped(nodes)
+    return nodes[0]
+
+
+def chains_of(contour: WholePath) -> list[Node]:
     """The chains of a contour, one behind the other."""
     closed = [*contour, contour[0]]
     starts = range(0, len(contour), CHAIN)
-    return [Chain(contour[at : at + CHAIN], box_of(closed[at : at + CHAIN + 1])) for at in starts]
+    return [Node(box_round(closed[at : at + CHAIN + 1]), contour[at : at + CHAIN]) for at in starts]
 
 
-def kept(chain: Chain, regions: Sequence[Region]) -> WholePath:
-    """The points of a chain, or the first one alone where it is far."""
-    return chain.points[:1] if chain.is_far(regions) else chain.points
+def packed(nodes: Sequence[Node]) -> list[Node]:
+    """Nodes in an order in which those that are near one another stand together: by stripes of x, and there by y."""
+    across = sorted(nodes, key=lambda node: node.left + node.right)
+    count = max(1, ceil(len(nodes) / max(1, round(sqrt(len(nodes) / GROUP)))))
+    stripes = [across[at : at + count] for at in range(0, len(nodes), count)]
+    return [node for each in stripes for node in sorted(each, key=lambda node: node.low + node.high)]
 
 
-def boxes_meet(contour: WholePath, others: Sequence[WholePath]) -> bool:
-    """Whether the box of a contour comes near the box of some others."""
-    return bool(lines_near([contour], others))
+def near_of(node: Node, regions: Sequence[Region]) -> Sequence[Region]:
+    """The regions that have a node near."""
+    if len(regions) == 1:
+        return regions if regions[0].has_near(node) else ()
+    return [region for region in regions if region.has_near(node)]
 
 
-def lines_near(lines: Sequence[WholePath], contours: Sequence[WholePath]) -> list[WholePath]:
-    """The lines whose boxes come near the box of some contours."""
-    points = [point for contour in contours for point in contour]
-    if not points:
-        return []
-    region = region_of([box_of(points)[:2], box_of(points)[2:]])[:4]
-    return [line for line in lines if line and not Chain(line, box_of(line)).is_far([region])]
+class Index:
+    """Things in boxes, of which those near regions are asked for again and again."""
+
+    def __init__(self, nodes: Sequence[Node]) -> None:
+        for place, node in enumerate(nodes):
+            node.place = place
+        # (as many boxes stand round each thing)
+        self.depth, self.top = 0, packed(nodes)
+        while len(self.top) > GROUP:
+            self.depth, self.top = self.depth + 1, grouped(self.top)
+
+    def near(self, regions: Sequence[Region]) -> list[Node]:
+        """The things that come near any region, in order."""
+        if not regions:
+            return []
+        left, low = min(each.left for each in regions), min(each.low for each in regions)
+        right, high = max(each.right for each in regions), max(each.high for each in regions)
+        nodes = self.top
+        for _ in range(self.depth):
+            nodes = [
+                part
+                for node in nodes
+                for part in node.parts
+                if part.left <= right and part.right >= left and part.low <= high and part.high >= low
+            ]
+        return sorted((node for node in nodes if near_of(node, regions)), key=place_of)
+
+
+def place_of(node: Node) -> int:
+    """The place of a thing."""
+    return node.place
+
+
+def add_kept(node: Node, regions: Sequence[Region], found: WholePath) -> None:
+    """Adds the points of the chains in a node that are near, and the first one alone of each node that is far."""
+    near = near_of(node, regions)
+    if not near:
+        found.append(node.points[0])
+    elif node.parts:
+        for part in node.parts:
+            add_kept(part, near, found)
+    else:
+        found += node.points
+
+
+class Nearby:
+    """A shape that is asked again and again for its part near lines, or near other contours."""
+
+    def __init__(self, contours: Iterable[WholePath]) -> None:
+        self.index = Index([tree_of(chains_of(contour)) for contour in contours if contour])
+
+    def part(self, lines: Sequence[WholePath]) -> list[WholePath]:
+        """Contours that wind near the lines as those of the shape do."""
+        lines = [line for line in lines if line]
+        if not lines:
+            return []
+        found = self.near([box_region([point for line in lines for point in line])])
+        return found if sum(map(len, found)) <= FEW else self.near(regions_of_runs(lines))
+
+    def part_within(self, contours: Sequence[WholePath]) -> list[WholePath]:
+        """Contours that wind as those of the shape do wherever the given ones may fill."""
+        return self.near(regions_of_contours([contour for contour in contours if contour]))
+
+    def near(self, regions: Sequence[Region]) -> list[WholePath]:
+        """Contours that wind in the regions as those of the shape do."""
+        kept: list[WholePath] = []
+        for root in self.index.near(regions):
+            points: WholePath = []
+            add_kept(root, regions, points)
+            kept.append(points)
+        return kept
+
+
+class LinesNearby:
+    """Open paths that are asked again and again for those near contours."""
+
+    def __init__(self, lines: Iterable[WholePath]) -> None:
+        self.index = Index([Node(box_round(line), line) for line in lines if line])
+
+    def part(self, contours: Iterable[WholePath]) -> list[WholePath]:
+        """The lines whose boxes come near what the contours may fill."""
+        regions = regions_of_contours([contour for contour in contours if contour])
+        return [node.points for node in self.index.near(regions)]

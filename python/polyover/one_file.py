@@ -20,7 +20,7 @@ IMPORT = re.compile(r'(\bfrom\s*|\bimport\s*)"(\.{1,2}/[^"]+\.js)"')
 STYLE = re.compile(r'<link rel="stylesheet" href="([^"]+)"([^>]*?) */>')
 SCRIPT = re.compile(r'<script type="module" src="([^"]+)"></script>')
 # a comment that has its lines for itself, and what a line begins with
-COMMENT = re.compile(r"^ *(?:/\*.*?\*/|//[^\n]*)\n", re.M | re.S)
+COMMENT = re.compile(r"^ *(?:/\*(?:(?!\*/).)*\*/|//[^\n]*)\n", re.M | re.S)
 INDENT = re.compile(r"^ +", re.M)
 POLICY = re.compile(r'content="default-src[^"]*"')
 # nothing is loaded from anywhere: all is inside

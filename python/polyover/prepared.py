@@ -7,7 +7,7 @@ from typing import Any, Literal, overload
 from . import by_library, calls
 from .errors import BadInput, LibraryMissing
 from .library import HeldShape
-from .text import FILLS, LOCATIONS, SNAPPED, known
+from .text import FILLS, LOCATIONS, SNAPPED, Fill, Solver, known
 
 MISSING = (
     "no library that has prepared shapes, and the program has none: "
@@ -27,7 +27,7 @@ class Prepared:
     it. The program has no prepared shapes: without the library there is LibraryMissing.
     """
 
-    def __init__(self, shape: Any, fill: str = "nonzero", *, solver: str = SNAPPED) -> None:
+    def __init__(self, shape: Any, fill: Fill = "nonzero", *, solver: Solver = SNAPPED) -> None:
         self._held: HeldShape | None = None
         fill, solver, shape = known(FILLS, fill, "fill rule"), calls.solver_of(solver), calls.listed("shape", shape)
         if not by_library.can("prepare"):

@@ -3,6 +3,7 @@
 from __future__ import annotations
 
 from dataclasses import dataclass
+from itertools import islice
 from typing import Any, Callable, Iterable, Sequence
 
 from .contour import WholePath, extent_of
@@ -20,26 +21,33 @@ Whole = Callable[[Sequence[Any]], WholePath]
 class Polygons:
     """Polygons that were read; their contours are told at a scale. `source` names their file.
 
-    If they are raw, each ring is a contour that runs as it is, for any fill rule."""
+    If they are raw, each ring is a contour that runs as it is, for any fill rule. `told` counts what is to be said
+    where others have a part in it; else it is said at once."""
 
     parts: list[Part]
     source: str = ""
     is_raw: bool = False
+    told: Told | None = None
 
     def contours(self, whole: Whole, has_range: bool = True) -> list[Contour]:
         """Their contours for the fill rule nonzero, by whole points and as they were given. Where there is a range a
         point that is out of it is a fault, which names its place."""
+        points = iter(whole([point for part in self.parts for path in part.paths for point in path]))
         polygons = [
-            [Ring(part.place._replace(ring=at), path, whole(path)) for at, path in enumerate(part.paths, 1)]
+            [
+                Ring(part.place._replace(ring=at), path, list(islice(points, len(path))))
+                for at, path in enumerate(part.paths, 1)
+            ]
             for part in self.parts
         ]
         if has_range:
             check_range(self.source, [(ring.place, ring.whole) for rings in polygons for ring in rings])
         if self.is_raw:
             return [(ring.whole, ring.given) for rings in polygons for ring in rings]
-        told = Told(self.source)
+        told = Told(self.source) if self.told is None else self.told
         contours = contours_of_polygons(polygons, told)
-        told.say()
+        if self.told is None:
+            told.say()
         return contours
 
 
@@ -57,7 +65,8 @@ class Lines:
 
     def whole(self, whole: Whole) -> list[WholePath]:
         """Their whole points; says how many of them are points at a scale."""
-        paths = [whole(path) for path in self.paths]
+        points = iter(whole([point for path in self.paths for point in path]))
+        paths = [list(islice(points, len(path))) for path in self.paths]
         check_range(self.source, [(part.place, path) for part, path in zip(self.parts, paths)])
         told = Told(self.source)
         for part, path in zip(self.parts, paths):
@@ -69,7 +78,10 @@ class Lines:
 
 def check_range(source: str, paths: Iterable[tuple[object, WholePath]]) -> None:
     """That points are in the range; the first that is not is named by its place."""
-    for place, path in paths:
+    listed = list(paths)
+    if extent_of([path for _, path in listed]) <= LIMIT:
+        return
+    for place, path in listed:
         if extent_of([path]) > LIMIT:
             at, point = next((at, each) for at, each in enumerate(path, 1) if extent_of([[each]]) > LIMIT)
             start = f"{source}: {place}" if source else str(place)

@@ -15,7 +15,7 @@ def line_of(text: str, fault: PolyoverError) -> int:
     kinds = [line.split()[:1] for line in text.split("\n")]
     wanted = ["subject"] if isinstance(fault, NotResolved) else ["run"]
     places = [number for number, kind in enumerate(kinds, 1) if kind == wanted]
-    return places[fault.contour if isinstance(fault, NotResolved) else 0]
+    return places[fault.contour - 1 if isinstance(fault, NotResolved) else 0]
 
 
 def ending(fault: PolyoverError, text: str) -> "tuple[int, str]":

@@ -2,42 +2,34 @@
 
 from __future__ import annotations
 
+from contextlib import contextmanager
 from fractions import Fraction
-from typing import Any, Callable, Sequence
+from itertools import islice
+from typing import Any, Callable, Iterator, Sequence
 
 from . import calls, files, geojson
-from .answers import feature_of, leave, null_feature, say, told_where_it_takes_long
+from .answers import feature_of, leave, null_feature, say
+from .contour import WholePath
 from .errors import BadInput
 from .files import File
 from .geojson import Feature
 from .inputs import picture_of
-from .nearby import Nearby, boxes_meet, lines_near
+from .layers import features_of_both
+from .nearby import LinesNearby, Nearby
 from .picture import Picture
-from .reading import Polygons
+from .progress import faults_of, long_work
+from .reading import Polygons, check_range
 from .scaled import Scaled
+from .words import fill_of, look_of, paths_of, polygons_of, rings_of
 
 KEEPING = ("intersect", "difference")
 
 
-def fill_of(given: Any) -> str:
-    """The fill rule: nonzero of contours in their directions, or the one that is named, of rings as they run."""
-    return given.fill or "nonzero"
-
-
-def look_of(given: Any) -> dict[str, Any]:
-    """The smallest area that is kept, in squares of the coordinates' unit, and how edges are split."""
-    return {"minimum_area": given.min_area, "solver": given.solver}
-
-
-def polygons_of(given: Any, file: File, parts: Sequence[Any] | None = None) -> Polygons:
-    """The polygons of a file, or some of them, by GeoJSON's reading or as rings that run as they are."""
-    found = [part for each in file.features for part in each.parts] if parts is None else parts
-    return Polygons(list(found), file.name, is_raw=given.fill is not None)
-
-
-def paths_of(file: File) -> list[Any]:
-    """The paths of a file."""
-    return [path for each in file.features for path in each.paths]
+@contextmanager
+def work_on_two(given: Any, what: str, first: File, second: File) -> Iterator[None]:
+    """One long call on two files, which its faults name."""
+    with faults_of(first.name, second.name), long_work(what, is_quiet=given.quiet):
+        yield
 
 
 def two_of_polygons(given: Any) -> tuple[File, File]:
@@ -60,18 +52,20 @@ def tell_other_crs(first: File, second: File) -> None:
 def run_overlay(given: Any) -> None:
     """Overlays the polygons of two files"""
     first, second = two_of_polygons(given)
-    if given.keep and given.rule not in KEEPING:
-        raise BadInput(f"--keep goes with the rules {' and '.join(KEEPING)}: of others many features give one piece")
+    if given.keep == "first" and given.rule not in KEEPING:
+        raise BadInput(f"--keep goes with the rules {' and '.join(KEEPING)}: of others many features give one piece;"
+                       " --keep both goes with all rules")
+    if given.id and given.keep != "both":
+        raise BadInput("--id goes with --keep both")
     scaled = Scaled.of_digits(given.digits)
     picture = Picture(f"{given.rule} of two files")
     picture.add_contours("subject", paths_of(first))
     picture.add_contours("clip", paths_of(second))
-    with told_where_it_takes_long(f"overlay of {len(paths_of(first))} and {len(paths_of(second))} rings"):
-        features = kept_pieces(given, scaled, first, second) if given.keep else joined(given, scaled, first, second)
+    features = ANSWERS[given.keep](given, scaled, first, second)
     for each in features if given.svg else ():
         for shape in each["geometry"]["coordinates"]:
             picture.add_contours("answer", [ring[:-1] for ring in shape], strength=0.55)
-    if not given.keep:
+    if given.keep != "first":
         first.members = {name: value for name, value in first.members.items() if name == "crs"}
         first.has_box = False
     leave(given, features, picture, first)
@@ -79,30 +73,47 @@ def run_overlay(given: Any) -> None:
 
 def joined(given: Any, scaled: Scaled, first: File, second: File) -> list[dict[str, Any]]:
     """One feature of all shapes of an overlay."""
-    both = polygons_of(given, first), polygons_of(given, second)
-    shapes = scaled.overlay(*both, given.rule, fill_of(given), **look_of(given))
+    both, look = (polygons_of(given, first), polygons_of(given, second)), look_of(given, scaled)
+    with work_on_two(given, f"overlay of {rings_of(first)} and {rings_of(second)} rings", first, second):
+        subject, clip = (scaled.region("subject", its, fill_of(given), given.solver) for its in both)
+        shapes = scaled.shapes(calls.overlay(subject, clip, given.rule, fill_of(given), **look))
     return [feature_of(geojson.polygons(shapes), {"properties": {"rule": given.rule}})] * bool(shapes)
 
 
 def kept_pieces(given: Any, scaled: Scaled, first: File, second: File) -> list[dict[str, Any]]:
     """For each feature of the first file, overlaid by itself, a feature of the pieces that it gives."""
-    features = []
-    clip = scaled.whole(polygons_of(given, second))
-    look: dict[str, Any] = {**look_of(given), "minimum_area": scaled.area(given.min_area)}
-    for each in first.features:
-        subject = scaled.whole(polygons_of(given, first, each.parts))
-        near = [contour for contour in clip if boxes_meet(contour, subject)]
-        shapes = scaled.shapes(calls.overlay(subject, near, given.rule, fill_of(given), **look))
-        if shapes:
-            features.append(feature_of(geojson.polygons(shapes), each.members))
+    features, look = [], look_of(given, scaled)
+    what = f"overlay of {len(first.features)} features by {rings_of(second)} rings"
+    with faults_of(second.name):
+        clip = Nearby(scaled.whole(polygons_of(given, second)))
+    with long_work(what, len(first.features), given.quiet) as step:
+        for each in first.features:
+            with faults_of(first.name, number=each.number):
+                shapes = kept_piece(given, scaled, polygons_of(given, first, each.parts), clip, look)
+            if shapes:
+                features.append(feature_of(geojson.polygons(shapes), each.members))
+            step()
+    first.told.say()
     return features
+
+
+def kept_piece(given: Any, scaled: Scaled, polygons: Polygons, clip: Nearby, look: dict[str, Any]) -> Any:
+    """The shapes of an overlay of polygons by what is near them."""
+    subject = scaled.whole(polygons)
+    near = clip.part_within(subject)
+    if not near and given.rule == "intersect":
+        return []
+    return scaled.shapes(calls.overlay(subject, near, given.rule, fill_of(given), **look))
+
+
+ANSWERS = {None: joined, "first": kept_pieces, "both": features_of_both}
 
 
 def run_relate(given: Any) -> None:
     """Tells which relations hold between the polygons of two files"""
     first, second = two_of_polygons(given)
     both = polygons_of(given, first), polygons_of(given, second)
-    with told_where_it_takes_long(f"relations of {len(paths_of(first))} and {len(paths_of(second))} rings"):
+    with work_on_two(given, f"relations of {rings_of(first)} and {rings_of(second)} rings", first, second):
         relations = Scaled.of_digits(given.digits).relate(*both, fill_of(given), solver=given.solver)
     files.leave([(files.json_text(relations), given.out)])
 
@@ -120,39 +131,43 @@ def run_clip(given: Any) -> None:
     picture.add_contours("subject", paths_of(area))
     picture.add_paths("line", paths_of(roads))
     features = []
-    with told_where_it_takes_long(f"clip of {len(roads.features)} features by {len(paths_of(area))} rings"):
-        polygons, how = polygons_of(given, area), {"solver": given.solver}
-        shape = Nearby(scaled.region("shape", polygons, fill_of(given), how, is_joined=True))
-        scaled.whole(roads.lines)
+    with faults_of(area.name):
+        region = scaled.region("shape", polygons_of(given, area), fill_of(given), given.solver, is_joined=True)
+        shape = Nearby(region)
+    lines = iter(scaled.whole(roads.lines))
+    what = f"clip of {len(roads.features)} features by {rings_of(area)} rings"
+    with long_work(what, len(roads.features), given.quiet) as step:
         for each in roads.features:
-            paths = clipped(given, scaled, shape, each)
-            picture.add_paths("answer", paths)
+            with faults_of(roads.name, number=each.number):
+                paths = clipped(given, scaled, shape, list(islice(lines, len(each.parts))))
+            if given.svg:
+                picture.add_paths("answer", paths)
             if each.is_null:
                 features.append(null_feature(each))
             elif paths:
                 features.append(feature_of(geojson.lines(paths), each.members))
+            step()
     leave(given, features, picture, roads)
 
 
-def clipped(given: Any, scaled: Scaled, shape: Nearby, each: Feature) -> Any:
+def clipped(given: Any, scaled: Scaled, shape: Nearby, lines: list[WholePath]) -> Any:
     """The parts of the lines of a feature that are kept."""
-    if not each.parts:
+    near = shape.part(lines)
+    if not lines or not near and not given.invert:
         return []
     options = {"invert": given.invert, "boundary": given.boundary, "solver": given.solver}
-    lines = [scaled.whole_path(path) for path in each.paths]
-    return scaled.paths(calls.clip(shape.part(lines), lines, fill_of(given), **options))
+    return scaled.paths(calls.clip(near, lines, fill_of(given), **options))
 
 
 def run_slice(given: Any) -> None:
     """Slices the polygons of a file, feature by feature, along the lines of a second file"""
     walls = files.lines_of(given.other, given.skip_invalid)
     scaled = Scaled.of_digits(given.digits)
-    lines = scaled.whole(walls.lines)
+    lines = LinesNearby(scaled.whole(walls.lines))
 
     def cut(polygons: Polygons) -> Any:
-        contours = scaled.region("shape", polygons, fill_of(given), {"solver": given.solver}, is_joined=True)
-        near = lines_near(lines, contours)
-        return scaled.shapes(calls.slice(contours, near, fill_of(given), solver=given.solver))
+        contours = scaled.region("shape", polygons, fill_of(given), given.solver, is_joined=True)
+        return scaled.shapes(calls.slice(contours, lines.part(contours), fill_of(given), solver=given.solver))
 
     answer_features(given, "slices", cut, walls, is_parted=True)
 
@@ -163,8 +178,13 @@ def run_slice(given: Any) -> None:
 def run_simplify(given: Any) -> None:
     """Makes the polygons of a file valid, feature by feature"""
     scaled = Scaled.of_digits(given.digits)
-    look = look_of(given)
-    answer_features(given, "simplified", lambda area: scaled.overlay(area, (), "subject", fill_of(given), **look))
+    look = look_of(given, scaled)
+
+    def answer(area: Polygons) -> Any:
+        region = scaled.region("subject", area, fill_of(given), given.solver)
+        return scaled.shapes(calls.overlay(region, (), "subject", fill_of(given), **look))
+
+    answer_features(given, "simplified", answer)
 
 
 def run_tiles(given: Any) -> None:
@@ -189,15 +209,18 @@ def answer_features(
         tell_other_crs(area, walls)
         picture.add_paths("line", paths_of(walls))
     features = []
-    with told_where_it_takes_long(f"{title} of {len(area.features)} features"):
+    with long_work(f"{title} of {len(area.features)} features", len(area.features), given.quiet) as step:
         for each in area.features:
             if each.is_null:
                 features.append(null_feature(each))
-            shapes = answer(polygons_of(given, area, each.parts))
+            with faults_of(area.name, number=each.number):
+                shapes = answer(polygons_of(given, area, each.parts))
             for shape in shapes if given.svg else ():
                 picture.add_contours("answer", shape, strength=0.55)
             groups = [[shape] for shape in shapes] if is_parted else [shapes] * bool(shapes)
             features += [feature_of(geojson.polygons(group), each.members) for group in groups]
+            step()
+    area.told.say()
     leave(given, features, picture, area)
 
 
@@ -209,15 +232,23 @@ def run_locate(given: Any) -> None:
     scaled = Scaled.of_digits(given.digits)
     picture = Picture("points, located")
     picture.add_contours("subject", paths_of(area))
-    with told_where_it_takes_long(f"places of {len(places.features)} features in {len(paths_of(area))} rings"):
+    with work_on_two(given, f"places of {len(places.features)} features in {rings_of(area)} rings", area, places):
         shapes = calls.overlay(scaled.whole(polygons_of(given, area)), (), "subject", fill_of(given))
         points = [point[:2] for path in paths_of(places) for point in path]
-        told = calls.locate([contour for shape in shapes for contour in shape], scaled.whole([points])[0])
+        told = calls.locate([contour for shape in shapes for contour in shape], whole_points_of(scaled, places, points))
     for name in ("inside", "boundary", "outside"):
         picture.add_points(name, [point for point, place in zip(points, told) if place == name])
     found = iter(told)
     features = [located(places, each, found) for each in places.features]
     leave(given, features, picture, places)
+
+
+def whole_points_of(scaled: Scaled, places: File, points: Sequence[Any]) -> WholePath:
+    """The points of a file with whole coordinates, in the range."""
+    found = scaled.whole_path(points)
+    parts = [part for each in places.features for part in each.parts]
+    check_range(places.name, [(part.place, [point]) for part, point in zip(parts, found)])
+    return found
 
 
 def located(places: File, each: Feature, found: Any) -> dict[str, Any]:
@@ -242,6 +273,6 @@ def located(places: File, each: Feature, found: Any) -> dict[str, Any]:
 def run_svg(given: Any) -> None:
     """Draws an input of the program and its answer"""
     text = files.text_of(given.input)
-    with told_where_it_takes_long("picture"):
+    with faults_of(files.shown_name(given.input)), long_work("picture", is_quiet=given.quiet):
         picture = picture_of(text, given.nodes)
     files.leave([(picture.svg(given.width), given.out)])

@@ -6,22 +6,24 @@ from array import array
 from fractions import Fraction
 from itertools import islice
 from math import ceil
+from operator import sub
 from typing import Any, Iterable, Sequence
 
-from . import calls
-from .columns import whole_points
+from . import calls, quick
+from .columns import ERROR, EXACT, LEAST, whole_points
 from .contour import WholePath, WholePoint
 from .errors import BadInput
 from .flat import Flat, FlatFloats, FlatShapes, copied
 from .geojson import is_geometry, points_of
 from .numbers import ratio_of
 from .prepared import Prepared
+from .progress import faults_of
 from .reading import Lines, Polygons, lines_in, polygons_in
+from .rules import listed_groups
+from .rules_at_scale import Group, RulesAtScale
 from .shapes import Paths, Shapes
-from .text import SNAPPED, items_of
+from .text import SNAPPED, Fill, Rule, Solver, items_of
 from .told import Told
-
-Group = Any
 
 
 class Axis:
@@ -30,24 +32,47 @@ class Axis:
     def __init__(self, start: Fraction, scale: Fraction) -> None:
         (top, bottom), (up, down) = start.as_integer_ratio(), scale.as_integer_ratio()
         self.times, self.less, self.over = bottom * up, top * up, bottom * down
-        # (for columns of floats, where these are floats)
+        # (for floats, where these are floats)
         exact = float_of(start), float_of(scale)
         self.floats = None if None in exact else exact
+        self.start, self.scale = (0.0, 0.0) if None in exact else (float(start), float(scale))
+        self.error, self.far = self.scale * ERROR, abs(self.start)
 
     def whole(self, value: Any) -> int:
         """The whole number nearest to a number; of two equally near ones the even one."""
+        if type(value) is float and self.scale:
+            found = (value - self.start) * self.scale
+            # (as floats have it, unless it is near a half or large)
+            if -EXACT < found < EXACT:
+                near = round(found)
+                if abs(found - near) + (abs(value) + self.far) * self.error + LEAST < 0.5:
+                    return near
         top, bottom = ratio_of(value)
         # (of the number and a half, which is a whole number just where two are equally near)
         distance = bottom * self.over
         nearest, rest = divmod(2 * (top * self.times - bottom * self.less) + distance, 2 * distance)
         return nearest - 1 if rest == 0 and nearest % 2 else nearest
 
+    def column(self, values: Sequence[float]) -> list[int]:
+        """The whole numbers of some floats. Raises ValueError or OverflowError where one is no number."""
+        if not self.scale or not values:
+            return list(map(self.whole, values))
+        start, scale = self.start, self.scale
+        found = [(value - start) * scale for value in values]
+        # (as floats have them, unless one is near a half or large)
+        if largest(found) < EXACT:
+            near = [round(value) for value in found]
+            lost = largest(list(map(sub, found, near)))
+            if lost + (largest(values) + self.far) * self.error + LEAST < 0.5:
+                return near
+        return list(map(self.whole, values))
+
     def number(self, whole: int) -> float:
         """The float nearest to the number that a whole one stands for."""
         return (whole * self.over + self.less) / self.times
 
 
-class Scaled:
+class Scaled(RulesAtScale):
     """Coordinates that are floats, taken as whole numbers: each less the origin's, times the scale, and rounded.
 
     So a coordinate is taken at most half a unit from where it is, which is `lost` in the floats' own unit; an answer is
@@ -64,6 +89,18 @@ class Scaled:
             raise BadInput(f"the origin {origin!r} is no point of two numbers")
         self.origin = tuple(fraction_of(value, "the origin") for value in origin)
         self.axes = [Axis(start, self.scale) for start in self.origin]
+
+    def __repr__(self) -> str:
+        scale, *origin = (value.numerator if value.denominator == 1 else value for value in (self.scale, *self.origin))
+        return f"Scaled({scale!r})" if not any(origin) else f"Scaled({scale!r}, {tuple(origin)!r})"
+
+    def __eq__(self, other: object) -> bool:
+        if not isinstance(other, Scaled):
+            return NotImplemented
+        return (self.scale, self.origin) == (other.scale, other.origin)
+
+    def __hash__(self) -> int:
+        return hash((self.scale, self.origin))
 
     @classmethod
     def of_digits(cls, digits: int, origin: Sequence[Any] = (0, 0)) -> Scaled:
@@ -86,7 +123,14 @@ class Scaled:
     def whole_path(self, path: Sequence[Any]) -> WholePath:
         """A path with whole points."""
         found = whole_points(self.axes, path)
-        return [self.whole_point(point) for point in path] if found is None else found
+        if found is not None:
+            return found
+        across, up = (axis.whole for axis in self.axes)
+        try:
+            return [(across(x), up(y)) for x, y in path]
+        except (TypeError, ValueError, OverflowError):
+            # (a point that is none is named)
+            return [self.whole_point(point) for point in path]
 
     def whole(self, paths: Group, name: str = "paths") -> list[WholePath]:
         """Paths with whole points; of polygons that were read, their contours for the fill rule nonzero. A fault names
@@ -119,6 +163,8 @@ class Scaled:
     def area(self, area: Any) -> int:
         """The smallest area of a contour, in squares of the floats' unit, as a whole number of squares at this scale:
         the nearest, of two equally near ones the smaller. So each contour of that area is kept."""
+        if type(area) is int and area == 0:
+            return 0
         exact = fraction_of(area, "the minimum area")
         squares = exact * self.scale**2
         if exact < 0 or squares > calls.AREA_LIMIT:
@@ -156,83 +202,131 @@ class Scaled:
         return self.whole(taken(name, group), name)
 
     def region(
-        self, name: str, given: Group, fill: str, options: dict[str, Any], is_joined: bool = False
-    ) -> list[WholePath]:
+        self, name: str, given: Group, fill: Fill, solver: Solver = SNAPPED, is_joined: bool = False
+    ) -> list[WholePath] | Flat:
         """The contours of a group, with whole points; of polygons contours that fill with the fill rule what these
         cover. Polygons are joined where it does not join them, or where a call asks for that."""
+        if fill != "negative":
+            plain = quick.region(given, self.axes, is_joined or fill == "evenodd")
+            if plain is not None:
+                return plain
         group = taken(name, given)
         contours = self.whole(group, name)
         if not isinstance(group, Polygons) or group.is_raw:
             return contours
         if len(group.parts) > 1 and (is_joined or fill == "evenodd"):
-            joined = calls.overlay(contours, (), "subject", solver=options.get("solver", SNAPPED))
+            joined = calls.overlay(contours, (), "subject", solver=solver)
             contours = [contour for shape in joined for contour in shape]
         return [contour[::-1] for contour in contours] if fill == "negative" else contours
 
     def _both(
-        self, subject: Group, clip: Group, fill: str, options: dict[str, Any], is_joined: bool = False
-    ) -> tuple[list[WholePath], list[WholePath]]:
+        self, subject: Group, clip: Group, fill: Fill, solver: Solver, is_joined: bool = False
+    ) -> tuple[Any, Any]:
         """The contours of two groups."""
-        how = fill, options, is_joined
+        how = fill, solver, is_joined
         return self.region("subject", subject, *how), self.region("clip", clip, *how)
 
     def overlay(
         self,
         subject: Group,
         clip: Group = (),
-        rule: str = "union",
-        fill: str = "nonzero",
+        rule: Rule = "union",
+        fill: Fill = "nonzero",
         *,
         minimum_area: Any = 0,
-        **look: Any,
+        solver: Solver = SNAPPED,
+        **look: bool,
     ) -> Any:
         """As `polyover.overlay`; the minimum area is in squares of the floats' unit."""
-        both, area = self._both(subject, clip, fill, look), self.area(minimum_area)
-        return self.shapes(calls.overlay(*both, rule, fill, minimum_area=area, **look))
+        both, area = self._both(subject, clip, fill, solver), self.area(minimum_area)
+        return self.shapes(calls.overlay(*both, rule, fill, minimum_area=area, solver=solver, **look))
+
+    def union_all(
+        self,
+        groups: Iterable[Group],
+        fill: Fill = "nonzero",
+        *,
+        minimum_area: Any = 0,
+        solver: Solver = SNAPPED,
+        **look: bool,
+    ) -> Any:
+        """As `polyover.union_all`: groups are lists of contours, or geometries, which fill what they cover."""
+        contours: list[WholePath] = []
+        for number, each in enumerate(listed_groups(groups), 1):
+            with faults_of(f"group {number}"):
+                region = self.region("subject", each, fill, solver)
+                shapes = calls.overlay(region, (), "subject", fill, solver=solver)
+            contours += [contour for shape in shapes for contour in shape]
+        options: dict[str, Any] = {"minimum_area": self.area(minimum_area), "solver": solver, **look}
+        return self.shapes(calls.overlay(contours, (), "subject", "nonzero", **options))
 
     def hierarchy(
         self,
         subject: Group,
         clip: Group = (),
-        rule: str = "union",
-        fill: str = "nonzero",
+        rule: Rule = "union",
+        fill: Fill = "nonzero",
         *,
         minimum_area: Any = 0,
-        **look: Any,
+        solver: Solver = SNAPPED,
+        **look: bool,
     ) -> Any:
         """As `polyover.hierarchy`; the minimum area is in squares of the floats' unit."""
-        both, area = self._both(subject, clip, fill, look), self.area(minimum_area)
-        shapes, links = calls.hierarchy(*both, rule, fill, minimum_area=area, **look)
+        both, area = self._both(subject, clip, fill, solver), self.area(minimum_area)
+        shapes, links = calls.hierarchy(*both, rule, fill, minimum_area=area, solver=solver, **look)
         return self.shapes(shapes), links
 
-    def simplify(self, subject: Group, fill: str = "nonzero", *, minimum_area: Any = 0, **look: Any) -> Any:
+    def simplify(
+        self,
+        subject: Group,
+        fill: Fill = "nonzero",
+        *,
+        minimum_area: Any = 0,
+        solver: Solver = SNAPPED,
+        **look: bool,
+    ) -> Any:
         """As `polyover.simplify`; the minimum area is in squares of the floats' unit."""
-        region, area = self.region("subject", subject, fill, look), self.area(minimum_area)
-        return self.shapes(calls.simplify(region, fill, minimum_area=area, **look))
+        region, area = self.region("subject", subject, fill, solver), self.area(minimum_area)
+        return self.shapes(calls.simplify(region, fill, minimum_area=area, solver=solver, **look))
 
-    def edges(self, subject: Group, clip: Group = (), fill: str = "nonzero", **options: Any) -> Any:
+    def edges(self, subject: Group, clip: Group = (), fill: Fill = "nonzero", *, solver: Solver = SNAPPED) -> Any:
         """As `polyover.edges`; the polygons of a geometry are joined first."""
-        return self.filled(calls.edges(*self._both(subject, clip, fill, options, True), fill, **options))
+        return self.filled(calls.edges(*self._both(subject, clip, fill, solver, True), fill, solver=solver))
 
-    def relate(self, subject: Group, clip: Group, fill: str = "nonzero", **options: Any) -> Any:
+    def relate(
+        self, subject: Group, clip: Group, fill: Fill = "nonzero", *, solver: Solver = SNAPPED
+    ) -> dict[str, bool]:
         """As `polyover.relate`, of the coordinates as they are taken at this scale."""
-        return calls.relate(*self._both(subject, clip, fill, options), fill, **options)
+        return calls.relate(*self._both(subject, clip, fill, solver), fill, solver=solver)
 
-    def clip(self, shape: Group, lines: Group, fill: str = "nonzero", **options: Any) -> Any:
+    def clip(
+        self, shape: Group, lines: Group, fill: Fill = "nonzero", *, solver: Solver = SNAPPED, **options: bool
+    ) -> Any:
         """As `polyover.clip`; the polygons of a geometry are joined first, so that their edges cut no line within."""
-        region, paths = self.region("shape", shape, fill, options, True), self._taken("lines", lines)
-        return self.paths(calls.clip(region, paths, fill, **options))
+        region, paths = self.region("shape", shape, fill, solver, True), self._taken("lines", lines)
+        return self.paths(calls.clip(region, paths, fill, solver=solver, **options))
 
-    def slice(self, shape: Group, lines: Group, fill: str = "nonzero", **options: Any) -> Any:
+    def slice(
+        self, shape: Group, lines: Group, fill: Fill = "nonzero", *, solver: Solver = SNAPPED, **options: bool
+    ) -> Any:
         """As `polyover.slice`; the polygons of a geometry are joined first, so that they do not cut one another."""
-        region, paths = self.region("shape", shape, fill, options, True), self._taken("lines", lines)
-        return self.shapes(calls.slice(region, paths, fill, **options))
+        region, paths = self.region("shape", shape, fill, solver, True), self._taken("lines", lines)
+        return self.shapes(calls.slice(region, paths, fill, solver=solver, **options))
 
-    def tiles(self, shape: Group, width: Any, height: Any, fill: str = "nonzero", **options: Any) -> Any:
+    def tiles(
+        self,
+        shape: Group,
+        width: Any,
+        height: Any,
+        fill: Fill = "nonzero",
+        *,
+        solver: Solver = SNAPPED,
+        **options: bool,
+    ) -> Any:
         """As `polyover.tiles`: a cell's width and height, times the scale, are rounded, and a node is at the origin.
         The polygons of a geometry are joined first, so that they do not cut one another."""
-        region, sides = self.region("shape", shape, fill, options, True), self.sides(width, height)
-        return self.shapes(calls.tiles(region, *sides, fill, **options))
+        region, sides = self.region("shape", shape, fill, solver, True), self.sides(width, height)
+        return self.shapes(calls.tiles(region, *sides, fill, solver=solver, **options))
 
     def sides(self, width: Any, height: Any) -> WholePoint:
         """The whole width and height of a cell."""
@@ -244,12 +338,12 @@ class Scaled:
 
     def locate(self, shape: Group, points: Any, **options: Any) -> Any:
         """As `polyover.locate`; the polygons of a geometry are joined first."""
-        region = self.region("shape", shape, "evenodd", {})
+        region = self.region("shape", shape, "evenodd")
         return calls.locate(region, self.whole_points(points), **options)
 
-    def prepared(self, shape: Group, fill: str = "nonzero", **options: Any) -> Prepared:
+    def prepared(self, shape: Group, fill: Fill = "nonzero", *, solver: Solver = SNAPPED) -> Prepared:
         """As `polyover.Prepared`, asked by points of floats."""
-        return PreparedAtScale(self, shape, fill, **options)
+        return PreparedAtScale(self, shape, fill, solver)
 
     def whole_points(self, points: Any) -> WholePath:
         """Points that are located, with whole coordinates; those of a geometry too."""
@@ -259,13 +353,18 @@ class Scaled:
 class PreparedAtScale(Prepared):
     """A prepared shape whose contours and points are floats, taken as whole numbers at a scale."""
 
-    def __init__(self, scaled: Scaled, shape: Group, fill: str, **options: Any) -> None:
-        region = scaled.region("shape", shape, fill, options)
-        super().__init__(region, fill, **options)
+    def __init__(self, scaled: Scaled, shape: Group, fill: Fill, solver: Solver) -> None:
+        region = scaled.region("shape", shape, fill, solver)
+        super().__init__(region, fill, solver=solver)
         self._scaled = scaled
 
     def _whole(self, points: Any) -> Any:
         return self._scaled.whole_points(points)
+
+
+def largest(values: Sequence[float]) -> float:
+    """How far numbers are from 0 at most."""
+    return max(max(values), -min(values))
 
 
 def float_of(value: Fraction) -> float | None:

@@ -3,11 +3,16 @@
 from __future__ import annotations
 
 from operator import index
-from typing import Any, Collection, Iterable
+from typing import Any, Collection, Iterable, Literal, TypeVar
 
 from .errors import BadInput
 
 Points = Iterable[Any]
+# the words that the calls take
+Rule = Literal["subject", "clip", "intersect", "union", "difference", "inverse_difference", "xor"]
+Fill = Literal["evenodd", "nonzero", "positive", "negative"]
+Solver = Literal["snapped", "rounds"]
+Word = TypeVar("Word")
 
 LIMIT = 2**62 - 1
 RULES = {
@@ -21,16 +26,18 @@ RULES = {
 }
 FILLS = {"evenodd": "EvenOdd", "nonzero": "NonZero", "positive": "Positive", "negative": "Negative"}
 # (how edges are split where they meet, by the numbers of the library)
-SOLVERS = ("snapped", "rounds")
-SNAPPED, ROUNDS = SOLVERS
+SNAPPED: Solver = "snapped"
+ROUNDS: Solver = "rounds"
+SOLVERS = (SNAPPED, ROUNDS)
 # (where a point lies, by the numbers of the library)
 LOCATIONS = ("outside", "inside", "boundary")
 RELATIONS = ("intersects", "interiors_intersect", "touches", "point_intersects", "within", "disjoint", "covers")
 
 
-def known(words: Collection[str], name: object, what: str) -> str:
+def known(words: Collection[str], name: Word, what: str) -> Word:
     """The name of a rule or a solver, which is one of those that there are."""
-    if not isinstance(name, str) or name not in words:
+    is_known = isinstance(name, str) and name in words
+    if not is_known:
         raise BadInput(f"unknown {what} {name!r}: one of {', '.join(words)}")
     return name
 

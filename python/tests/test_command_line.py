@@ -152,6 +152,19 @@ class Polygons(unittest.TestCase):
         # (each half of the bow has an area of 4, the box 2)
         self.assertEqual(self.rings(ran("simplify", given, words=["--min-area", "3.5"])[1]), [[1, 1]])
 
+    def test_a_warning_comes_once(self):
+        given = collection(*[self.CROSSED] * 3)
+        told = ("polyover: a.geojson: 3 rings cross or overlap themselves, and cover what they wind round "
+                "(the first: feature 1, polygon 1, ring 1)\n")
+        other = collection(feature("Polygon", [square(0, 0, 9, 9)]))
+        fence = collection(feature("LineString", [[0, 1], [9, 1]]))
+        for given_words in (("simplify", given), ("tiles", given), ("slice", given, fence), ("overlay", given, other)):
+            words = ["1", "1"] if given_words[0] == "tiles" else []
+            self.assertEqual(ran(*given_words, words=words)[2], told)
+        for keep in ("first", "both"):
+            words = ["--keep", keep, "--rule", "intersect"]
+            self.assertEqual(ran("overlay", given, other, words=words)[2], told)
+
     def test_areas_that_equal_the_smallest(self):
         triangle = collection(feature("Polygon", [[[0, 0], [5, 0], [0, 1], [0, 0]]]))
         other = collection(feature("Polygon", [square(0, 0, 9, 9)]))

@@ -103,7 +103,7 @@ class Inputs(unittest.TestCase):
             ("point 1 2 3 4\n", "line 1: 4 numbers: a point has two"),
             ("Subject 0 0\n", "line 1: the first word is subject, not Subject"),
             (square + "run edges NonZero\n" + square, "line 3: it stands behind the command"),
-            ("subject 0 0 4 4 4 0 0 4\nrun locate\n", "line 1: two steps of the contour share|contour 0 is not"),
+            ("subject 0 0 4 4 4 0 0 4\nrun locate\n", "line 1: two steps of the contour share|contour 1 is not"),
         ):
             with self.subTest(text), self.assertRaisesRegex(PolyoverError, told):
                 told_of(text)

@@ -66,7 +66,8 @@ class Wrong(unittest.TestCase):
     def test_contour_that_meets_itself(self):
         with self.assertRaises(polyover.NotResolved) as found:
             polyover.locate([SQUARE, [(0, 0), (4, 4), (4, 0), (0, 4)]], [(1, 1)])
-        self.assertEqual(found.exception.contour, 1)
+        self.assertEqual(found.exception.contour, 2)
+        self.assertTrue(str(found.exception).startswith("contour 2 is not resolved"))
 
     def test_no_program(self):
         with mock.patch.dict(os.environ, {"POLYOVER_LIBRARY": "", "POLYOVER_PROGRAM": "/nowhere/polyover"}):

@@ -1,0 +1,157 @@
+"""Geometries of polygons whose rings are simple, taken without a reading of features: those of shapely by their bytes
+(WKB), and plain ones of GeoJSON. All others are read with their places, which warnings and faults name."""
+
+from __future__ import annotations
+
+import sys
+from array import array
+from functools import lru_cache
+from operator import mul
+from struct import unpack_from
+from typing import Any, Sequence
+
+from . import calls
+from .columns import whole_columns
+from .flat import Flat
+from .geojson import plain_points
+from .text import LIMIT
+
+LITTLE = sys.byteorder == "little"
+POLYGON, MULTIPOLYGON = 3, 6
+# (of a ring its x-coordinates and its y-coordinates, without the first ones again at the end)
+Columns = tuple[Sequence[float], Sequence[float]]
+Polygon = list[Columns]
+
+
+@lru_cache(maxsize=256)
+def is_of_shapely(kind: Any) -> bool:
+    """Whether a type is one of shapely's polygons."""
+    return kind.__module__.startswith("shapely.") and kind.__name__ in ("Polygon", "MultiPolygon")
+
+
+# ---- rings
+
+
+def open_columns(numbers: Sequence[float]) -> Columns | None:
+    """The columns of a ring, whose coordinates are in a row; none where it is no ring."""
+    if len(numbers) < 8 or numbers[0] != numbers[-2] or numbers[1] != numbers[-1]:
+        return None
+    return numbers[:-2:2], numbers[1:-2:2]
+
+
+def polygon_in_bytes(data: bytes, at: int) -> tuple[Polygon | None, int]:
+    """The rings of a polygon that begins at a place, and where it ends; none where there is no such polygon."""
+    order, kind, count = unpack_from("<BII", data, at)
+    if order != 1 or kind != POLYGON:
+        return None, at
+    rings: Polygon = []
+    at += 9
+    for _ in range(count):
+        end = at + 4 + 16 * int(unpack_from("<I", data, at)[0])
+        numbers = array("d")
+        numbers.frombytes(data[at + 4 : end])
+        ring = open_columns(numbers)
+        if ring is None:
+            return None, at
+        rings.append(ring)
+        at = end
+    return rings, at
+
+
+def polygons_in_bytes(data: bytes) -> list[Polygon] | None:
+    """The polygons of well-known binary of two coordinates a point."""
+    order, kind, count = unpack_from("<BII", data)
+    if not LITTLE or order != 1 or kind not in (POLYGON, MULTIPOLYGON):
+        return None
+    found: list[Polygon] = []
+    at, count = (9, count) if kind == MULTIPOLYGON else (0, 1)
+    for _ in range(count):
+        rings, at = polygon_in_bytes(data, at)
+        if rings is None:
+            return None
+        found.append(rings)
+    return found
+
+
+def plain_polygon(coordinates: Any) -> Polygon | None:
+    """The rings of a polygon of GeoJSON."""
+    rings: Polygon = []
+    for each in coordinates if isinstance(coordinates, (list, tuple)) else [None]:
+        points = plain_points(each)
+        if points is None or len(points) < 4 or points[0] != points[-1]:
+            return None
+        xs, ys = zip(*points[:-1])
+        rings.append((xs, ys))
+    return rings
+
+
+def polygons_of(thing: Any) -> list[Polygon] | None:
+    """The polygons of a geometry, if it is one of those that are taken here."""
+    kind: Any = type(thing)
+    if is_of_shapely(kind):
+        return polygons_in_bytes(thing.wkb)
+    if not isinstance(thing, dict) or not isinstance(thing.get("coordinates"), (list, tuple)):
+        return None
+    if thing.get("type") == "Polygon":
+        found = [plain_polygon(thing["coordinates"])]
+    elif thing.get("type") == "MultiPolygon":
+        found = [plain_polygon(each) for each in thing["coordinates"]]
+    else:
+        return None
+    polygons = [rings for rings in found if rings is not None]
+    return polygons if len(polygons) == len(found) else None
+
+
+# ---- contours
+
+
+def directed(xs: list[int], ys: list[int], is_outline: bool) -> list[int] | None:
+    """The coordinates of a ring in a row, in the direction that it is to have: outlines run counterclockwise. None
+    where it visits a point twice, has no area, or is out of range."""
+    area = sum(map(mul, xs, ys[1:] + ys[:1])) - sum(map(mul, ys, xs[1:] + xs[:1]))
+    extent = max(-min(xs), max(xs), -min(ys), max(ys))
+    if not area or extent > LIMIT or len(set(zip(xs, ys))) < len(xs):
+        return None
+    row = [0] * (2 * len(xs))
+    row[0::2], row[1::2] = (xs, ys) if (area > 0) == is_outline else (xs[::-1], ys[::-1])
+    return row
+
+
+def contours_of(polygons: Sequence[Polygon], axes: Sequence[Any]) -> Flat | None:
+    """The contours of polygons with whole points, as `nonzero` and `positive` take them. None where rings meet
+    themselves or holes are not inside, and of several polygons with holes."""
+    if len(polygons) > 1 and any(len(rings) > 1 for rings in polygons):
+        return None
+    numbers, ends = array("q"), array("Q")
+    for rings in polygons:
+        for at, columns in enumerate(rings):
+            row = directed(*whole_columns(axes, *columns), at == 0)
+            if row is None:
+                return None
+            numbers.extend(row)
+            ends.append(len(numbers) // 2)
+    contours = Flat.of_arrays(numbers, ends)
+    if not calls.asked("is_resolved").is_resolved(contours):
+        return None
+    is_bad = polygons and len(polygons[0]) > 1 and has_bad_holes(contours)
+    return None if is_bad else contours
+
+
+def has_bad_holes(contours: Flat) -> bool:
+    """Whether holes of a polygon overlap, or are not inside its outline: its contours wind round less than 0."""
+    by = calls.asked("overlay")
+    look = calls.Look(ogc=False, clockwise=False, keep=False, minimum_area=0)
+    return bool(by.overlay(contours, (), "subject", "negative", look))
+
+
+def region(thing: Any, axes: Sequence[Any], is_one: bool) -> Flat | None:
+    """The contours of a geometry with whole points, if it is taken here, and, where that is asked for, has one polygon
+    at most."""
+    polygons = polygons_of(thing)
+    if polygons is None or is_one and len(polygons) > 1:
+        return None
+    try:
+        return contours_of(polygons, axes)
+    except (ValueError, OverflowError):
+        # (a number that is none: the reading of features names its place)
+        return None
