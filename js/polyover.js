@@ -22,17 +22,31 @@ export { RemotePolyover, RemotePrepared } from "./remote.js";
 // (bundlers for browsers leave a name in a variable alone)
 const FILES = "node:fs/promises";
 
-/** The bytes of a file, where the system of files is there, or of what a URL answers. */
-async function bytesAt(url) {
+const STREAMED = "application/wasm";
+const NAMELESS = "this module has no address, as in a bundle of CommonJS: load({ wasm }) takes one, or the bytes";
+
+/** The module in a file, where the system of files is there, or in what a URL answers: compiled while it comes in. */
+async function compiledAt(url) {
   if (url.protocol === "file:" && typeof process !== "undefined" && process.versions?.node) {
     const { readFile } = await import(/* webpackIgnore: true */ /* @vite-ignore */ FILES);
-    return readFile(url);
+    return WebAssembly.compile(await readFile(url));
   }
   const answer = await fetch(url);
   if (!answer.ok) {
     throw new Error(`${url}: ${answer.status}`);
   }
-  return answer.arrayBuffer();
+  // (engines compile nothing while it comes in that a server says is of another type)
+  const isStreamed = "compileStreaming" in WebAssembly && answer.headers.get("Content-Type") === STREAMED;
+  return isStreamed ? WebAssembly.compileStreaming(answer) : WebAssembly.compile(await answer.arrayBuffer());
+}
+
+/** The address of the module of WebAssembly: one that may count from that of this file, or the file beside this one. */
+function addressOf(wasm) {
+  try {
+    return wasm === undefined ? new URL("./polyover.wasm", import.meta.url) : new URL(wasm, import.meta.url);
+  } catch (fault) {
+    throw new Error(import.meta.url === undefined ? NAMELESS : fault.message);
+  }
 }
 
 /** The module of WebAssembly: one that is compiled, its bytes, or where it is. */
@@ -41,7 +55,7 @@ async function compiled(wasm) {
     return wasm;
   }
   const isBytes = wasm instanceof ArrayBuffer || ArrayBuffer.isView(wasm);
-  return WebAssembly.compile(isBytes ? wasm : await bytesAt(new URL(wasm, import.meta.url)));
+  return isBytes ? WebAssembly.compile(wasm) : compiledAt(addressOf(wasm));
 }
 
 /**
@@ -52,10 +66,9 @@ async function compiled(wasm) {
  */
 export async function load(options = {}) {
   checkNames(options, ["wasm", "worker"]);
-  const wasm = options.wasm ?? new URL("./polyover.wasm", import.meta.url);
   const isInWorker = truth("worker")(options.worker ?? false);
   try {
-    const module = await compiled(wasm);
+    const module = await compiled(options.wasm ?? undefined);
     return isInWorker ? await RemotePolyover.over(module) : new Polyover(await WebAssembly.instantiate(module, {}));
   } catch (fault) {
     throw new LibraryMissing(`the module of WebAssembly cannot be loaded: ${fault.message}`);

@@ -5,8 +5,10 @@
  * @typedef {{place: Place, point: number[]}} Aim
  */
 
-import { KINDS, isClosed } from "./drawing.js";
+import { COMMANDS } from "./commands.js";
+import { KINDS, allPaths, boxOf, isClosed, isLive } from "./drawing.js";
 import { isInside, squareToStep } from "./measure.js";
+import { FARTHEST, PARTS, windingOf } from "./windings.js";
 
 /** The nearest point within a distance, later ones and those drawn on top first. @returns {Aim | null} */
 export function pointNear(figures, x, y, /** @type {number} */ reach) {
@@ -60,4 +62,19 @@ export function pieceAt(answer, x, y, /** @type {number} */ reach) {
     points.some((point, at) => at && squareToStep(points[at - 1], point, x, y) < reach * reach),
   );
   return path >= 0 ? path : null;
+}
+
+/**
+ * The windings round a point of what the command takes, where that is not too much: pairs of a kind and a number. Null
+ * beside the drawing.
+ *
+ * @returns {[string, number][] | null}
+ */
+export function windingsAt(/** @type {import("./state.js").Drawing} */ { figures, asked }, x, y) {
+  const [left, low, right, high] = boxOf(allPaths(figures)) ?? [1, 1, 0, 0];
+  const isIn = x >= left && x <= right && y >= low && y <= high;
+  if (!isIn || !isLive(figures) || Math.max(-left, right, -low, high) > FARTHEST) return null;
+  const kinds = COMMANDS[asked.command].takes.filter(isClosed);
+  const point = [Math.round(PARTS * x), Math.round(PARTS * y)];
+  return kinds.map((kind) => [kind, windingOf(figures[kind], point[0], point[1])]);
 }

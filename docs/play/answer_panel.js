@@ -1,12 +1,17 @@
 /** The answer in words: beside the board, under it, and at the pointer. */
 
 import { counted, piecesOf, summaryOf } from "./answers.js";
+import { isFilled } from "./check.js";
+import { RADIUS } from "./lens.js";
 import { RELATIONS } from "./commands.js";
 import { legendOf } from "./scene.js";
 import { byId, element } from "./page.js";
 
 /** The number of pieces, points or edges that are listed. */
 const MOST = 200;
+const TURNING = "Two stars turn, and the answer follows. Drag a point, or draw: they stop.";
+/** Faults after which the same may be asked again. */
+const AGAIN = ["WorkerEnded", "LibraryMissing", "Cancelled", "OutOfMemory"];
 const SIDES = ["subject above", "subject below", "clip above", "clip below"];
 
 /** The unit of a drawing: what a step of its coordinates is, by its digits. */
@@ -55,7 +60,7 @@ function detailsOf(state, answer) {
       return element("ul", { class: "pieces" }, ...RELATIONS.map((name) => relationLine(name, answer.relations[name])));
     case "locations": {
       const points = answer.drawing.figures.point;
-      const mark = (at) => [element("i", { class: "mark", mark: answer.locations[at] })];
+      const mark = (at) => [element("i", { class: `mark ${answer.locations[at]}`, mark: answer.locations[at] })];
       return listed(answer.locations.map((place, at) => [`(${points[at][0].join(", ")})`, place]), mark);
     }
     case "edges":
@@ -77,7 +82,7 @@ function faultBox(state, answer) {
     const ask = () => state.ask({ solver: "snapped" });
     box.append(element("br"), element("button", { type: "button", onclick: ask }, "Ask the snapped solver"));
   }
-  if (answer.name === "WorkerEnded" || answer.name === "LibraryMissing") {
+  if (AGAIN.includes(answer.name)) {
     const again = () => state.tell("again");
     box.append(element("br"), element("button", { type: "button", onclick: again }, "Ask again"));
   }
@@ -103,7 +108,9 @@ function showAnswer(state) {
   const time = element("p", { class: "quiet", id: "time" }, inTime(answer.time));
   byId("answer").replaceChildren(headline, time, detailsOf(state, answer));
   const name = `${answer.drawing.asked.command}: `;
-  if (summary.textContent !== name + told) summary.replaceChildren(element("b", {}, name), told);
+  // (a screen reader need not read each turn)
+  if (state.isTurning) summary.textContent = TURNING;
+  else if (summary.textContent !== name + told) summary.replaceChildren(element("b", {}, name), told);
 }
 
 /** Shows what colours stand for. */
@@ -112,7 +119,7 @@ function showLegend(board) {
   const marks = [...input, ...answer, ...over, ...nodes];
   const items = legendOf(marks).map(([name, kind]) => {
     const label = name === "before" ? "before snapping" : name;
-    return element("li", { mark: name }, element("i", { class: kind }), label);
+    return element("li", { mark: name }, element("i", { class: `${kind} ${name}` }), label);
   });
   byId("legend").replaceChildren(...items);
   byId("legend").hidden = !items.length;
@@ -120,12 +127,8 @@ function showLegend(board) {
 
 /** Shows the piece that is looked at: at the pointer, and in the list. */
 function showPiece(state, board) {
-  const { piece, answer } = state;
-  const tip = byId("tip");
-  const pieces = answer && piece !== null ? piecesOf(answer, unitOf(answer.drawing)) : [];
-  const told = piece !== null && pieces[piece];
-  tip.hidden = !told || !board.hand.pointer;
-  if (told) tip.textContent = `${told.name}: ${told.size}`;
+  const { piece } = state;
+  showTip(state, board);
   for (const each of document.querySelectorAll("[data-piece]")) {
     const isLooked = /** @type {HTMLElement} */ (each).dataset.piece === String(piece);
     if (isLooked) each.setAttribute("aria-current", "true");
@@ -133,13 +136,34 @@ function showPiece(state, board) {
   }
 }
 
+/** The windings at the pointer, in words. */
+function windingsSaid(state, board) {
+  const { fill } = state.asked;
+  const said = (board.hand.windings ?? []).map(
+    ([kind, winding]) => `${kind} ${winding} (${isFilled(fill, winding) ? "filled" : "not filled"})`,
+  );
+  return said.length ? `windings: ${said.join(", ")}` : "";
+}
+
+/** Tells at the pointer of the piece that is looked at, and of windings. */
+function showTip(state, board) {
+  const { piece, answer } = state;
+  const pieces = answer && piece !== null ? piecesOf(answer, unitOf(answer.drawing)) : [];
+  const told = piece !== null && pieces[piece];
+  const lines = [told ? `${told.name}: ${told.size}` : "", windingsSaid(state, board)].filter(Boolean);
+  byId("tip").hidden = !lines.length || !board.hand.pointer;
+  byId("tip").textContent = lines.join("\n");
+}
+
 /** Shows the point at the pointer, and puts the tip beside it. */
-function showPlace(board) {
+function showPlace(state, board) {
+  showTip(state, board);
   const { pointer, pixels } = board.hand;
   byId("place").textContent = pointer ? `${pointer[0]}, ${pointer[1]}` : "";
   const tip = byId("tip");
-  tip.style.left = `${Math.max(4, Math.min(pixels[0] + 14, board.view.width - 264))}px`;
-  tip.style.top = `${Math.min(pixels[1] + 18, board.view.height - 48)}px`;
+  const beside = state.looks.lens ? RADIUS : 14;
+  tip.style.left = `${Math.max(4, Math.min(pixels[0] + beside, board.view.width - tip.offsetWidth - 4))}px`;
+  tip.style.top = `${Math.min(pixels[1] + 18, board.view.height - tip.offsetHeight - 4)}px`;
 }
 
 /** Joins the answer's panel, the summary, the legend and the tip to the state. */
@@ -148,7 +172,8 @@ export function beginAnswers(/** @type {import("./state.js").State} */ state, bo
   state.on("answer", later);
   state.on("looks", () => showLegend(board));
   state.on("piece", () => showPiece(state, board));
-  state.on("pointer", () => showPlace(board));
+  state.on("drawing turned", () => (board.hand.windings = null));
+  state.on("pointer", () => showPlace(state, board));
   state.on("hand", () => showBegun(board));
 }
 

@@ -16,6 +16,8 @@
  * @property {string} [message]  of a fault
  * @property {Edge[]} [arrangement]  the edges of the arrangement, where they are asked for
  * @property {number[][]} [nodes]  the ends of the arrangement's edges, where they are asked for
+ * @property {Record<string, Path[]>} [regions]  what a rule fills that canvases do not have, by kinds
+ * @property {Answer} [other]  the answer by the other solver, where it is asked for
  * @property {number} time  milliseconds in the library
  * @property {import("./state.js").Drawing} drawing  of which it is the answer
  */

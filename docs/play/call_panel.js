@@ -14,6 +14,7 @@ export function beginCalls(/** @type {import("./state.js").State} */ state) {
   let timer = 0;
 
   const show = () => {
+    timer = 0;
     byId("call").textContent = callOf(chosen, state.drawing);
     byId("call-note").textContent = noteOf(chosen, state.asked);
   };
@@ -39,9 +40,8 @@ export function beginCalls(/** @type {import("./state.js").State} */ state) {
     byId("copy").textContent = isDone ? "Copied" : "Not allowed";
     setTimeout(() => (byId("copy").textContent = "Copy"), 1500);
   });
-  state.on("drawing", () => {
-    clearTimeout(timer);
-    timer = window.setTimeout(show, 120);
+  state.on("drawing turned", () => {
+    timer ||= window.setTimeout(show, 120);
   });
   choose(chosen);
 }

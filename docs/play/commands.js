@@ -116,6 +116,11 @@ export function isOption(/** @type {Asked} */ { command, fill }, /** @type {stri
   return COMMANDS[command].options.includes(name) && !(isExact && name === "solver");
 }
 
+/** @returns {Asked} the same question to the other solver */
+export function otherSolver(/** @type {Asked} */ asked) {
+  return { ...asked, solver: asked.solver === "snapped" ? "rounds" : "snapped" };
+}
+
 /** The name whose word of the program is this one, or undefined. */
 export function nameOf(/** @type {Record<string, {program: string}>} */ table, /** @type {string} */ word) {
   return Object.keys(table).find((name) => table[name].program === word);

@@ -6,7 +6,7 @@ import { byId, fillSelect } from "./page.js";
 
 const CHECKS = ["valid", "clockwise", "keep", "invert", "boundary"];
 const PICKS = ["command", "rule", "fill", "solver"];
-const LOOKS = ["beside", "nodes", "sides"];
+const LOOKS = ["beside", "solvers", "nodes", "sides", "lens"];
 
 /** Joins the controls of the page to the state. */
 export function beginControls(/** @type {import("./state.js").State} */ state, board, keys) {
@@ -83,13 +83,14 @@ function beginTools(state, board, keys) {
   click("zoom-out", () => keys.zoom(1 / 1.4));
   click("zoom-fit", () => board.fit());
   click("undo-step", () => keys.undo());
-  click("redo-step", () => state.travel("redo"));
+  click("redo-step", () => keys.redo());
   click("finer", () => (state.step({ figures: scaleFigures(state.figures, 2) }), board.fit()));
   click("coarser", () => (state.step({ figures: scaleFigures(state.figures, 0.5) }), board.fit()));
   click("finish", () => keys.hand.finish());
   click("cancel", drop);
-  state.on("drawing steps", () => {
-    /** @type {any} */ (byId("undo-step")).disabled = !state.history.past.length;
-    /** @type {any} */ (byId("redo-step")).disabled = !state.history.future.length;
+  state.on("drawing steps hand", () => {
+    const { takenBack } = keys.hand;
+    /** @type {any} */ (byId("undo-step")).disabled = !state.history.past.length && !board.hand.begun;
+    /** @type {any} */ (byId("redo-step")).disabled = !state.history.future.length && !takenBack.length;
   });
 }

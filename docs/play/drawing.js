@@ -111,3 +111,15 @@ export function boxOf(/** @type {Iterable<Path>} */ paths) {
 
 /** All paths, of each kind. */
 export const allPaths = (/** @type {Figures} */ figures) => KINDS.flatMap((kind) => figures[kind]);
+
+/** The steps of the paths of some kinds, closed for contours: each two points. */
+export function stepsOf(/** @type {Figures} */ figures, /** @type {Kind[]} */ kinds) {
+  return kinds.flatMap((kind) =>
+    figures[kind].flatMap((path) =>
+      path.slice(isClosed(kind) ? 0 : 1).map((point, at) => {
+        const before = isClosed(kind) ? path[at ? at - 1 : path.length - 1] : path[at];
+        return [before, point];
+      }),
+    ),
+  );
+}

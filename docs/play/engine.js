@@ -3,7 +3,7 @@
  * at work waits, and takes the place of the one that waits already.
  */
 
-import { COMMANDS } from "./commands.js";
+import { COMMANDS, otherSolver } from "./commands.js";
 import { edgesIn, groupsIn, nodesOf, pathsIn } from "./answers.js";
 import { KINDS } from "./drawing.js";
 
@@ -40,18 +40,31 @@ export function flat(/** @type {number[][][]} */ paths) {
   return { coordinates, ends };
 }
 
+/**
+ * What is asked for beside the answer to a drawing: the edges of its arrangement, the answer by the other solver, what
+ * subject and clip fill, and the time of a warm call.
+ *
+ * @typedef {{isArranged?: boolean, isCompared?: boolean, isFilled?: boolean, isTimed?: boolean}} Wants
+ */
+
 /** What the worker is told of a drawing. */
-function messageOf(/** @type {import("./state.js").Drawing} */ drawing, /** @type {boolean} */ isArranged) {
+function messageOf(/** @type {import("./state.js").Drawing} */ drawing, /** @type {Wants} */ wants) {
   const { takes } = COMMANDS[drawing.asked.command];
   const figures = Object.fromEntries(
     KINDS.map((kind) => [kind, flat(takes.includes(kind) ? drawing.figures[kind] : [])]),
   );
-  return { figures, asked: drawing.asked, isArranged };
+  return { figures, asked: drawing.asked, ...wants };
 }
 
 /** An answer of the worker as the page shows it. */
-function answerOf(told, /** @type {import("./state.js").Drawing} */ drawing) {
+function answerOf({ other, regions, ...told }, /** @type {import("./state.js").Drawing} */ drawing) {
+  /** @type {any} */
   const answer = { kind: told.kind, time: told.time, drawing };
+  if (regions) {
+    const found = regions.map(([kind, { coordinates, ends }]) => [kind, pathsIn(coordinates, ends)]);
+    answer.regions = Object.fromEntries(found);
+  }
+  if (other) answer.other = answerOf(other, { ...drawing, asked: otherSolver(drawing.asked) });
   if (told.kind === "shapes") {
     answer.shapes = groupsIn(pathsIn(told.coordinates, told.ends), told.shapeEnds);
     if (told.links) answer.links = told.links;
@@ -68,8 +81,12 @@ function answerOf(told, /** @type {import("./state.js").Drawing} */ drawing) {
 
 const MISSING = "The library is not beside this page: docs/play/README.md says how it is opened.";
 const ENDED = "The worker ended by itself before it answered. The next question goes to a new one.";
-/** Faults after which a worker is not asked again: it could not load the library, or a call stopped in its midst. */
-const BROKEN = ["LibraryMissing", "RuntimeError", "RangeError"];
+const CANCELLED = "The question was cancelled. The next one goes to a new worker.";
+/**
+ * Faults after which a worker is not asked again: it could not load the library, a call stopped in its midst, or its
+ * memory, which never becomes smaller, is all taken.
+ */
+const BROKEN = ["LibraryMissing", "RuntimeError", "RangeError", "OutOfMemory", "PolyoverError"];
 
 /** A name for the lock of a worker. */
 const lockName = () => `polyover ${Date.now()} ${Math.random()}`;
@@ -85,7 +102,7 @@ export function startWorker(/** @type {(data: any) => void} */ take, /** @type {
   let isLoaded = false;
   const ended = () => end(isLoaded ? ENDED : MISSING);
   worker.onmessage = ({ data }) => {
-    isLoaded ||= data === "ready";
+    isLoaded ||= data.kind === "ready";
     if (data === "held") navigator.locks.request(lock, ended);
     else take(data);
   };
@@ -99,17 +116,23 @@ export function startWorker(/** @type {(data: any) => void} */ take, /** @type {
 }
 
 export class Engine {
-  /** Has `take` called with each answer. */
-  constructor(/** @type {(answer: import("./answers.js").Answer) => void} */ take) {
+  /** Has `take` called with each answer, and `load` with how the library was built, once it is loaded. */
+  constructor(
+    /** @type {(answer: import("./answers.js").Answer) => void} */ take,
+    /** @type {(built: string) => void} */ load = () => {},
+  ) {
     this.take = take;
-    /** @type {[import("./state.js").Drawing, boolean] | null} */
+    this.load = load;
+    /** @type {[import("./state.js").Drawing, Wants] | null} */
     this.asked = null;
-    /** @type {[import("./state.js").Drawing, boolean] | null} */
+    /** @type {[import("./state.js").Drawing, Wants] | null} */
     this.next = null;
     /** @type {Worker | null} */
     this.worker = null;
     this.began = 0;
     this.timer = 0;
+    /** It is called when an answer begins to be waited for, and when it no longer is. */
+    this.watch = () => {};
     this.start();
   }
 
@@ -124,7 +147,7 @@ export class Engine {
     const worker = startWorker(
       (data) => {
         if (worker !== this.worker) return;
-        if (data === "ready") this.begin();
+        if (data.kind === "ready") this.begin(data.built);
         else this.receive(data);
       },
       (said) => worker === this.worker && this.end(said),
@@ -138,6 +161,14 @@ export class Engine {
     this.receive({ kind: "fault", name: "WorkerEnded", message: said, time: 0 });
   }
 
+  /** Ends the answer that is on its way, and says so in its place. */
+  cancel() {
+    this.next = null;
+    if (!this.asked) return;
+    this.drop();
+    this.receive({ kind: "fault", name: "Cancelled", message: CANCELLED, time: 0 });
+  }
+
   /** Drops the worker: the next question gets a new one. */
   drop() {
     this.worker?.terminate();
@@ -145,15 +176,16 @@ export class Engine {
   }
 
   /** Counts the time of an answer from now on: the library is loaded. */
-  begin() {
+  begin(/** @type {string} */ built) {
     this.isReady = true;
+    this.load(built);
     this.began = performance.now();
     this.wait();
   }
 
-  /** Asks for the answer to a drawing, with the edges of the arrangement where they are shown. */
-  ask(/** @type {import("./state.js").Drawing} */ drawing, isArranged = false) {
-    this.next = [drawing, isArranged];
+  /** Asks for the answer to a drawing. */
+  ask(/** @type {import("./state.js").Drawing} */ drawing, /** @type {Wants} */ wants = {}) {
+    this.next = [drawing, wants];
     if (this.asked) this.wait();
     else this.send();
   }
@@ -180,6 +212,7 @@ export class Engine {
     this.timer = 0;
     this.asked = this.next;
     this.next = null;
+    this.watch();
     if (!this.asked) return;
     this.began = performance.now();
     if (!this.worker) this.start();

@@ -1,6 +1,6 @@
 /** The pointer on the board: draws, moves, adds and deletes points; moves and zooms what is seen. */
 
-import { contourRound, edgeNear, pieceAt, pointNear } from "./aim.js";
+import { contourRound, edgeNear, pieceAt, pointNear, windingsAt } from "./aim.js";
 import { addPath, addPoint, deletePath, deletePoint, isClosed, movePath, movePoint, snapped } from "./drawing.js";
 
 /** How near, in pixels, the pointer has to be to a point, and to an edge; further for a finger. */
@@ -16,6 +16,8 @@ export class Hand {
     this.pointers = new Map();
     /** @type {any} what a press does when it is dragged */
     this.press = null;
+    /** @type {import("./drawing.js").Point[]} points of the path that is begun, which were taken back */
+    this.takenBack = [];
     const { canvas } = board;
     canvas.addEventListener("pointerdown", (event) => this.down(event));
     canvas.addEventListener("pointermove", (event) => this.move(event));
@@ -163,6 +165,7 @@ export class Hand {
     if (isFirst && begun.points.length > 2) return this.finish();
     const last = begun?.points.at(-1);
     if (last && last[0] === point[0] && last[1] === point[1]) return;
+    this.takenBack = [];
     board.hand.begun = { kind: state.kind, points: [...(begun?.points ?? []), point] };
     state.tell("hand");
   }
@@ -171,11 +174,17 @@ export class Hand {
   finish() {
     const { state, board } = this;
     const { begun } = board.hand;
-    board.hand.begun = null;
+    this.drop();
     if (begun && begun.points.length > (begun.kind === "line" ? 1 : 2)) {
       state.step({ figures: addPath(state.figures, begun.kind, begun.points) });
     }
     state.tell("hand");
+  }
+
+  /** Drops the path that is begun. */
+  drop() {
+    this.board.hand.begun = null;
+    this.takenBack = [];
   }
 
   /** Takes back the last point of the path that is begun. Returns whether there was one. */
@@ -183,7 +192,19 @@ export class Hand {
     const { begun } = this.board.hand;
     if (!begun) return false;
     const points = begun.points.slice(0, -1);
+    this.takenBack.push(begun.points[points.length]);
     this.board.hand.begun = points.length ? { ...begun, points } : null;
+    this.state.tell("hand");
+    return true;
+  }
+
+  /** Puts the point again that was taken back last. Returns whether there was one. */
+  putBack() {
+    const point = this.takenBack.pop();
+    if (!point) return false;
+    const { begun } = this.board.hand;
+    const { kind } = this.state;
+    this.board.hand.begun = { kind: begun?.kind ?? kind, points: [...(begun?.points ?? []), point] };
     this.state.tell("hand");
     return true;
   }
@@ -213,13 +234,16 @@ export class Hand {
     hand.aim = near ?? null;
     const idle = isFree && contourRound(state.figures, at.x, at.y) ? "move" : "grab";
     canvas.style.cursor = state.tool === "draw" ? "crosshair" : near ? "pointer" : edge ? "copy" : idle;
-    state.point(state.tool !== "draw" && !near ? pieceAt(state.answer, at.x, at.y, at.reach) : null);
+    const isOther = at.pane === 1 && board.isCompared;
+    const isPiece = state.tool !== "draw" && !near && !isOther;
+    hand.windings = state.tool === "draw" ? null : windingsAt(state.drawing, at.x, at.y);
+    state.point(isPiece ? pieceAt(state.answer, at.x, at.y, at.reach) : null);
     state.tell("pointer");
     board.draw();
   }
 
   leave() {
-    this.board.hand.pointer = this.board.hand.aim = null;
+    Object.assign(this.board.hand, { pointer: null, aim: null, windings: null });
     this.state.point(null);
     this.state.tell("pointer");
     this.board.draw();

@@ -2,7 +2,9 @@
 
 import { beginAnswers } from "./answer_panel.js";
 import { Board } from "./board.js";
+import { beginBusy } from "./busy.js";
 import { beginCalls } from "./call_panel.js";
+import { beginCheck } from "./check_panel.js";
 import { DEFAULTS } from "./commands.js";
 import { beginControls } from "./controls.js";
 import { LIVE_POINTS, isLive, pointCount } from "./drawing.js";
@@ -10,24 +12,29 @@ import { Engine } from "./engine.js";
 import { EXAMPLES } from "./examples.js";
 import { copy, isGeojson, save } from "./files.js";
 import { answerGeojson, geojsonOf } from "./geojson.js";
+import { Gallery } from "./gallery.js";
 import { Hand } from "./hand.js";
 import { Keys } from "./keys.js";
 import { drawingOfHash, hashOf } from "./link.js";
 import { openedGeojson } from "./opening.js";
 import { byId, element, fillSelect } from "./page.js";
+import { SIGNED } from "./scene.js";
 import { State } from "./state.js";
 import { svgOf } from "./svg.js";
 import { BadText, commandWords, drawingIn, isInText, textOf } from "./text.js";
 import { beginTheme, switchTheme } from "./theme.js";
+import { beginPromise, tellBuilt } from "./promise.js";
+import { Turning } from "./turning.js";
 
 const state = new State();
 const canvas = /** @type {HTMLCanvasElement} */ (byId("board"));
 const board = new Board(canvas, state);
-const keys = new Keys(new Hand(board));
+const keys = new Keys(new Hand(board), say);
 const engine = new Engine((answer) => {
   // (where the answer does not follow each move, none stands there that is of another drawing)
   if (answer.drawing === state.drawing || isLive(state.figures)) take(answer);
-});
+}, tellBuilt);
+const turning = new Turning(state, board);
 
 /** Shows an answer, or none. */
 function take(/** @type {import("./answers.js").Answer | null} */ answer) {
@@ -37,22 +44,37 @@ function take(/** @type {import("./answers.js").Answer | null} */ answer) {
   state.tell("piece");
 }
 
+/** Has a screen reader say what a key did. */
+function say(/** @type {string} */ text) {
+  byId("told").textContent = text;
+}
+
 // ---- asking
 
-/** The drawing that was asked last, and whether with the edges of its arrangement. */
-let asked = { drawing: /** @type {import("./state.js").Drawing | null} */ (null), isArranged: false };
+/** @type {import("./state.js").Drawing | null} */
+const NONE = null;
+/** The drawing that was asked last, and what beside its answer. */
+let asked = { drawing: NONE, isArranged: false, isCompared: false };
+
+/** What is to be shown beside the answer. */
+function wanted() {
+  const { nodes, sides, lens } = state.looks;
+  const isFilled = SIGNED.includes(state.asked.fill);
+  return { isArranged: nodes || sides || lens, isCompared: board.isCompared, isFilled };
+}
 
 /** Asks the library for the answer to what is drawn. */
 function ask() {
-  const { drawing, looks } = state;
-  asked = { drawing, isArranged: looks.nodes || looks.sides };
-  engine.ask(drawing, asked.isArranged);
+  const { drawing } = state;
+  asked = { drawing, ...wanted() };
+  engine.ask(drawing, { ...wanted(), isTimed: drawing.figures === turning.stars });
 }
 
 /** Asks again where more is to be shown than was asked for. */
 function askMore() {
-  const { nodes, sides } = state.looks;
-  if (asked.drawing === state.drawing && !asked.isArranged && (nodes || sides)) ask();
+  const { isArranged, isCompared } = wanted();
+  const isMore = (isArranged && !asked.isArranged) || (isCompared && !asked.isCompared);
+  if (asked.drawing === state.drawing && isMore) ask();
 }
 
 /** Asks for the answer to a new drawing, where it follows each move; else a button stands there. */
@@ -67,17 +89,26 @@ function askLive() {
 
 // ---- what is opened
 
+const PLAIN = { nodes: false, sides: false, lens: false, solvers: false, snapping: "after", step: 1 };
+
 /** Shows another drawing: an example that has a name, or one that is opened. */
 function show(/** @type {Partial<import("./state.js").Drawing>} */ drawing, looks = {}, name = "") {
-  const select = /** @type {HTMLSelectElement} */ (byId("example"));
-  select.value = name;
-  select.title = EXAMPLES.find((each) => each.name === name)?.says ?? "";
+  /** @type {HTMLSelectElement} */ (byId("example")).value = name;
+  tellExample(EXAMPLES.find((each) => each.name === name));
   keys.escape();
-  Object.assign(state.looks, { nodes: false, sides: false, snapping: "after", step: 1, ...looks });
+  Object.assign(state.looks, { ...PLAIN, ...looks });
   state.step(drawing);
   state.tell("looks");
   board.fit();
 }
+
+/** Says under the board's tools what an example shows, and what to try with it. */
+function tellExample(/** @type {import("./examples.js").Example | undefined} */ example) {
+  const told = example ? [`${example.says} `, element("b", {}, "Try this: "), example.tries] : [OWN];
+  byId("caption").replaceChildren(...told);
+}
+
+const OWN = "Drag points, edges and contours, or draw: the answer follows each move.";
 
 /** Shows an example. */
 function showExample(/** @type {string} */ name) {
@@ -86,6 +117,7 @@ function showExample(/** @type {string} */ name) {
   const { figures, asked } = drawingIn(example.text);
   const solver = example.solver ?? "snapped";
   show({ figures, asked: { ...DEFAULTS, ...asked, solver }, digits: 0 }, example.looks, name);
+  if (example.turns) turning.begin();
 }
 
 /** Shows what a file holds: a text of the program, or GeoJSON; of two files the second is the clip. */
@@ -180,7 +212,7 @@ document.addEventListener("pointerdown", ({ target }) => {
   if (!byId("save").contains(/** @type {Node} */ (target))) byId("save").removeAttribute("open");
 });
 byId("link").addEventListener("click", copyLink);
-byId("theme-switch").addEventListener("click", () => (switchTheme(), board.recolour()));
+byId("theme-switch").addEventListener("click", () => (switchTheme(), recolour()));
 byId("help-open").addEventListener("click", () => /** @type {HTMLDialogElement} */ (byId("help")).showModal());
 byId("notice").addEventListener("click", () => (byId("notice").hidden = true));
 window.addEventListener("hashchange", openLink);
@@ -190,23 +222,30 @@ window.addEventListener("drop", (event) => {
   if (event.dataTransfer?.files.length) openFiles([...event.dataTransfer.files]);
 });
 
-beginTheme(() => board.recolour());
-board.recolour();
+/** Paints with the colours of the theme. */
+const recolour = () => (board.recolour(), gallery.paint());
 beginControls(state, board, keys);
 beginAnswers(state, board);
 beginCalls(state);
+beginBusy(engine);
+beginCheck(state);
+beginPromise();
+const gallery = new Gallery(state);
+state.on("turned", askLive);
 state.on("drawing", () => {
   byId("notice").hidden = true;
   askLive();
 });
+beginTheme(recolour);
+recolour();
 state.on("looks", askMore);
 state.on("again", ask);
 if (!openLink()) {
   const { textContent: said, hidden } = byId("notice");
-  showExample("picture");
+  showExample("stars");
   if (!hidden) tell(said ?? "");
 }
 state.history.past = [];
 state.tell("steps");
 // (for tests, and for who wants to look behind the page)
-/** @type {any} */ (globalThis).polyover = { state, board, engine };
+/** @type {any} */ (globalThis).polyover = { state, board, engine, turning, gallery };

@@ -29,7 +29,7 @@ function mendedOf(/** @type {import("./reading.js").Polygon[]} */ polygons) {
   const mend = { ...flat(polygons.flatMap(({ rings }) => rings)), polygonEnds };
   return new Promise((resolve, reject) => {
     const worker = startWorker((data) => {
-      if (typeof data === "string") return;
+      if (data.kind === "ready") return;
       worker.terminate();
       if (data.kind === "mended") resolve(new Map(data.found));
       else reject(new BadText(data.message));

@@ -1,5 +1,7 @@
 /** Parts of the page. */
 
+import { inkOf } from "./palette.js";
+
 /** The element with an id, which is there. */
 export const byId = (/** @type {string} */ id) => /** @type {HTMLElement} */ (document.getElementById(id));
 
@@ -8,7 +10,10 @@ export function element(/** @type {string} */ name, attributes = {}, /** @type {
   const made = document.createElement(name);
   for (const [key, value] of Object.entries(attributes)) {
     if (key.startsWith("on")) made.addEventListener(key.slice(2), value);
-    else if (key === "mark") made.style.setProperty("--mark", `var(--${value})`);
+    else if (key === "mark") {
+      made.style.setProperty("--mark", `var(--${value})`);
+      made.style.setProperty("--ink", `var(--${inkOf(String(value))})`);
+    }
     else if (value !== false && value !== null) made.setAttribute(key, String(value));
   }
   made.append(...inside);

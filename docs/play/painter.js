@@ -5,14 +5,12 @@
  * @typedef {import("./view.js").View} View
  */
 
+import { inkOf } from "./palette.js";
+import { MOST_FINE, fillWay, strokeWays, wayOf } from "./trace.js";
 import { gridStep, multiples } from "./view.js";
 
 /** More dots than this are painted as small squares. */
 const MOST_ROUND = 1500;
-/** Points nearer than this many pixels to the one before them are left out: of many points, and of few. */
-const NEAR = { many: 1, few: 0.3 };
-/** Paths of more points are painted plainly: without dashes and round joins, which take long. */
-const MOST_FINE = 4000;
 /** Of areas of more points the contours that are smaller than two pixels are specks, and none has a stroke. */
 const MOST_STROKED = 100000;
 /** How many pixels a tick is long, and a dot is wide from its centre. */
@@ -20,33 +18,18 @@ const TICK = 6;
 const DOT = 3.2;
 /** How far from the top, in pixels, labels stand: the buttons are above. */
 const BELOW = 130;
-/** Pixels beyond which nothing is painted, so that numbers stay small. */
-const FAR = 1e6;
-
-/** Adds the way of a path to what is painted. (It does what `View.toPixels` does, without a list for each point.) */
-function trace(context, view, path, isClosed) {
-  const near = path.length > MOST_FINE ? NEAR.many : NEAR.few;
-  const { scale, x: middleX, y: middleY, height } = view;
-  const [halfWide, halfHigh] = [view.paneWidth / 2, height / 2];
-  let [left, top] = [NaN, NaN];
-  for (let at = 0; at < path.length; at += 1) {
-    const point = path[at];
-    const x = (point[0] - middleX) * scale + halfWide;
-    const y = halfHigh - (point[1] - middleY) * scale;
-    if (Math.abs(x - left) < near && Math.abs(y - top) < near) continue;
-    left = x < -FAR ? -FAR : x > FAR ? FAR : x;
-    top = y < -FAR ? -FAR : y > FAR ? FAR : y;
-    if (at === 0) context.moveTo(left, top);
-    else context.lineTo(left, top);
-  }
-  if (isClosed) context.closePath();
-}
+/** How a contour is dashed over the answer, by its kind: so they are told apart without their colours. */
+const DASHES = { subject: [7, 4], clip: [2, 3] };
 
 /** The number of points in some paths. */
 const countOf = (paths) => paths.reduce((sum, path) => sum + path.length, 0);
 
 /** Whether paths have so many points that they are painted plainly. */
 const isPlain = (paths) => countOf(paths) > MOST_FINE;
+
+/** The width of a stroke, of very many points at most a pixel of the screen: that takes a fraction of the time. */
+const thinned = (context, paths, /** @type {number} */ width) =>
+  isPlain(paths) ? Math.min(width, 1 / (context.getTransform().a || 1)) : width;
 
 /** The widest stroke along some contours: a sixth of the smallest of few of them. */
 function strokeOf(view, paths, /** @type {number} */ most) {
@@ -75,6 +58,23 @@ function isSpeck(view, path) {
   return path.length > 0;
 }
 
+/** The shapes of points by where they lie: so they are told apart without their colours. */
+const SHAPES = { inside: "disc", boundary: "square", outside: "cross" };
+
+/** Paints a dot of a shape. */
+function paintDot(context, left, top, /** @type {number} */ size, /** @type {string} */ shape) {
+  context.beginPath();
+  if (shape === "square") context.rect(left - size, top - size, 2 * size, 2 * size);
+  else if (shape === "disc") context.arc(left, top, size, 0, 2 * Math.PI);
+  if (shape !== "cross") return context.fill();
+  context.lineWidth = 2.4;
+  for (const way of [-1, 1]) {
+    context.moveTo(left - size, top - way * size);
+    context.lineTo(left + size, top + way * size);
+  }
+  context.stroke();
+}
+
 /** Paints many dots as small squares, of those that lie on one another but one. */
 function specks(context, view, paths) {
   const taken = new Set();
@@ -87,44 +87,43 @@ function specks(context, view, paths) {
   }
 }
 
+/** The ways of paths, but for those that are not in sight. */
+const waysOf = (view, paths) => paths.map((path) => wayOf(view, path)).filter((way) => way.length);
+
 /** How each type of mark is painted. */
 const PAINTED = {
-  area(context, view, mark, colour) {
+  area(context, view, mark, colours) {
     const isVast = countOf(mark.paths) > MOST_STROKED;
     const isSmall = (path) => isVast && isSpeck(view, path);
+    const ways = waysOf(view, isVast ? mark.paths.filter((path) => !isSmall(path)) : mark.paths);
+    context.fillStyle = colours[mark.colour];
     context.beginPath();
-    for (const path of mark.paths) if (path.length && !isSmall(path)) trace(context, view, path, true);
+    for (const way of ways) fillWay(context, way);
     context.globalAlpha *= mark.strength;
     context.fill(mark.fillRule);
     if (isVast) specks(context, view, mark.paths.filter(isSmall));
     context.globalAlpha /= mark.strength;
     if (!mark.width || mark.strength <= 0.1 || isVast) return;
-    context.lineWidth = strokeOf(view, mark.paths, mark.width);
-    context.stroke();
+    context.lineWidth = thinned(context, mark.paths, strokeOf(view, mark.paths, mark.width));
+    strokeWays(context, view, ways, true);
   },
   outline(context, view, mark) {
-    // (beneath it an area of the same colour has a stroke)
-    if (isPlain(mark.paths)) return;
-    context.beginPath();
-    for (const path of mark.paths) if (path.length) trace(context, view, path, true);
-    context.setLineDash([6, 4]);
-    context.lineWidth = 1.2;
-    context.stroke();
+    // (beneath one that is dashed an area of the same colour has a stroke)
+    if (mark.dashed && isPlain(mark.paths)) return;
+    if (mark.dashed) context.setLineDash(DASHES[mark.colour] ?? DASHES.subject);
+    context.lineWidth = thinned(context, mark.paths, mark.width ?? 1.2);
+    strokeWays(context, view, waysOf(view, mark.paths), true);
   },
   path(context, view, mark) {
-    context.beginPath();
-    for (const path of mark.paths) trace(context, view, path, false);
-    context.lineWidth = mark.width;
-    context.stroke();
+    context.lineWidth = thinned(context, mark.paths, mark.width);
+    strokeWays(context, view, waysOf(view, mark.paths), false);
   },
   dot(context, view, mark) {
     if (mark.paths.length > MOST_ROUND) return specks(context, view, mark.paths);
     for (const [[x, y]] of mark.paths) {
       const [left, top] = view.toPixels(x, y);
       if (!isSeen(view, left, top)) continue;
-      context.beginPath();
-      context.arc(left, top, mark.width ?? DOT, 0, 2 * Math.PI);
-      context.fill();
+      paintDot(context, left, top, mark.width ?? DOT, SHAPES[mark.colour] ?? "disc");
     }
   },
   ring(context, view, mark) {
@@ -134,6 +133,19 @@ const PAINTED = {
       context.beginPath();
       context.arc(left, top, DOT + 2, 0, 2 * Math.PI);
       context.stroke();
+    }
+  },
+  square(context, view, mark) {
+    context.lineWidth = 1;
+    context.globalAlpha *= 0.18;
+    for (const [[x, y]] of mark.paths) {
+      const [left, top] = view.toPixels(x - 0.5, y + 0.5);
+      context.fillRect(left, top, view.scale, view.scale);
+    }
+    context.globalAlpha /= 0.18;
+    for (const [[x, y]] of mark.paths) {
+      const [left, top] = view.toPixels(x - 0.5, y + 0.5);
+      context.strokeRect(left, top, view.scale, view.scale);
     }
   },
   tick(context, view, mark) {
@@ -150,11 +162,9 @@ const PAINTED = {
     context.stroke();
   },
   hop(context, view, mark) {
-    context.beginPath();
     context.setLineDash([2, 2]);
-    for (const path of mark.paths) trace(context, view, path, false);
     context.lineWidth = 1.6;
-    context.stroke();
+    strokeWays(context, view, waysOf(view, mark.paths), false);
   },
 };
 
@@ -166,11 +176,11 @@ const isSeen = (view, left, top) =>
 export function paintMarks(context, view, /** @type {Mark[]} */ marks, colours, piece = null) {
   for (const mark of marks) {
     context.save();
-    context.strokeStyle = context.fillStyle = colours[mark.colour];
+    context.strokeStyle = context.fillStyle = colours[inkOf(mark.colour)];
     context.lineJoin = isPlain(mark.paths) ? "bevel" : "round";
     const isPale = piece !== null && mark.piece !== undefined && mark.piece !== piece;
     context.globalAlpha = isPale ? 0.25 : 1;
-    PAINTED[mark.type](context, view, mark, colours[mark.colour]);
+    PAINTED[mark.type](context, view, mark, colours);
     context.restore();
   }
 }
@@ -237,5 +247,19 @@ function paintLabels(context, view, colours, xs, ys) {
     const [, top] = view.toPixels(0, y);
     if (top > BELOW && top < view.height - 24) label(String(y), 6, top + 4);
   }
+  context.restore();
+}
+
+/** Paints the title of a pane, in its middle at the top. */
+export function paintTitle(context, /** @type {View} */ view, colours, /** @type {string} */ title) {
+  context.save();
+  context.font = "600 13px system-ui, sans-serif";
+  context.textAlign = "center";
+  context.lineWidth = 4;
+  context.lineJoin = "round";
+  context.strokeStyle = colours.ground;
+  context.fillStyle = colours.label;
+  context.strokeText(title, view.paneWidth / 2, 22);
+  context.fillText(title, view.paneWidth / 2, 22);
   context.restore();
 }

@@ -1,16 +1,21 @@
 /**
  * The colours of the page's theme, which `theme.css` and `dark.css` state, by the names of the marks. In the light
- * theme they are those of the pictures of `python3 -m polyover svg`.
+ * theme they are those of the pictures of `python3 -m polyover svg`. Strokes and points have a contrast of 4.5 with the
+ * ground.
  */
 
 const NAMES = [
   "subject",
   "clip",
+  "clip-ink",
   "answer",
+  "answer-ink",
   "line",
   "point",
   "inside",
+  "inside-ink",
   "boundary",
+  "boundary-ink",
   "outside",
   "edge",
   "before",
@@ -21,6 +26,9 @@ const NAMES = [
   "label",
   "accent",
 ];
+
+/** The name of the colour in which a mark is stroked, or a point painted: a darker one where that of areas is pale. */
+export const inkOf = (/** @type {string} */ name) => (NAMES.includes(`${name}-ink`) ? `${name}-ink` : name);
 
 /** @returns {Record<string, string>} the colours of the theme that is shown */
 export function coloursOf(/** @type {Element} */ element) {

@@ -5,7 +5,7 @@
  * @typedef {number[][]} Path
  *
  * @typedef {object} Mark
- * @property {"area" | "outline" | "path" | "dot" | "ring" | "tick" | "hop"} type
+ * @property {"area" | "outline" | "path" | "dot" | "ring" | "square" | "tick" | "hop"} type
  * @property {string} colour
  * @property {Path[]} paths  an area's contours; of all others each mark stands for each path
  * @property {string} [fillRule]
@@ -18,7 +18,7 @@
  */
 
 import { COMMANDS } from "./commands.js";
-import { isClosed } from "./drawing.js";
+import { stepsOf } from "./drawing.js";
 import { crossings } from "./measure.js";
 
 /** Of each bit of the filled sides: whose it is, on which side, and where along the edge its tick stands. */
@@ -28,20 +28,34 @@ const TICKS = [
   [4, "clip", 1, 0.55],
   [8, "clip", -1, 0.55],
 ];
+/** The fill rules that canvases do not have. */
+export const SIGNED = ["positive", "negative"];
 const STRENGTHS = [0.25, 0.5, 0.37];
 /** The number of steps up to which crossings before snapping are shown. */
 const MOST_STEPS = 600;
 
-/** Marks of what was given: filled below the answer. */
-export function inputMarks(/** @type {import("./state.js").Drawing} */ { figures, asked }) {
+/**
+ * Marks of what was given: filled below the answer. Canvases have no rule Positive or Negative: by these the library
+ * tells the regions, and while those of a drawing are on their way the ones before stand there.
+ *
+ * @param {import("./state.js").Drawing} drawing
+ * @param {import("./answers.js").Answer | null} answer
+ */
+export function inputMarks({ figures, asked }, answer = null) {
   const fillRule = asked.fill === "evenodd" ? "evenodd" : "nonzero";
+  const isSigned = SIGNED.includes(asked.fill);
+  const regions = isSigned && answer?.drawing.asked.fill === asked.fill ? answer.regions : undefined;
   const { takes } = COMMANDS[asked.command];
   /** @type {Mark[]} */
   const marks = [];
   for (const kind of ["subject", "clip"]) {
     const strength = takes.includes(/** @type {any} */ (kind)) ? 0.25 : 0.06;
     const width = asked.command === "edges" ? 0 : 1.2;
-    marks.push({ type: "area", colour: kind, paths: figures[kind], fillRule, strength, width });
+    const area = { colour: kind, strength };
+    if (isSigned) {
+      marks.push({ type: "area", ...area, paths: regions?.[kind] ?? [], fillRule: "evenodd", width: 0 });
+      if (width) marks.push({ type: "outline", colour: kind, paths: figures[kind], width });
+    } else marks.push({ type: "area", ...area, paths: figures[kind], fillRule, width });
   }
   const width = takes.includes("line") ? 2.2 : 1;
   marks.push({ type: "path", colour: "line", paths: figures.line, width });
@@ -55,18 +69,6 @@ export function outlineMarks(/** @type {import("./state.js").Drawing} */ { figur
   const marks = kinds.map((kind) => ({ type: "outline", colour: kind, paths: figures[kind], dashed: true }));
   if (asked.command !== "locate") marks.push({ type: "dot", colour: "point", paths: figures.point, width: 5 });
   return marks;
-}
-
-/** The steps of the paths of figures, closed for contours. */
-function stepsOf(figures, /** @type {string[]} */ kinds) {
-  return kinds.flatMap((kind) =>
-    figures[kind].flatMap((path) =>
-      path.slice(isClosed(/** @type {any} */ (kind)) ? 0 : 1).map((point, at) => {
-        const before = isClosed(/** @type {any} */ (kind)) ? path.at(at - 1) : path[at];
-        return [before, point];
-      }),
-    ),
-  );
 }
 
 /** Marks of edges, with a tick on each filled side. */

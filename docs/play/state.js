@@ -12,6 +12,8 @@
  * @property {boolean} beside  the answer stands beside the input, not over it
  * @property {boolean} nodes
  * @property {boolean} sides
+ * @property {boolean} lens
+ * @property {boolean} solvers  the answers of both solvers stand side by side
  * @property {"after" | "before" | "both"} snapping
  * @property {number} step  the step of the grid to which points snap
  */
@@ -35,9 +37,11 @@ export class State {
     /** @type {number | null} the piece of the answer that is looked at */
     this.piece = null;
     /** @type {Looks} */
-    this.looks = { beside: false, nodes: false, sides: false, snapping: "after", step: 1 };
+    this.looks = { beside: false, nodes: false, sides: false, lens: false, solvers: false, snapping: "after", step: 1 };
     /** @type {import("./answers.js").Answer | null} */
     this.answer = null;
+    /** Whether the stars turn by themselves. */
+    this.isTurning = false;
     /** @type {Map<string, Set<() => void>>} */
     this.listeners = new Map();
   }
@@ -55,7 +59,7 @@ export class State {
     return this.drawing.asked;
   }
 
-  /** Has `listener` called after each change of what has a name: `drawing`, `answer`, `looks` or `hand`. */
+  /** Has `listener` called after each change of what has a name: `drawing`, `turned`, `answer`, `looks` or `hand`. */
   on(/** @type {string} */ names, /** @type {() => void} */ listener) {
     for (const name of names.split(" ")) {
       if (!this.listeners.has(name)) this.listeners.set(name, new Set());
@@ -78,6 +82,12 @@ export class State {
   slide(/** @type {Figures} */ figures) {
     this.history.slide({ ...this.drawing, figures });
     this.tell("drawing");
+  }
+
+  /** Changes the figures without a step, as while the stars turn by themselves. */
+  turn(/** @type {Figures} */ figures) {
+    this.history.present = { ...this.drawing, figures };
+    this.tell("turned");
   }
 
   /** Ends what `slide` began. */

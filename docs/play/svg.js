@@ -26,8 +26,10 @@ const WRITTEN = {
     `<path d="${mark.paths.map((path) => `${wayOf(view, path)}Z`).join("")}" fill="${colour}" ` +
     `fill-opacity="${mark.strength}" fill-rule="${mark.fillRule}" stroke="${mark.width ? colour : "none"}" ` +
     `stroke-width="${mark.width}" stroke-linejoin="round"/>`,
-  outline: (view, mark, colour) =>
-    each(mark, (path) => `<path d="${wayOf(view, path)}Z" fill="none" stroke="${colour}" stroke-dasharray="6 4"/>`),
+  outline: (view, mark, colour) => {
+    const dashes = mark.dashed ? ' stroke-dasharray="6 4"' : "";
+    return each(mark, (path) => `<path d="${wayOf(view, path)}Z" fill="none" stroke="${colour}"${dashes}/>`);
+  },
   path: (view, mark, colour) =>
     each(
       mark,

@@ -57,17 +57,17 @@ export class View {
     this.y += y - v;
   }
 
-  /** Shows a box whole, with a margin, which is less in a small pane. */
-  fit(/** @type {[number, number, number, number] | null} */ box) {
+  /** Shows a box whole, with a margin, which is less in a small pane; some pixels at the bottom stay free of it. */
+  fit(/** @type {[number, number, number, number] | null} */ box, below = 0) {
     const [left, low, right, high] = box ?? [-5, -5, 5, 5];
     const margin = Math.min(44, this.paneWidth / 9);
     // (the buttons stand beside it)
     const wide = Math.max(this.paneWidth - 3 * margin, 40);
-    const tall = Math.max(this.height - 2 * margin, 40);
+    const tall = Math.max(this.height - below - 2 * margin, 40);
     const scale = Math.min(wide / (right - left || 1), tall / (high - low || 1));
     this.scale = Math.max(LEAST, Math.min(MOST / 4, scale));
     this.x = (left + right) / 2;
-    this.y = (low + high) / 2;
+    this.y = (low + high) / 2 - below / 2 / this.scale;
     this.isFit = true;
   }
 }

@@ -3,6 +3,7 @@
  */
 
 import { Flat, load } from "./engine/polyover.js";
+import { otherSolver } from "./commands.js";
 import { mended } from "./mended.js";
 
 /** The names of the relations, as the page and the program have them. */
@@ -72,17 +73,35 @@ function arranged(library, { subject, clip, line }, { fill, solver }) {
   return { arrangement: library.edges(subject, clip, options), pieces: pieces.map(paths) };
 }
 
+/** Calls that take fewer milliseconds than the first are timed again, as many as fill them. */
+const [SHORT, MOST_CALLS] = [4, 400];
+
+/** The milliseconds of a call that was called before: of several where it is short. */
+function warmTime(/** @type {() => any} */ call) {
+  const began = performance.now();
+  let [count, now] = [0, began];
+  while (now - began < SHORT && count < MOST_CALLS) {
+    call();
+    count += 1;
+    now = performance.now();
+  }
+  return (now - began) / count;
+}
+
 /** The answer to what a message asks for. */
-function answered(library, { figures, asked, isArranged }) {
+function answered(library, { figures, asked, isArranged, isFilled, isTimed }) {
   /** @type {any} */
   const flat = Object.fromEntries(
     Object.entries(figures).map(([kind, { coordinates, ends }]) => [kind, new Flat(coordinates, ends)]),
   );
   const began = performance.now();
   const options = { ...optionsOf(asked), ...(asked.command === "relate" ? {} : { answer: "arrays" }) };
-  const answer = ANSWERED[asked.command](library, flat, options);
-  const time = performance.now() - began;
-  return { ...answer, time, ...(isArranged ? arranged(library, flat, asked) : {}) };
+  const call = () => ANSWERED[asked.command](library, flat, options);
+  const answer = call();
+  const first = performance.now() - began;
+  const time = isTimed && first < SHORT ? warmTime(call) : first;
+  const regions = isFilled ? { regions: regionsOf(library, flat, asked.fill) } : {};
+  return { ...answer, time, ...regions, ...(isArranged ? arranged(library, flat, asked) : {}) };
 }
 
 /** What polygons cover, as far as their rings do not wind once round it. */
@@ -90,13 +109,34 @@ function mendedOf(library, { coordinates, ends, polygonEnds }) {
   return { kind: "mended", found: mended(library, new Flat(coordinates, ends), polygonEnds) };
 }
 
+/** What subject and clip fill: contours of shapes, by their kinds. Snap rounding tells it of each input. */
+function regionsOf(library, figures, /** @type {string} */ fill) {
+  const options = { rule: "subject", fill, answer: "arrays" };
+  return ["subject", "clip"].map((kind) => [kind, paths(library.overlay(figures[kind], [], options).contours)]);
+}
+
+/** The answers by all overlay rules and fill rules that are named. */
+function galleryOf(library, { gallery, subject, clip }) {
+  const [one, other] = [subject, clip].map(({ coordinates, ends }) => new Flat(coordinates, ends));
+  const found = gallery.map((names) => paths(library.overlay(one, other, { ...names, answer: "arrays" }).contours));
+  return { kind: "gallery", found };
+}
+
 /** What was answered, or how it was refused. */
 function answerOrFault(library, message) {
   try {
+    if (message.gallery) return galleryOf(library, message);
     return message.mend ? mendedOf(library, message.mend) : answered(library, message);
   } catch (fault) {
     return { kind: "fault", name: fault.name, message: fault.message, time: 0 };
   }
+}
+
+/** What was answered by the solver that is asked, and by the other one where both are. */
+function answersOf(library, message) {
+  const answer = answerOrFault(library, message);
+  if (!message.isCompared) return answer;
+  return { ...answer, other: answerOrFault(library, { ...message, asked: otherSolver(message.asked) }) };
 }
 
 /** @type {Promise<any> | null} */
@@ -112,11 +152,11 @@ self.onmessage = async ({ data }) => {
   if ("library" in data) {
     hold(data.lock);
     library = data.library ? load({ wasm: data.library }) : load();
-    library.then(() => self.postMessage("ready")).catch(() => {});
+    library.then((calls) => self.postMessage({ kind: "ready", built: calls.built() })).catch(() => {});
     return;
   }
   try {
-    self.postMessage(answerOrFault(await library, data));
+    self.postMessage(answersOf(await library, data));
   } catch (fault) {
     self.postMessage({ kind: "fault", name: fault.name, message: fault.message, time: 0 });
   }

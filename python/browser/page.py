@@ -120,12 +120,13 @@ class Browser:
 
     # ---- what is opened
 
-    def size(self, width=1200, height=800, is_dark=False):
-        """Gives the window a size, and the system a theme."""
+    def size(self, width=1200, height=800, is_dark=False, is_moving=False):
+        """Gives the window a size, and the system a theme; and says whether it asks for reduced motion."""
         metrics = {"width": width, "height": height, "deviceScaleFactor": 1, "mobile": False}
         self.driver.execute_cdp_cmd("Emulation.setDeviceMetricsOverride", metrics)
         theme = {"name": "prefers-color-scheme", "value": "dark" if is_dark else "light"}
-        self.driver.execute_cdp_cmd("Emulation.setEmulatedMedia", {"features": [theme]})
+        motion = {"name": "prefers-reduced-motion", "value": "no-preference" if is_moving else "reduce"}
+        self.driver.execute_cdp_cmd("Emulation.setEmulatedMedia", {"features": [theme, motion]})
         self.until(SIZED, width, height)
         self.frames()
 

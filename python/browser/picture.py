@@ -14,6 +14,7 @@ def main():
     page.size(WIDE, HIGH)
     page.load()
     page.example("picture")
+    page.until("return polyover.gallery.painted === polyover.state.figures")
     page.hover(2.5, 0.5)
     page.driver.save_screenshot(str(PICTURE))
     sheets = {theme: HERE / f"{theme}.png" for theme in THEMES}

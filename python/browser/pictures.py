@@ -14,7 +14,7 @@ THEMES = {"light": False, "dark": True}
 # another pixel is one in which a colour differs by more than the first; the second is how many there may be, of 19,200
 DISTANCE, OTHERS = 24, 20
 COMMANDS = ("overlay", "hierarchy", "simplify", "relate", "clip", "slice", "locate", "edges")
-LOOKS = ("beside", "nodes", "sides")
+LOOKS = ("beside", "nodes", "sides", "lens", "solvers")
 BEGUN = """
     const [rows] = arguments, box = document.querySelector(".board");
     Object.assign(box.style, { position: "fixed", left: 0, top: 0, width: "640px", height: "480px", border: "0" });

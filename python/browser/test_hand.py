@@ -33,7 +33,7 @@ ASKED = """
     const until = async (holds) => { while (!holds()) await new Promise((later) => setTimeout(later, 20)); };
     import("./engine.js").then(async ({ Engine }) => {
         const engine = new Engine((answer) => answered.push(answer.drawing.asked.number));
-        workers[0].onmessage({ data: "ready" });
+        workers[0].onmessage({ data: { kind: "ready", built: "unproved" } });
         [1, 2, 3].forEach((number) => engine.ask(drawing(number)));
         workers[0].answer();
         engine.ask(drawing(4));
@@ -44,7 +44,6 @@ ASKED = """
         done([answered, workers.map(({ isEnded, sent }) => [isEnded, sent])]);
     });
 """
-PAINTED = "const now = performance.now(); polyover.board.paint(); return performance.now() - now"
 
 
 class Hand(unittest.TestCase):
@@ -118,6 +117,48 @@ class Hand(unittest.TestCase):
         drawn = self.page.figures()["clip"][-1]
         self.assertEqual([drawn[2][0] - drawn[0][0], drawn[2][1] - drawn[0][1]], [1, 1])
 
+    def test_a_path_that_is_begun_is_undone(self):
+        self.page.load(SQUARES)
+        disabled = "return ['undo-step', 'redo-step'].map((id) => document.getElementById(id).disabled)"
+        points = "return polyover.board.hand.begun?.points.length ?? 0"
+        self.assertEqual(self.page.run(disabled), [True, True])
+        self.page.press('[data-kind="clip"]')
+        for point in ((5, 0), (7, 0), (7, 1)):
+            self.page.click(*point)
+        for count in (2, 1, 0):
+            self.assertFalse(self.page.run(disabled)[0])
+            self.page.press("#undo-step")
+            self.assertEqual(self.page.run(points), count)
+        self.assertEqual(self.page.run(disabled), [True, False])
+        for count in (1, 2, 3):
+            self.page.press("#redo-step")
+            self.assertEqual(self.page.run(points), count)
+        self.assertEqual(self.page.run(disabled), [False, True])
+        self.page.press("#finish")
+        self.assertEqual(self.page.figures()["clip"][-1], [[5, 0], [7, 0], [7, 1]])
+
+    def test_keys_are_told(self):
+        self.assertEqual(self.page.run("return document.getElementById('told').ariaLive"), "polite")
+        for key, said in (
+            ("n", "subject 1 of 1, point 1 of 4: (0, 0)."),
+            ("ArrowLeft", "Moved to (-1, 0)."),
+            ("p", "clip 1 of 1, point 4 of 4: (2, 6)."),
+            ("i", "Added: clip 1 of 1, point 4 of 5: (4, 6)."),
+            ("Delete", "Deleted: clip 1 of 1, point 4 of 5: (4, 6)."),
+            ("x", "Tool: delete."),
+            ("3", "Draw: line."),
+        ):
+            self.page.keys(key)
+            self.assertEqual(self.page.text("told"), said)
+        self.page.keys("ArrowUp")
+        self.assertRegex(self.page.text("told"), r"^Cross at \(-?[0-9]+, -?[0-9]+\)\.$")
+        self.page.keys(" ")
+        self.assertRegex(self.page.text("told"), r"^Point 1 of a line at \(")
+        self.page.keys("Enter")
+        self.assertEqual(self.page.text("told"), "Too few points: dropped.")
+        self.page.keys(" ", "ArrowUp", " ", "Enter")
+        self.assertEqual(self.page.text("told"), "Finished: line of 2 points.")
+
     def test_look_at_a_shape(self):
         self.page.example("hierarchy")
         self.page.hover(6.5, 0.8)
@@ -187,9 +228,6 @@ class Hand(unittest.TestCase):
         self.page.wait()
         self.page.drag((1e6, 0), (1.1e6, 1e5), (1.2e6, 2e5), (1.3e6, 1e5))
         self.assertEqual(self.page.answer()["kind"], "shapes")
-        # (the least of some, on a machine that may be busy)
-        took = min(self.page.run(PAINTED) for _ in range(9))
-        self.assertLess(took, 500)
 
     def test_the_latest_drawing_wins(self):
         answered, workers = self.page.driver.execute_async_script(ASKED)

@@ -76,6 +76,16 @@ class Look(unittest.TestCase):
                     contrast, part = self.page.run(CONTRAST)
                     self.assertGreaterEqual(contrast, 4.5, part)
 
+    def test_answer_and_call_are_above_the_fold(self):
+        low = """
+            return ["answer", "call", "board"].map((id) => document.getElementById(id).getBoundingClientRect().bottom);
+        """
+        for width, height in ((1600, 1000), (1000, 760)):
+            for part in ("", SQUARES):
+                self.page.size(width, height)
+                self.page.load(part)
+                self.assertLessEqual(max(self.page.run(low)), height, (width, part))
+
     def test_theme_is_switched_and_kept(self):
         for is_dark in (False, True):
             self.page.size(is_dark=is_dark)
@@ -135,7 +145,7 @@ class Look(unittest.TestCase):
 
     def test_every_control_has_a_name(self):
         nameless = """
-            return [...document.querySelectorAll("button, select, input:not([hidden]), canvas")]
+            return [...document.querySelectorAll("button, select, input:not([hidden]), canvas:not([aria-hidden])")]
                 .filter((each) => !(each.textContent.trim() && each.matches("button")))
                 .filter((each) => !each.ariaLabel && !each.labels?.length)
                 .map((each) => each.outerHTML.slice(0, 80));
