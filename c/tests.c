@@ -22,8 +22,9 @@ static void ends_of_ranges(void) {
     CHECK(POLYOVER_COORDINATE_MAX_32 == 1073741823 && POLYOVER_COORDINATE_MIN_32 == -1073741823);
 }
 
-/* The library tells what it is made of: c/Makefile says what that is. */
+/* The library tells its version, and what it is made of: c/Makefile says what that is. */
 static void built(void) {
+    CHECK(strcmp(polyover_version(), POLYOVER_VERSION) == 0);
     CHECK(polyover_built() == BUILT);
 }
 

@@ -202,6 +202,10 @@ typedef struct {
     size_t child_shape;    /* the shape that lies in it */
 } polyover_link;
 
+/* The version of the library that the program runs with, as POLYOVER_VERSION is that of the header. It is never null,
+ * and is not to be freed. */
+const char *polyover_version(void);
+
 /* What the library is made of. */
 enum {
     POLYOVER_UNPROVED = 0, /* a module that is built without a proof */

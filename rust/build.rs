@@ -2,8 +2,6 @@
 //! `libpolyover.a`, whose folder `POLYOVER_LIBRARY_DIR` names.
 
 use std::env;
-use std::fs::File;
-use std::io::{BufRead, BufReader};
 use std::path::{Path, PathBuf};
 use std::process::exit;
 
@@ -15,7 +13,6 @@ fn main() {
     println!("cargo::rerun-if-changed=native");
     if env::var_os("DOCS_RS").is_some() {
         // (pages are made without the library)
-        tell(Path::new(""));
         return;
     }
     if let Some(folder) = env::var_os("POLYOVER_LIBRARY_DIR") {
@@ -26,27 +23,8 @@ fn main() {
     }
 }
 
-/// Tells of which module the library is made, which the first line of its assembly says.
-fn tell(assembly: &Path) {
-    let mut head = String::new();
-    if let Ok(file) = File::open(assembly) {
-        // (what cannot be read says nothing)
-        let _ = BufReader::new(file).read_line(&mut head);
-    }
-    let told = [
-        ("of the proved module", "proved"),
-        ("of an unproved module", "unproved"),
-    ];
-    let word = told
-        .iter()
-        .find(|(text, _)| head.contains(text))
-        .map_or("unknown", |(_, word)| word);
-    println!("cargo::rustc-env=POLYOVER_BUILT={word}");
-}
-
-/// Links a built library, beside which `make` has left its assembly.
+/// Links a built library.
 fn link(folder: &Path) {
-    tell(&folder.join("polyover.s"));
     println!("cargo::rerun-if-changed={}", folder.join("libpolyover.a").display());
     println!("cargo::rustc-link-search=native={}", folder.display());
     println!("cargo::rustc-link-lib=static=polyover");
@@ -69,7 +47,6 @@ fn include() -> Result<(), String> {
             "no {place}: releases have it for x86_64 and aarch64; in a clone set POLYOVER_LIBRARY_DIR (docs/RUST.md)"
         ));
     }
-    tell(&assembly);
     println!("cargo::rustc-cfg=polyover_native");
     Ok(())
 }

@@ -37,11 +37,15 @@ pub mod prepared;
 pub mod string;
 pub mod vector;
 
-/// Of which module the library is made: `"proved"`, `"unproved"`, or `"unknown"` where it does not say that.
+/// Of which module the library is made: `"proved"` or `"unproved"`.
 ///
 /// ```
 /// assert!(["proved", "unproved"].contains(&polyover::built()));
 /// ```
-pub const fn built() -> &'static str {
-    env!("POLYOVER_BUILT")
+pub fn built() -> &'static str {
+    if ffi::is_proved() {
+        "proved"
+    } else {
+        "unproved"
+    }
 }

@@ -109,6 +109,13 @@ pub(crate) fn text_of(status: sys::Status) -> &'static str {
     text.to_str().unwrap_or("refused")
 }
 
+/// Whether the library is made of the proved module.
+pub(crate) fn is_proved() -> bool {
+    // SAFETY: the call takes nothing, and reads a constant.
+    let built = unsafe { sys::polyover_built() };
+    built == sys::PROVED
+}
+
 // Calls of one width. In each, all pointers are of values that outlive the call, with the counts of their slices, and
 // what the call writes to lies apart from them.
 macro_rules! engine {

@@ -10,7 +10,7 @@ mod native;
 mod ready;
 pub(crate) mod sys;
 
-pub(crate) use calls::{text_of, Engine, Narrow, Wide};
+pub(crate) use calls::{is_proved, text_of, Engine, Narrow, Wide};
 pub(crate) use given::{coordinates_of, Given};
 pub(crate) use held::Held;
 pub(crate) use ready::{Prepared, Ready};

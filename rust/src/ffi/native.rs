@@ -160,6 +160,18 @@ unsafe extern "C" fn polyover_prepared_free_32(prepared: *mut sys::Prepared) {
     unsafe { free_shape(prepared) }
 }
 
+// ---- what it is made of
+
+extern "C" {
+    static polyover_is_proved: u8;
+}
+
+#[no_mangle]
+extern "C" fn polyover_built() -> u32 {
+    // SAFETY: the assembly has the constant.
+    unsafe { polyover_is_proved }.into()
+}
+
 // ---- texts
 
 #[no_mangle]

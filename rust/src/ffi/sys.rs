@@ -11,6 +11,9 @@ pub(crate) const NOT_RESOLVED: Status = 4;
 pub(crate) const NOT_SETTLED: Status = 8;
 pub(crate) const TOO_MANY_EDGES: Status = 9;
 
+/// `POLYOVER_PROVED`.
+pub(crate) const PROVED: u32 = 1;
+
 /// `polyover_contours` and `polyover_paths`, of coordinates of one width.
 #[repr(C)]
 pub(crate) struct Contours<C> {
@@ -189,4 +192,5 @@ calls!(narrow, i32, Options32, "_32");
 
 extern "C" {
     pub(crate) fn polyover_status_text(status: Status) -> *const c_char;
+    pub(crate) fn polyover_built() -> u32;
 }
