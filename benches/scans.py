@@ -38,22 +38,23 @@ SMALL = [str(word) for kind in KINDS for scan in SCANS for word in (kind, 80, sc
 
 NAME = "timed_scans"
 USES = [
-    "overlay_geom", "overlay_scan", "overlay_arrange", "overlay_walk", "overlay_extract", "overlay_relate", "anyhow",
+    "overlay_geom", "overlay_scan", "overlay_order", "overlay_graph", "overlay_walk", "overlay_extract",
+    "overlay_relate", "anyhow",
 ]
 DRIVER = """\
 //! Times sweeps: KIND EDGES SCAN ROUNDS, as often as is wanted. SCAN is `list` or `tree`.
 #![tactic(auto)]
 
 use anyhow::{Result, bail};
-use overlay_arrange::balance::is_balanced;
-use overlay_arrange::count::ShapeCountBoolean;
-use overlay_arrange::edge::{CountedEdge, compare_edges, compare_points};
-use overlay_arrange::fill_rule::FillRule;
-use overlay_arrange::fill_sweep::fills_by_sweep;
-use overlay_arrange::options::ContourDirection;
-use overlay_arrange::vector::SideFill;
 use overlay_extract::binding::bind::bind_contours;
+use overlay_geom::fill_rule::FillRule;
+use overlay_geom::options::ContourDirection;
 use overlay_geom::point::IntPoint;
+use overlay_graph::balance::is_balanced;
+use overlay_graph::fill_sweep::fills_by_sweep;
+use overlay_order::count::ShapeCountBoolean;
+use overlay_order::edge::{CountedEdge, compare_edges, compare_points};
+use overlay_order::vector::SideFill;
 use overlay_relate::in_contour::locate_by;
 use overlay_relate::location::PointLocation;
 use overlay_scan::list::ScanList;

@@ -2,9 +2,9 @@
 
 use crate::places::{Place, point_of};
 use callers::roads::{Road, add_piece, no_roads, roads_along, ways_round};
-use overlay_arrange::vector::DataVectorEdge;
 use overlay_geom::error::OverlayError;
 use overlay_geom::integer::OverlayInt;
+use overlay_order::vector::DataVectorEdge;
 use overlay_vector::edge_overlay::EdgeOverlay;
 use overlay_vector::input_edge::InputEdge;
 use small_points::contours::is_round;

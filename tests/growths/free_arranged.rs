@@ -11,15 +11,7 @@ use i_overlay::simplifying::outcome::Outcome;
 use i_overlay::simplifying::shapes::shapes_left;
 use i_overlay::simplifying::simple::outcome_of_contour;
 use i_overlay::solver::Solver;
-use overlay_arrange::balance::is_balanced;
 use overlay_arrange::content::Content;
-use overlay_arrange::data::CountWithData;
-use overlay_arrange::edge::CountedEdge;
-use overlay_arrange::fill::{fills, fills_of_balanced};
-use overlay_arrange::fill_sweep::fills_by_sweep;
-use overlay_arrange::settle::is_settled;
-use overlay_arrange::sort_numbers::order_by_numbers;
-use overlay_arrange::sort_points::order_by_points;
 use overlay_builder::boolean::passing;
 use overlay_builder::builder_core::BuilderCore;
 use overlay_builder::path::{PathKind, add_path};
@@ -27,6 +19,14 @@ use overlay_builder::points::gathered;
 use overlay_geom::error::OverlayError;
 use overlay_geom::flat::copied;
 use overlay_geom::thin::{push_thinned, thinned};
+use overlay_graph::balance::is_balanced;
+use overlay_graph::fill::{fills, fills_of_balanced};
+use overlay_graph::fill_sweep::fills_by_sweep;
+use overlay_order::data::CountWithData;
+use overlay_order::edge::CountedEdge;
+use overlay_order::sort_numbers::order_by_numbers;
+use overlay_order::sort_points::order_by_points;
+use overlay_pairs::settle::is_settled;
 use overlay_relate::in_contour::{locate_by, locate_from, locate_in_contour};
 use overlay_relate::in_shapes::{locate_in_shape, locate_in_shapes};
 use overlay_relate::resolved::is_resolved_in;
@@ -83,20 +83,20 @@ fn check_fills<'m, I: Width>(
     edges: &[CountedEdge<I, ShapeCountBoolean>],
 ) -> Result<(), Fail> {
     let memory = trial.memory;
-    let wanted = trial.refuse_call("overlay_arrange::fills", || fills(memory, edges, RULE))?;
+    let wanted = trial.refuse_call("overlay_graph::fills", || fills(memory, edges, RULE))?;
     assert!(trial.rt; &wanted[..4] == &[2, 1, 2, 1][..] && wanted.len() == 4 * PATHS);
     let found = [
-        trial.refuse_call("overlay_arrange::fills_of_balanced", || {
+        trial.refuse_call("overlay_graph::fills_of_balanced", || {
             fills_of_balanced(memory, edges, RULE)
         })?,
         trial.refuse_each(
-            "overlay_arrange::fills_by_sweep",
+            "overlay_graph::fills_by_sweep",
             || Ok(ScanTree::default(memory)),
             |it| fills_by_sweep(memory, it, edges, RULE),
             |_| Ok(true),
         )?,
         trial.refuse_each(
-            "overlay_arrange::fills_by_sweep",
+            "overlay_graph::fills_by_sweep",
             || Ok(ScanList::default(memory)),
             |it| fills_by_sweep(memory, it, edges, RULE),
             |_| Ok(true),
@@ -114,22 +114,19 @@ fn check_edges<I: Width>(trial: &Trial<'_, impl Abort>) -> Result<(), Fail> {
     held.merge(&mut ())?;
     let edges = held.edges();
     let told = [
-        trial.refuse_call(
-            "overlay_arrange::is_balanced",
-            || is_balanced(memory, edges),
-        )?,
-        trial.refuse_call("overlay_arrange::is_settled", || is_settled(memory, edges))?,
+        trial.refuse_call("overlay_graph::is_balanced", || is_balanced(memory, edges))?,
+        trial.refuse_call("overlay_pairs::is_settled", || is_settled(memory, edges))?,
     ];
     assert!(trial.rt; told == [true, true]);
     check_fills(trial, edges)?;
     trial.refuse_each(
-        "overlay_arrange::order_by_numbers",
+        "overlay_order::order_by_numbers",
         || places_down(memory),
         |it| order_by_numbers(it, PATHS, |place| *place),
         |it| Ok(it[..] == places_down(memory)?[..]),
     )?;
     trial.refuse_each(
-        "overlay_arrange::order_by_points",
+        "overlay_order::order_by_points",
         || points_down::<I>(memory),
         |it| order_by_points(it, |p| *p),
         |it| Ok(it[..] == points_down::<I>(memory)?[..]),

@@ -33,6 +33,7 @@ mod figures;
 mod flat;
 mod free_arranged;
 mod free_extracted;
+mod free_pairs;
 mod limits;
 mod one_call;
 mod overlay_adders;

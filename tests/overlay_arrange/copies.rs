@@ -3,14 +3,14 @@
 
 use crate::edges::{Held, edge, push};
 use overlay_arrange::content::Content;
-use overlay_arrange::count::ShapeCountBoolean;
-use overlay_arrange::edge::{CountedEdge, compare_points};
-use overlay_arrange::settle::is_settled;
 use overlay_geom::error::OverlayError;
 use overlay_geom::number::{IntNumber, WideIntNumber};
 use overlay_geom::point::IntPoint;
 use overlay_geom::solver::Solver;
 use overlay_geom::vector::cross_at;
+use overlay_order::count::ShapeCountBoolean;
+use overlay_order::edge::{CountedEdge, compare_points};
+use overlay_pairs::settle::is_settled;
 use std::alloc::Global;
 use std::process::Abort;
 use std::test::Fail;

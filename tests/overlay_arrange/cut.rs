@@ -1,10 +1,10 @@
 //! Edges that one round cuts: into which pieces.
 
 use crate::edges::{edge, push, with_edges};
-use overlay_arrange::count::ShapeCountBoolean;
-use overlay_arrange::edge::CountedEdge;
 use overlay_geom::error::OverlayError;
 use overlay_geom::number::IntNumber;
+use overlay_order::count::ShapeCountBoolean;
+use overlay_order::edge::CountedEdge;
 use std::alloc::Global;
 use std::process::Abort;
 

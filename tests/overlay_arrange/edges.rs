@@ -1,11 +1,11 @@
 //! Edges and contents as the tests here make them.
 
 use overlay_arrange::content::Content;
-use overlay_arrange::count::ShapeCountBoolean;
-use overlay_arrange::edge::{CountedEdge, compare_points};
 use overlay_geom::error::OverlayError;
 use overlay_geom::number::IntNumber;
 use overlay_geom::point::IntPoint;
+use overlay_order::count::ShapeCountBoolean;
+use overlay_order::edge::{CountedEdge, compare_points};
 use std::alloc::Global;
 use std::process::Abort;
 

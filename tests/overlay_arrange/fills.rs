@@ -1,13 +1,13 @@
 //! The filled sides of edges, also with live edges in trees alone and in lists alone.
 
 use crate::edges::{Held, edge, with_edges};
-use overlay_arrange::fill::{fills, fills_of_balanced};
-use overlay_arrange::fill_rule::FillRule;
-use overlay_arrange::fill_sweep::fills_by_sweep;
-use overlay_arrange::vector::{SUBJ_LEFT, SUBJ_RIGHT, SideFill};
 use overlay_geom::error::OverlayError;
+use overlay_geom::fill_rule::FillRule;
 use overlay_geom::number::IntNumber;
 use overlay_geom::solver::Solver;
+use overlay_graph::fill::{fills, fills_of_balanced};
+use overlay_graph::fill_sweep::fills_by_sweep;
+use overlay_order::vector::{SUBJ_LEFT, SUBJ_RIGHT, SideFill};
 use overlay_scan::list::ScanList;
 use overlay_scan::tree::ScanTree;
 use std::alloc::Global;

@@ -2,15 +2,15 @@
 
 use crate::edges::{Held, edge, with_edges};
 use overlay_arrange::content::Content;
-use overlay_arrange::count::ShapeCountBoolean;
-use overlay_arrange::edge::compare_points;
-use overlay_arrange::fill_rule::FillRule;
-use overlay_arrange::graph::Graph;
-use overlay_arrange::vector::{DataVectorEdge, SUBJ_LEFT, SUBJ_RIGHT, SideFill};
 use overlay_geom::error::OverlayError;
+use overlay_geom::fill_rule::FillRule;
 use overlay_geom::number::IntNumber;
 use overlay_geom::point::IntPoint;
 use overlay_geom::solver::Solver;
+use overlay_graph::graph::Graph;
+use overlay_order::count::ShapeCountBoolean;
+use overlay_order::edge::compare_points;
+use overlay_order::vector::{DataVectorEdge, SUBJ_LEFT, SUBJ_RIGHT, SideFill};
 use std::alloc::Global;
 use std::process::Abort;
 use std::test::Fail;

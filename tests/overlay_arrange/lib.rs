@@ -3,16 +3,11 @@
 mod bundles;
 mod copies;
 mod cut;
-mod data;
 mod edges;
 mod fills;
 mod graph;
 mod hub;
-mod numbers;
-mod pairs;
-mod points;
 mod rounds;
 mod snapping;
-mod string_count;
 mod tallies;
 mod truncated;

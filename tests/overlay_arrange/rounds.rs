@@ -2,15 +2,15 @@
 
 use crate::edges::{Held, edge, push, with_edges};
 use overlay_arrange::content::Content;
-use overlay_arrange::count::ShapeCountBoolean;
-use overlay_arrange::edge::CountedEdge;
-use overlay_arrange::options::ShapeType;
 use overlay_builder::boolean::passing;
 use overlay_builder::path::{PathKind, add_path};
 use overlay_geom::error::OverlayError;
 use overlay_geom::number::IntNumber;
+use overlay_geom::options::ShapeType;
 use overlay_geom::point::{IntPoint, in_range};
 use overlay_geom::solver::Solver;
+use overlay_order::count::ShapeCountBoolean;
+use overlay_order::edge::CountedEdge;
 use std::alloc::Global;
 use std::process::Abort;
 use std::test::Fail;

@@ -2,12 +2,12 @@
 
 use crate::edges::{Held, edge, with_edges};
 use overlay_arrange::content::Content;
-use overlay_arrange::count::ShapeCountBoolean;
-use overlay_arrange::edge::CountedEdge;
-use overlay_arrange::settle::is_settled;
 use overlay_geom::error::OverlayError;
 use overlay_geom::number::IntNumber;
 use overlay_geom::solver::Solver;
+use overlay_order::count::ShapeCountBoolean;
+use overlay_order::edge::CountedEdge;
+use overlay_pairs::settle::is_settled;
 use refusing_alloc::refusing::Refusing;
 use std::alloc::{Allocator, Global};
 use std::process::Abort;

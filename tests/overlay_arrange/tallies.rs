@@ -3,13 +3,13 @@
 ghost use Rattle.std.specs.Prelude.{⊤};
 
 use overlay_arrange::content::Content;
-use overlay_arrange::count::ShapeCountBoolean;
-use overlay_arrange::data::{CountWithData, EdgeDataMerge, OverlayEdgeData};
-use overlay_arrange::edge::{CountedEdge, compare_points};
 use overlay_geom::error::OverlayError;
 use overlay_geom::number::IntNumber;
 use overlay_geom::point::IntPoint;
 use overlay_geom::solver::Solver;
+use overlay_order::count::ShapeCountBoolean;
+use overlay_order::data::{CountWithData, EdgeDataMerge, OverlayEdgeData};
+use overlay_order::edge::{CountedEdge, compare_points};
 use std::alloc::Global;
 use std::process::Abort;
 use std::test::Fail;

@@ -1,15 +1,15 @@
 //! The core of a builder: paths of each kind, and what a refused query leaves.
 
-use overlay_arrange::count::ShapeCountBoolean;
-use overlay_arrange::options::ShapeType;
 use overlay_builder::boolean::passing;
 use overlay_builder::builder_core::BuilderCore;
 use overlay_builder::path::{PathKind, StepCounts, contour_kind};
 use overlay_geom::error::OverlayError;
 use overlay_geom::number::IntNumber;
+use overlay_geom::options::ShapeType;
 use overlay_geom::path::PathRef;
 use overlay_geom::point::{IntPoint, in_range};
 use overlay_geom::solver::Solver;
+use overlay_order::count::ShapeCountBoolean;
 use std::alloc::Global;
 use std::process::Abort;
 use std::test::Fail;

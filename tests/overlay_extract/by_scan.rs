@@ -1,9 +1,5 @@
 //! Extractions and slices with live edges in a scan that the test hands in.
 
-use overlay_arrange::count::{EdgeCount, ShapeCountBoolean};
-use overlay_arrange::graph::Graph;
-use overlay_arrange::options::{ContourDirection, IntOverlayOptions};
-use overlay_arrange::overlay_rule::OverlayRule;
 use overlay_extract::assemble::assembled;
 use overlay_extract::binding::bind::bind_contours;
 use overlay_extract::binding::places::shape_places;
@@ -12,7 +8,11 @@ use overlay_extract::slicing::loops::filled_loops;
 use overlay_extract::slicing::roles::contours_of_loops;
 use overlay_extract::slicing::slices::SliceContours;
 use overlay_geom::number::IntNumber;
+use overlay_geom::options::{ContourDirection, IntOverlayOptions};
+use overlay_geom::overlay_rule::OverlayRule;
 use overlay_geom::path::IntShapes;
+use overlay_graph::graph::Graph;
+use overlay_order::count::{EdgeCount, ShapeCountBoolean};
 use overlay_scan::scan::Scan;
 use overlay_walk::area::large_walks;
 use overlay_walk::buffer::BooleanExtractionBuffer;

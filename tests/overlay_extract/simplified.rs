@@ -2,19 +2,19 @@
 //! coordinate type.
 
 use crate::by_scan::shapes_by;
-use overlay_arrange::balance::is_balanced;
 use overlay_arrange::content::Content;
-use overlay_arrange::count::ShapeCountBoolean;
-use overlay_arrange::fill_rule::FillRule;
-use overlay_arrange::graph::Graph;
-use overlay_arrange::options::{IntOverlayOptions, ShapeType};
-use overlay_arrange::overlay_rule::OverlayRule;
 use overlay_builder::boolean::passing;
 use overlay_builder::path::{PathKind, add_path};
 use overlay_extract::extract::extract_shapes;
 use overlay_geom::error::OverlayError;
+use overlay_geom::fill_rule::FillRule;
 use overlay_geom::integer::OverlayInt;
+use overlay_geom::options::{IntOverlayOptions, ShapeType};
+use overlay_geom::overlay_rule::OverlayRule;
 use overlay_geom::solver::Solver;
+use overlay_graph::balance::is_balanced;
+use overlay_graph::graph::Graph;
+use overlay_order::count::ShapeCountBoolean;
 use overlay_scan::list::ScanList;
 use overlay_scan::tree::ScanTree;
 use overlay_walk::buffer::BooleanExtractionBuffer;

@@ -1,10 +1,10 @@
 //! The contours of slices that reach a minimum area, and the shapes of the holes among them, at each coordinate type.
 
 use crate::by_scan::slice_contours_by;
-use overlay_arrange::options::ContourDirection;
 use overlay_extract::slicing::sliced_shapes::sliced_shapes;
 use overlay_extract::slicing::slices::{SliceContours, slice_contours};
 use overlay_geom::number::IntNumber;
+use overlay_geom::options::ContourDirection;
 use overlay_scan::list::ScanList;
 use overlay_scan::tree::ScanTree;
 use overlay_walk::contour::Role;

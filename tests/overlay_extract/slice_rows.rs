@@ -1,9 +1,9 @@
 //! Shapes sliced along strings, on worked rows, at each coordinate type.
 
 use crate::by_scan::sliced_shapes_by;
-use overlay_arrange::options::ContourDirection;
 use overlay_extract::slicing::sliced_shapes::sliced_shapes;
 use overlay_geom::number::{IntNumber, UIntNumber};
+use overlay_geom::options::ContourDirection;
 use overlay_scan::list::ScanList;
 use overlay_scan::tree::ScanTree;
 use small_points::contours::{Points, shapes_of};

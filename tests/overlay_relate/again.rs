@@ -1,8 +1,8 @@
 //! Builders that are asked again: as they are, with more in them, and under another rule.
 
 use crate::asked::{assert_contour, assert_shape, assert_shapes, points};
-use overlay_arrange::fill_rule::FillRule;
 use overlay_geom::error::OverlayError;
+use overlay_geom::fill_rule::FillRule;
 use overlay_geom::integer::OverlayInt;
 use overlay_geom::path::{IntShape, IntShapes};
 use overlay_relate::predicate_overlay::{PredicateOverlay, ShapeType};

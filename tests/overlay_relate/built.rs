@@ -1,9 +1,9 @@
 //! Each call that makes a builder for predicates, or adds to it, at each coordinate type.
 
 use crate::asked::{assert_contour, assert_shape, assert_shapes, points};
-use overlay_arrange::fill_rule::FillRule;
 use overlay_builder::solver::Solver;
 use overlay_geom::error::OverlayError;
+use overlay_geom::fill_rule::FillRule;
 use overlay_geom::integer::OverlayInt;
 use overlay_geom::path::{IntShape, IntShapes};
 use overlay_geom::point::{IntPoint, in_range};

@@ -4,8 +4,8 @@ use crate::again::{
     ALONG, APART, AT_A_CORNER, BORDERING, Built, CORNERED, COVERING, EQUAL, INSIDE, OVER, SQUARE,
     WITHIN, add, asked,
 };
-use overlay_arrange::fill_rule::FillRule;
 use overlay_geom::error::OverlayError;
+use overlay_geom::fill_rule::FillRule;
 use overlay_geom::integer::OverlayInt;
 use overlay_relate::predicate_overlay::{PredicateOverlay, ShapeType};
 use std::alloc::Global;

@@ -2,7 +2,7 @@
 
 use crate::again::asked;
 use crate::asked::{assert_shape, points};
-use overlay_arrange::fill_rule::FillRule;
+use overlay_geom::fill_rule::FillRule;
 use overlay_geom::integer::OverlayInt;
 use overlay_geom::path::IntShape;
 use overlay_relate::predicate_overlay::PredicateOverlay;

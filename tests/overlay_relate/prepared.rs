@@ -1,8 +1,8 @@
 //! Prepared shapes: where points lie in holes, in contours that cross, on corners and edges, and past the range.
 
 use crate::asked::points;
-use overlay_arrange::fill_rule::FillRule;
 use overlay_builder::solver::Solver;
+use overlay_geom::fill_rule::FillRule;
 use overlay_geom::integer::OverlayInt;
 use overlay_geom::path::IntShape;
 use overlay_geom::point::{IntPoint, in_range};

@@ -1,7 +1,7 @@
 //! All relations told at once, at each coordinate type.
 
 use crate::asked::{assert_contour, points};
-use overlay_arrange::fill_rule::FillRule;
+use overlay_geom::fill_rule::FillRule;
 use overlay_geom::integer::OverlayInt;
 use overlay_relate::predicate_overlay::{PredicateOverlay, ShapeType};
 use overlay_relate::relations::Relations;

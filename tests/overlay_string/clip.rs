@@ -1,7 +1,7 @@
 //! Strings clipped by a shape, on worked rows, at each coordinate type.
 
 use crate::rules::{IN_AND_OUT, INSIDE, JOINED, OUTSIDE, PARTED, SQUARE, WITH_BOUNDARY};
-use overlay_arrange::fill_rule::FillRule;
+use overlay_geom::fill_rule::FillRule;
 use overlay_geom::integer::OverlayInt;
 use overlay_geom::path::IntPath;
 use overlay_string::clip_rule::ClipRule;

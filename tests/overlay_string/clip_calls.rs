@@ -4,7 +4,7 @@ use crate::points::line_of;
 use crate::rules::{
     IN_AND_OUT, INSIDE, JOINED, NOT_WITHIN, OUTSIDE, PARTED, SQUARE, WITH_BOUNDARY,
 };
-use overlay_arrange::fill_rule::FillRule;
+use overlay_geom::fill_rule::FillRule;
 use overlay_geom::integer::OverlayInt;
 use overlay_geom::path::{IntLine, IntPath};
 use overlay_geom::point::in_range;

@@ -1,7 +1,7 @@
 //! Shapes sliced along strings in one call, on worked rows, at each coordinate type.
 
 use crate::points::{NARROW, SQUARE, WIDE, are_shapes, line_of};
-use overlay_arrange::fill_rule::FillRule;
+use overlay_geom::fill_rule::FillRule;
 use overlay_geom::integer::OverlayInt;
 use overlay_geom::path::{IntLine, IntShapes};
 use overlay_geom::point::in_range;

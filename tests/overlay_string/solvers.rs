@@ -2,9 +2,9 @@
 //! call, with and without a solver, and the builder's calls, at each coordinate type.
 
 use crate::points::{are_shapes, line_of};
-use overlay_arrange::fill_rule::FillRule;
 use overlay_builder::solver::Solver;
 use overlay_geom::error::OverlayError;
+use overlay_geom::fill_rule::FillRule;
 use overlay_geom::flat::contours::FlatContoursBuffer;
 use overlay_geom::integer::OverlayInt;
 use overlay_geom::path::{IntLine, IntPath, IntShapes};

@@ -1,9 +1,6 @@
 //! The worked slices again, of a graph, with trees for any number of shapes, and with none at first. Clips need none.
 
 use crate::points::{SQUARE, are_shapes};
-use overlay_arrange::count::EdgeCount;
-use overlay_arrange::graph::Graph;
-use overlay_arrange::options::ContourDirection;
 use overlay_extract::assemble::assembled;
 use overlay_extract::binding::bind::bind_from;
 use overlay_extract::binding::places::shape_places;
@@ -12,7 +9,10 @@ use overlay_extract::slicing::roles::contours_of_loops;
 use overlay_geom::error::OverlayError;
 use overlay_geom::integer::OverlayInt;
 use overlay_geom::number::{IntNumber, UIntNumber};
+use overlay_geom::options::ContourDirection;
 use overlay_geom::path::IntShapes;
+use overlay_graph::graph::Graph;
+use overlay_order::count::EdgeCount;
 use overlay_walk::area::large_walks;
 use small_points::contours::Points;
 use small_points::slice_graphs::{INNER, OUTER_AND_INNER, SQUARE as WIDE, graph_of};

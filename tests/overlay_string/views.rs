@@ -1,11 +1,11 @@
 //! Views of a shape and strings, and the shapes that are extracted from them, at each coordinate type.
 
 use crate::points::{NARROW, WIDE, are_shapes};
-use overlay_arrange::fill_rule::FillRule;
-use overlay_arrange::options::ContourDirection;
 use overlay_builder::solver::Solver;
 use overlay_geom::error::OverlayError;
+use overlay_geom::fill_rule::FillRule;
 use overlay_geom::integer::OverlayInt;
+use overlay_geom::options::ContourDirection;
 use overlay_geom::point::in_range;
 use overlay_string::string_graph::StringGraph;
 use overlay_string::string_overlay::{IntOverlayOptions, StringOverlay};

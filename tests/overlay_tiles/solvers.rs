@@ -1,8 +1,8 @@
 //! Two needles in one tile of a grid, which rounds do not settle, and snap rounding does, at each coordinate type.
 
 use crate::points::{are_tiles, grid_of};
-use overlay_arrange::fill_rule::FillRule;
 use overlay_geom::error::OverlayError;
+use overlay_geom::fill_rule::FillRule;
 use overlay_geom::integer::OverlayInt;
 use overlay_geom::path::IntShape;
 use overlay_geom::solver::Solver;

@@ -1,7 +1,7 @@
 //! Shapes sliced by grids, on worked rows, at each coordinate type.
 
 use crate::points::{are_tiles, corners_of, grid_of};
-use overlay_arrange::fill_rule::FillRule;
+use overlay_geom::fill_rule::FillRule;
 use overlay_geom::integer::OverlayInt;
 use overlay_tiles::grid::{Grid, grid_fits};
 use overlay_tiles::slice::slice_by_grid;

@@ -2,8 +2,8 @@
 
 ghost use Rattle.std.specs.Prelude.{⊤};
 
-use overlay_arrange::count::ShapeCountBoolean;
-use overlay_arrange::data::{EdgeDataMerge, OverlayEdgeData};
+use overlay_order::count::ShapeCountBoolean;
+use overlay_order::data::{EdgeDataMerge, OverlayEdgeData};
 
 /// The colour of an edge.
 #[derive(Debug, Clone, Copy, PartialEq, Eq)]

@@ -2,9 +2,9 @@
 
 use crate::colour::{Calls, Colour};
 use crate::edges::{add_contour, add_each, edge_of};
-use overlay_arrange::fill_rule::FillRule;
-use overlay_arrange::overlay_rule::OverlayRule;
+use overlay_geom::fill_rule::FillRule;
 use overlay_geom::integer::OverlayInt;
+use overlay_geom::overlay_rule::OverlayRule;
 use overlay_vector::edge_overlay::{EdgeOverlay, ShapeType};
 use std::alloc::Global;
 use std::process::Abort;

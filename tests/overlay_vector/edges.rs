@@ -1,11 +1,11 @@
 //! Edges from small coordinates, and the test of their range.
 
-use overlay_arrange::data::OverlayEdgeData;
-use overlay_arrange::vector::{DataVectorEdge, SideFill};
 use overlay_geom::error::OverlayError;
 use overlay_geom::integer::OverlayInt;
 use overlay_geom::path::IntLine;
 use overlay_geom::point::IntPoint;
+use overlay_order::data::OverlayEdgeData;
+use overlay_order::vector::{DataVectorEdge, SideFill};
 use overlay_vector::edge_overlay::{EdgeOverlay, ShapeType};
 use overlay_vector::input_edge::InputEdge;
 use std::alloc::{Allocator, Global};

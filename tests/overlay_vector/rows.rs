@@ -1,6 +1,6 @@
 //! Filled sides as they are seen on the way back.
 
-use overlay_arrange::vector::SideFill;
+use overlay_order::vector::SideFill;
 use overlay_vector::side_fill::Reverse;
 use std::test::Fail;
 

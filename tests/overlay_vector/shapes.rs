@@ -2,11 +2,11 @@
 
 use crate::colour::Colour;
 use crate::edges::{Place, add_way, vector_of};
-use overlay_arrange::fill_rule::FillRule;
-use overlay_arrange::overlay_rule::OverlayRule;
-use overlay_arrange::vector::{DataVectorEdge, SideFill};
 use overlay_geom::error::OverlayError;
+use overlay_geom::fill_rule::FillRule;
 use overlay_geom::integer::OverlayInt;
+use overlay_geom::overlay_rule::OverlayRule;
+use overlay_order::vector::{DataVectorEdge, SideFill};
 use overlay_vector::edge_overlay::{EdgeOverlay, IntOverlayOptions, ShapeType};
 use overlay_vector::path::{DataVectorPath, DataVectorShape};
 use small_points::contours::is_round;

@@ -2,12 +2,12 @@
 
 use crate::colour::Colour;
 use crate::edges::{Place, add_contour, vector_of};
-use overlay_arrange::fill_rule::FillRule;
-use overlay_arrange::overlay_rule::OverlayRule;
-use overlay_arrange::vector::DataVectorEdge;
 use overlay_geom::error::OverlayError;
+use overlay_geom::fill_rule::FillRule;
 use overlay_geom::integer::OverlayInt;
+use overlay_geom::overlay_rule::OverlayRule;
 use overlay_geom::solver::Solver;
+use overlay_order::vector::DataVectorEdge;
 use overlay_vector::edge_overlay::{EdgeOverlay, ShapeType};
 use std::alloc::Global;
 use std::process::Abort;

@@ -2,8 +2,8 @@
 
 ghost use Rattle.std.specs.Prelude.{⊤};
 
-use overlay_arrange::count::ShapeCountBoolean;
-use overlay_arrange::data::{EdgeDataMerge, OverlayEdgeData};
+use overlay_order::count::ShapeCountBoolean;
+use overlay_order::data::{EdgeDataMerge, OverlayEdgeData};
 
 /// From which sources an edge comes, a bit for each, and whether it is seen against its way.
 #[derive(Debug, Clone, Copy, PartialEq, Eq)]

@@ -2,9 +2,9 @@
 
 use crate::colour::Colour;
 use crate::shapes::{Row, Way, are_shapes, builder_of};
-use overlay_arrange::fill_rule::FillRule;
-use overlay_arrange::overlay_rule::OverlayRule;
+use overlay_geom::fill_rule::FillRule;
 use overlay_geom::integer::OverlayInt;
+use overlay_geom::overlay_rule::OverlayRule;
 use std::alloc::Global;
 use std::process::Abort;
 use std::test::Fail;

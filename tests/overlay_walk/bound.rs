@@ -1,9 +1,9 @@
 //! Holes that begin in a corner of their outline, and in one point, bound to shapes at each coordinate type.
 
-use overlay_arrange::options::ContourDirection;
 use overlay_extract::binding::bind::bind_contours;
 use overlay_geom::error::OverlayError;
 use overlay_geom::number::IntNumber;
+use overlay_geom::options::ContourDirection;
 use overlay_geom::point::IntPoint;
 use overlay_scan::list::ScanList;
 use overlay_walk::contour::{Contour, Role};

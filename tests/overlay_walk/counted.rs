@@ -1,15 +1,15 @@
 //! Graphs of a few counted edges, and the points at which steps begin.
 
-use overlay_arrange::balance::is_balanced;
 use overlay_arrange::content::Content;
-use overlay_arrange::count::ShapeCountBoolean;
-use overlay_arrange::edge::{CountedEdge, compare_points};
-use overlay_arrange::fill_rule::FillRule;
-use overlay_arrange::graph::Graph;
 use overlay_geom::error::OverlayError;
+use overlay_geom::fill_rule::FillRule;
 use overlay_geom::number::IntNumber;
 use overlay_geom::point::IntPoint;
 use overlay_geom::solver::Solver;
+use overlay_graph::balance::is_balanced;
+use overlay_graph::graph::Graph;
+use overlay_order::count::ShapeCountBoolean;
+use overlay_order::edge::{CountedEdge, compare_points};
 use overlay_walk::step::Step;
 use std::alloc::Global;
 use std::process::Abort;

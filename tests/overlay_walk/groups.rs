@@ -1,10 +1,10 @@
 //! Contours cut with groups: a hole that touches its outline is a contour of its own.
 
 use crate::counted::{TOUCHING, begin_at, graph_of};
-use overlay_arrange::options::ContourDirection;
-use overlay_arrange::overlay_rule::OverlayRule;
 use overlay_geom::error::OverlayError;
 use overlay_geom::number::{IntNumber, UIntNumber};
+use overlay_geom::options::ContourDirection;
+use overlay_geom::overlay_rule::OverlayRule;
 use overlay_walk::buffer::BooleanExtractionBuffer;
 use overlay_walk::contour::Role;
 use overlay_walk::selected_walks::selected_contours;

@@ -1,14 +1,14 @@
 //! Contours that are kept, the shapes to which their holes are bound, and the holes round islands.
 
 use crate::counted::{Counted, TOUCHING, begin_at, graph_of};
-use overlay_arrange::count::ShapeCountBoolean;
-use overlay_arrange::graph::Graph;
-use overlay_arrange::options::IntOverlayOptions;
-use overlay_arrange::overlay_rule::OverlayRule;
 use overlay_extract::binding::bind::bind_contours;
 use overlay_extract::binding::islands::holes_round;
 use overlay_geom::error::OverlayError;
 use overlay_geom::number::IntNumber;
+use overlay_geom::options::IntOverlayOptions;
+use overlay_geom::overlay_rule::OverlayRule;
+use overlay_graph::graph::Graph;
+use overlay_order::count::ShapeCountBoolean;
 use overlay_scan::list::ScanList;
 use overlay_walk::buffer::BooleanExtractionBuffer;
 use overlay_walk::contour::{Contour, Role};

@@ -1,8 +1,8 @@
 //! The steps round a triangle, walked and cut into contours, at each coordinate type.
 
-use overlay_arrange::options::ContourDirection;
 use overlay_geom::error::OverlayError;
 use overlay_geom::number::IntNumber;
+use overlay_geom::options::ContourDirection;
 use overlay_geom::point::IntPoint;
 use overlay_walk::contour_cut::cut_into_contours;
 use overlay_walk::hand::{Hand, HandRule};

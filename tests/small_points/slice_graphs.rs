@@ -1,16 +1,16 @@
 //! Graphs of a shape and of strings over it, from small coordinates.
 
 use crate::contours::{Points, point_of};
-use overlay_arrange::balance::is_balanced;
 use overlay_arrange::content::Content;
-use overlay_arrange::edge::{CountedEdge, compare_points};
-use overlay_arrange::fill_rule::FillRule;
-use overlay_arrange::graph::Graph;
-use overlay_arrange::string_count::{STRING_AGAINST, STRING_ALONG, ShapeCountString};
 use overlay_geom::error::OverlayError;
+use overlay_geom::fill_rule::FillRule;
 use overlay_geom::number::IntNumber;
 use overlay_geom::point::IntPoint;
 use overlay_geom::solver::Solver;
+use overlay_graph::balance::is_balanced;
+use overlay_graph::graph::Graph;
+use overlay_order::edge::{CountedEdge, compare_points};
+use overlay_order::string_count::{STRING_AGAINST, STRING_ALONG, ShapeCountString};
 use std::alloc::Global;
 use std::process::Abort;
 

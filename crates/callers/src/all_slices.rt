@@ -3,15 +3,15 @@
 ghost use Rattle.std.specs.Prelude.{IfOk};
 ghost use Rattle.overlay_geom.specs.Paths.{plain_shapes};
 ghost use Rattle.overlay_plane.specs.Balance.{HasBalancedCounts};
-ghost use Rattle.overlay_arrange.specs.Graphs.{graph_edges};
+ghost use Rattle.overlay_graph.specs.Graphs.{graph_edges};
 ghost use Rattle.overlay_extract.specs.Sliced.{IsSliced};
 
-use overlay_arrange::count::EdgeCount;
-use overlay_arrange::graph::Graph;
-use overlay_arrange::options::ContourDirection;
 use overlay_extract::slicing::sliced_shapes::sliced_shapes;
 use overlay_geom::number::{IntNumber, UIntNumber};
+use overlay_geom::options::ContourDirection;
 use overlay_geom::path::IntShapes;
+use overlay_graph::graph::Graph;
+use overlay_order::count::EdgeCount;
 use std::alloc::{AllocError, Allocator};
 
 /// The shapes of the slices, however small: of each its outline, counterclockwise, and then its holes, clockwise.

@@ -3,16 +3,16 @@
 ghost use Rattle.std.specs.Prelude.{IfOk};
 ghost use Rattle.overlay_geom.specs.Paths.{plain_shapes};
 ghost use Rattle.overlay_plane.specs.Balance.{HasBalancedCounts};
-ghost use Rattle.overlay_arrange.specs.Graphs.{graph_edges};
+ghost use Rattle.overlay_graph.specs.Graphs.{graph_edges};
 ghost use Rattle.overlay_extract.specs.Results.{asked, IsResult};
 
-use overlay_arrange::count::EdgeCount;
-use overlay_arrange::graph::Graph;
-use overlay_arrange::options::IntOverlayOptions;
-use overlay_arrange::overlay_rule::OverlayRule;
 use overlay_extract::extract::extract_shapes;
 use overlay_geom::number::IntNumber;
+use overlay_geom::options::IntOverlayOptions;
+use overlay_geom::overlay_rule::OverlayRule;
 use overlay_geom::path::IntShapes;
+use overlay_graph::graph::Graph;
+use overlay_order::count::EdgeCount;
 use overlay_walk::buffer::BooleanExtractionBuffer;
 use std::alloc::{AllocError, Allocator};
 

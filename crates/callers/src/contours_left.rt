@@ -6,8 +6,8 @@ ghost use Rattle.overlay_plane.specs.Contours.{outline_or_hole_hand, CanBeCut, I
 ghost use Rattle.overlay_walk.specs.Steps.{plain_steps, filled_hand};
 ghost use Rattle.overlay_walk.specs.Walks.{plain_walks};
 
-use overlay_arrange::options::ContourDirection;
 use overlay_geom::number::IntNumber;
+use overlay_geom::options::ContourDirection;
 use overlay_walk::contour_cut::cut_into_contours;
 use overlay_walk::hand::HandRule;
 use overlay_walk::open_steps::OpenSteps;

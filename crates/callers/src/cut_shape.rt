@@ -7,8 +7,8 @@ ghost use Rattle.overlay_geom.specs.declared.solver.Solver.TheVariants.{Rounds};
 ghost use Rattle.overlay_string.specs.OneShot.{shape_and_strings};
 ghost use Rattle.overlay_string.specs.StringSlices.{AreSlicedOfPaths};
 
-use overlay_arrange::fill_rule::FillRule;
 use overlay_geom::error::OverlayError;
+use overlay_geom::fill_rule::FillRule;
 use overlay_geom::integer::OverlayInt;
 use overlay_geom::path::{IntLine, IntShape, IntShapes};
 use overlay_string::slice::IntSlice;

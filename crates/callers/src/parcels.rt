@@ -6,18 +6,18 @@ ghost use Rattle.overlay_geom.specs.Paths.{plain_shapes};
 ghost use Rattle.overlay_geom.specs.Plane.{PlanePoint, IsOff};
 ghost use Rattle.overlay_plane.specs.Balance.{HasBalancedCounts};
 ghost use Rattle.overlay_plane.specs.ShapesAlone.{EachWindsOnceOrNot};
-ghost use Rattle.overlay_arrange.specs.Graphs.{graph_edges};
+ghost use Rattle.overlay_graph.specs.Graphs.{graph_edges};
 ghost use Rattle.overlay_walk.specs.Steps.{filled_hand};
 ghost use Rattle.overlay_extract.specs.Laws.{NoTwoWindRound};
 
-use overlay_arrange::count::EdgeCount;
-use overlay_arrange::graph::Graph;
-use overlay_arrange::options::IntOverlayOptions;
-use overlay_arrange::overlay_rule::OverlayRule;
 use overlay_extract::extract::extract_shapes;
 use overlay_extract::laws::no_two_shapes_wind_round_one_point;
 use overlay_geom::number::{IntNumber, UIntNumber};
+use overlay_geom::options::IntOverlayOptions;
+use overlay_geom::overlay_rule::OverlayRule;
 use overlay_geom::path::IntShapes;
+use overlay_graph::graph::Graph;
+use overlay_order::count::EdgeCount;
 use overlay_walk::buffer::BooleanExtractionBuffer;
 use std::alloc::{AllocError, Allocator};
 

@@ -1,19 +1,19 @@
 //! Where a point lies in the shape that contours make, which may cross themselves and each other.
 
 ghost use Rattle.std.specs.Prelude.{IfOk, All, List, false};
-ghost use Rattle.overlay_arrange.specs.Rules.{is_filled};
-ghost use Rattle.overlay_arrange.specs.declared.options.ShapeType.TheVariants.{Subject};
-ghost use Rattle.overlay_builder.specs.GivenPaths.{paths_for};
+ghost use Rattle.overlay_geom.specs.Rules.{is_filled};
+ghost use Rattle.overlay_geom.specs.declared.options.ShapeType.TheVariants.{Subject};
 ghost use Rattle.overlay_geom.specs.Edges.{CountedEdge};
 ghost use Rattle.overlay_geom.specs.Paths.{paths_of_shape};
 ghost use Rattle.overlay_geom.specs.Plane.{in_plane};
 ghost use Rattle.overlay_geom.specs.Points.{plain_point, AllInRange};
+ghost use Rattle.overlay_builder.specs.GivenPaths.{paths_for};
 ghost use Rattle.overlay_relate.specs.Bounded.{IsLocatedUnder};
 ghost use Rattle.overlay_relate.specs.Exchanged.{IsArrangementOf};
 
-use overlay_arrange::fill_rule::FillRule;
 use overlay_builder::solver::Solver;
 use overlay_geom::error::OverlayError;
+use overlay_geom::fill_rule::FillRule;
 use overlay_geom::integer::OverlayInt;
 use overlay_geom::path::IntShape;
 use overlay_geom::point::IntPoint;

@@ -3,13 +3,13 @@
 ghost use Rattle.std.specs.Prelude.{◌≡◌, map, min, IfOk};
 ghost use Rattle.overlay_vector.specs.AddedEdges.{IsEdgeInRange};
 
-use overlay_arrange::count::ShapeCountBoolean;
-use overlay_arrange::data::{EdgeDataMerge, OverlayEdgeData};
-use overlay_arrange::fill_rule::FillRule;
-use overlay_arrange::overlay_rule::OverlayRule;
-use overlay_arrange::vector::DataVectorEdge;
 use overlay_geom::error::OverlayError;
+use overlay_geom::fill_rule::FillRule;
 use overlay_geom::integer::OverlayInt;
+use overlay_geom::overlay_rule::OverlayRule;
+use overlay_order::count::ShapeCountBoolean;
+use overlay_order::data::{EdgeDataMerge, OverlayEdgeData};
+use overlay_order::vector::DataVectorEdge;
 use overlay_vector::edge_overlay::{EdgeOverlay, IntOverlayOptions, ShapeType};
 use overlay_vector::input_edge::InputEdge;
 use overlay_vector::path::DataVectorShape;

@@ -5,14 +5,14 @@ ghost use Rattle.overlay_geom.specs.Points.{plain_points, AllInRange};
 use i_overlay::simplifying::outcome::Outcome;
 use i_overlay::simplifying::shapes::shapes_left;
 use i_overlay::simplifying::simple::outcome_of_contour;
-use overlay_arrange::data::CountWithData;
-use overlay_arrange::fill_rule::FillRule;
-use overlay_arrange::options::ContourDirection;
 use overlay_builder::builder_core::BuilderCore;
 use overlay_geom::error::OverlayError;
+use overlay_geom::fill_rule::FillRule;
+use overlay_geom::options::ContourDirection;
 use overlay_geom::path::IntShapes;
 use overlay_geom::point::IntPoint;
 use overlay_geom::solver::Solver;
+use overlay_order::data::CountWithData;
 use std::alloc::Global;
 
 /// The shapes of a contour that is simple; none of one that would have to be cut.

@@ -5,9 +5,9 @@ ghost use Rattle.overlay_plane.specs.Carried.{edges_in};
 ghost use Rattle.overlay_arrange.specs.Arranged.{IsArranged};
 
 use overlay_arrange::content::Content;
-use overlay_arrange::count::ShapeCountBoolean;
 use overlay_geom::error::OverlayError;
 use overlay_geom::solver::Solver;
+use overlay_order::count::ShapeCountBoolean;
 use std::alloc::Global;
 
 /// Splits the edges by the solver, and tells how many there are.

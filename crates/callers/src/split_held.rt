@@ -2,10 +2,10 @@
 
 ghost use Rattle.std.specs.Prelude.{◌≡◌, true, IsErrOf};
 
-use overlay_arrange::count::ShapeCountBoolean;
 use overlay_builder::builder_core::BuilderCore;
 use overlay_geom::error::OverlayError;
 use overlay_geom::solver::Solver;
+use overlay_order::count::ShapeCountBoolean;
 use std::alloc::Global;
 
 /// Splits what a builder holds, and tells whether it cut any edge.

@@ -11,8 +11,8 @@ ghost use Rattle.overlay_plane.specs.Turn.{left, right};
 ghost use Rattle.overlay_walk.specs.GroupedContours.{plain_contours};
 ghost use Rattle.overlay_walk.specs.Steps.{plain_step, IsLong};
 
-use overlay_arrange::options::ContourDirection;
 use overlay_extract::binding::bind::bind_contours;
+use overlay_geom::options::ContourDirection;
 use overlay_geom::point::IntPoint;
 use overlay_scan::list::ScanList;
 use overlay_walk::contour::{Contour, Role};

@@ -10,11 +10,11 @@ use Rattle.overlay_geom.specs.Edges.{CountedEdge, subject_edge, weight}
 use Rattle.overlay_geom.specs.declared.error.OverlayError.{OverlayError}
 use Rattle.overlay_geom.specs.declared.error.OverlayError.TheVariants.{Memory, NotSettled, TooManyEdges, Failed}
 use Rattle.overlay_geom.specs.declared.solver.Solver.{Solver}
+use Rattle.overlay_geom.specs.declared.options.ShapeType.TheVariants.{Subject}
+use Rattle.overlay_order.specs.Content.{IsContent, edge_for}
+use Rattle.overlay_order.specs.Counts.{boolean_counts}
+use Rattle.overlay_order.specs.declared.data.CountWithData.{CountWithData}
 use Rattle.overlay_arrange.specs.Arranged.{MayRefuseSplitting}
-use Rattle.overlay_arrange.specs.Content.{IsContent, edge_for}
-use Rattle.overlay_arrange.specs.Counts.{boolean_counts}
-use Rattle.overlay_arrange.specs.declared.data.CountWithData.{CountWithData}
-use Rattle.overlay_arrange.specs.declared.options.ShapeType.TheVariants.{Subject}
 use Rattle.overlay_plane.specs.Carried.{Carried, edges_in}
 use Rattle.overlay_builder.specs.GivenPaths.{GivenPath, added_paths, paths_for}
 use Rattle.overlay_builder.specs.Held.{Held, AnswersQuery, nothing_held, plain_held}

@@ -5,6 +5,7 @@ use Rattle.std.proofs.Common.{List, length, get_or, Contains, sym, ap, ap₂, su
 use Rattle.std.proofs.lemmas.Bool.{both_ways, cases_lt, false_from_ne_true}
 use Rattle.std.proofs.lemmas.List.Elements.{Contains-get_or}
 use Rattle.overlay_geom.specs.Plane.{Point, Step, Edge, point_lt, cross_at, is_forward, edge_of, steps_of}
+use Rattle.overlay_geom.specs.declared.options.ContourDirection.TheVariants.{CounterClockwise, Clockwise}
 use Rattle.overlay_geom.proofs.Orders.{point_eq-same, point_lt-back}
 use Rattle.overlay_geom.proofs.Signs.{linear}
 use Rattle.overlay_plane.specs.Groups.{HasEachPointOnce}
@@ -14,7 +15,6 @@ use Rattle.overlay_plane.specs.Turn.{no_step}
 use Rattle.overlay_plane.proofs.EdgeTurns.{edge_turn_exchanged, edge_turn_same}
 use Rattle.overlay_plane.proofs.EdgesOfSteps.{edge_by}
 use Rattle.overlay_plane.proofs.Tests.{lt_from_test}
-use Rattle.overlay_arrange.specs.declared.options.ContourDirection.TheVariants.{CounterClockwise, Clockwise}
 use Rattle.i_overlay.specs.Points.{IsLeast}
 use Rattle.i_overlay.specs.Simple.{RunsIn}
 use Rattle.i_overlay.proofs.ClosedPoints.{step_at, among, begins, stops_in_next, stops_in_first, place_of}

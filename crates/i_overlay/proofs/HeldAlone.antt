@@ -7,7 +7,7 @@ use Rattle.overlay_geom.specs.Edges.{CountedEdge}
 use Rattle.overlay_geom.specs.declared.error.OverlayError.{OverlayError}
 use Rattle.overlay_geom.specs.declared.error.OverlayError.TheVariants.{Memory}
 use Rattle.overlay_geom.specs.declared.solver.Solver.{Solver}
-use Rattle.overlay_arrange.specs.Content.{IsContent}
+use Rattle.overlay_order.specs.Content.{IsContent}
 use Rattle.overlay_builder.specs.GivenPaths.{GivenPath, IsBalancedUnlessFailed}
 use Rattle.overlay_builder.specs.Held.{Held}
 use Rattle.overlay_builder.proofs.Balanced.{held_paths_are_balanced}

@@ -7,14 +7,14 @@ use Rattle.overlay_geom.specs.declared.error.OverlayError.TheVariants.{Memory, N
 use Rattle.overlay_geom.specs.Edges.{CountedEdge}
 use Rattle.overlay_geom.specs.Plane.{Point, Step}
 use Rattle.overlay_geom.specs.declared.solver.Solver.{Solver}
+use Rattle.overlay_geom.specs.Options.{AreOptions}
+use Rattle.overlay_geom.specs.declared.fill_rule.FillRule.{FillRule}
+use Rattle.overlay_geom.specs.declared.overlay_rule.OverlayRule.{OverlayRule}
+use Rattle.overlay_geom.specs.declared.options.ContourDirection.{ContourDirection}
+use Rattle.overlay_geom.specs.declared.options.ContourDirection.TheVariants.{CounterClockwise}
+use Rattle.overlay_geom.specs.declared.options.IntOverlayOptions.{IntOverlayOptions}
+use Rattle.overlay_order.specs.Vectors.{Vector, vector_of}
 use Rattle.overlay_arrange.specs.Arranged.{IsArranged}
-use Rattle.overlay_arrange.specs.Options.{AreOptions}
-use Rattle.overlay_arrange.specs.Vectors.{Vector, vector_of}
-use Rattle.overlay_arrange.specs.declared.fill_rule.FillRule.{FillRule}
-use Rattle.overlay_arrange.specs.declared.overlay_rule.OverlayRule.{OverlayRule}
-use Rattle.overlay_arrange.specs.declared.options.ContourDirection.{ContourDirection}
-use Rattle.overlay_arrange.specs.declared.options.ContourDirection.TheVariants.{CounterClockwise}
-use Rattle.overlay_arrange.specs.declared.options.IntOverlayOptions.{IntOverlayOptions}
 use Rattle.overlay_builder.specs.Held.{Held, AnswersQuery}
 use Rattle.i_overlay.specs.OneShot.{asked_by_default, IsResultOfPaths, IsHierarchyOfPaths, AreEdgesOfPaths}
 use Rattle.i_overlay.specs.OneShot.{MayRefusePaths, WindsRoundFarPaths}

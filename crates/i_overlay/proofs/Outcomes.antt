@@ -4,13 +4,13 @@ use Rattle.std.proofs.lemmas.List.{append-nil}
 use Rattle.std.specs.Prelude.{reverse}
 use Rattle.overlay_geom.specs.Plane.{Point, PlanePoint, winding, steps_of}
 use Rattle.overlay_geom.specs.Edges.{CountedEdge, subj_of, winding_by}
+use Rattle.overlay_geom.specs.Rules.{is_filled}
+use Rattle.overlay_geom.specs.declared.fill_rule.FillRule.{FillRule}
+use Rattle.overlay_geom.specs.declared.fill_rule.FillRule.TheVariants.{EvenOdd, NonZero, Positive, Negative}
+use Rattle.overlay_geom.specs.declared.options.ContourDirection.{ContourDirection}
+use Rattle.overlay_geom.specs.declared.options.ContourDirection.TheVariants.{CounterClockwise, Clockwise}
 use Rattle.overlay_plane.specs.ShapeWindings.{steps_of_shapes}
-use Rattle.overlay_arrange.specs.Rules.{is_filled}
-use Rattle.overlay_arrange.proofs.RuledContents.{zero_is_empty}
-use Rattle.overlay_arrange.specs.declared.fill_rule.FillRule.{FillRule}
-use Rattle.overlay_arrange.specs.declared.fill_rule.FillRule.TheVariants.{EvenOdd, NonZero, Positive, Negative}
-use Rattle.overlay_arrange.specs.declared.options.ContourDirection.{ContourDirection}
-use Rattle.overlay_arrange.specs.declared.options.ContourDirection.TheVariants.{CounterClockwise, Clockwise}
+use Rattle.overlay_order.proofs.RuledContents.{zero_is_empty}
 use Rattle.i_overlay.specs.Laws.{once_in, SimpleContoursWindOnce}
 use Rattle.i_overlay.specs.Outcome.{HasOutcome, outcome_of, shapes_left}
 use Rattle.i_overlay.specs.declared.simplifying.outcome.Outcome.{Outcome}

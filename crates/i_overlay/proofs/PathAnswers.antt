@@ -1,6 +1,6 @@
 -- What answers about the relations of two resources tell of their paths: each holds an arrangement of what these give.
 use Rattle.std.proofs.Common.{false}
-use Rattle.overlay_arrange.specs.Rules.{is_filled}
+use Rattle.overlay_geom.specs.Rules.{is_filled}
 use Rattle.overlay_relate.proofs.PathRelations.{arrangements_tell_of_paths}
 use Rattle.i_overlay.specs.PathAnswers.{AnswersTellOfPaths, AllRelationsTellOfPaths}
 

@@ -7,8 +7,8 @@ use Rattle.overlay_geom.specs.Plane.{Point, steps_of}
 use Rattle.overlay_geom.specs.Thinned.{IsThinned, thin, drop_one, IsStraightAt}
 use Rattle.overlay_geom.specs.Edges.{CountedEdge, subject_edge, clip_edge, weight}
 use Rattle.overlay_geom.specs.Merged.{joined_edge}
-use Rattle.overlay_arrange.specs.declared.fill_rule.FillRule.TheVariants.{EvenOdd, NonZero, Positive, Negative}
-use Rattle.overlay_arrange.specs.Rules.{fill_bits}
+use Rattle.overlay_geom.specs.declared.fill_rule.FillRule.TheVariants.{EvenOdd, NonZero, Positive, Negative}
+use Rattle.overlay_geom.specs.Rules.{fill_bits}
 
 abbrev at : ℕ → ℕ → Point
 at x y = record { x = pos x; y = pos y }

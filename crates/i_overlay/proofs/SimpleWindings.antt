@@ -11,6 +11,8 @@ use Rattle.overlay_geom.specs.Plane.{is_strictly_below}
 use Rattle.overlay_geom.specs.Edges.{CountedEdge, ends_of, subj_of, clip_of, subject_edge, winding_by}
 use Rattle.overlay_geom.specs.Edges.{winding_below, winding_above}
 use Rattle.overlay_geom.specs.Merged.{IsMerged}
+use Rattle.overlay_geom.specs.declared.options.ContourDirection.{ContourDirection}
+use Rattle.overlay_geom.specs.declared.options.ContourDirection.TheVariants.{CounterClockwise, Clockwise}
 use Rattle.overlay_geom.proofs.MergedWindings.{windings_from_merged}
 use Rattle.overlay_geom.proofs.Orders.{point_eq-same, point_eq-of_same, point_lt-back}
 use Rattle.overlay_geom.proofs.Signs.{linear}
@@ -31,8 +33,6 @@ use Rattle.overlay_plane.proofs.LeftmostPoints.{nothing_before_the_leftmost}
 use Rattle.overlay_plane.proofs.ReachedEdges.{above_below_point}
 use Rattle.overlay_plane.proofs.RoundNodes.{one_winding_beside_neighbours}
 use Rattle.overlay_plane.proofs.TurnOrder.{met_irreflexive, start_is_last}
-use Rattle.overlay_arrange.specs.declared.options.ContourDirection.{ContourDirection}
-use Rattle.overlay_arrange.specs.declared.options.ContourDirection.TheVariants.{CounterClockwise, Clockwise}
 use Rattle.i_overlay.specs.Laws.{once_in}
 use Rattle.i_overlay.specs.Simple.{IsSimple, IsLowestStep, RunsIn}
 use Rattle.i_overlay.proofs.ClosedPoints.{among, begins, stops_in_next, step_at, place_of, one_begins}

@@ -8,13 +8,13 @@ use Rattle.overlay_geom.specs.Plane.{Point}
 use Rattle.overlay_geom.specs.Edges.{CountedEdge}
 use Rattle.overlay_geom.specs.declared.solver.Solver.{Solver}
 use Rattle.overlay_geom.specs.declared.solver.Solver.TheVariants.{Rounds}
+use Rattle.overlay_geom.specs.declared.fill_rule.FillRule.{FillRule}
+use Rattle.overlay_geom.specs.declared.options.ContourDirection.{ContourDirection}
+use Rattle.overlay_geom.specs.declared.options.ShapeType.TheVariants.{Subject}
 use Rattle.overlay_plane.specs.Arrangements.{IsReachedBy}
 use Rattle.overlay_plane.specs.Carried.{Carried, edges_in}
 use Rattle.overlay_plane.specs.Groups.{HasEachPointOnce}
-use Rattle.overlay_arrange.specs.Content.{edge_for}
-use Rattle.overlay_arrange.specs.declared.fill_rule.FillRule.{FillRule}
-use Rattle.overlay_arrange.specs.declared.options.ContourDirection.{ContourDirection}
-use Rattle.overlay_arrange.specs.declared.options.ShapeType.TheVariants.{Subject}
+use Rattle.overlay_order.specs.Content.{edge_for}
 use Rattle.overlay_builder.specs.Paths.{AddsPath, IsTakenAs, contour_kind}
 use Rattle.overlay_builder.specs.declared.path.PathKind.{PathKind}
 use Rattle.i_overlay.specs.Outcome.{IsSimpleAsAdded, HasOutcome, IsOutcome, fills_simple, is_same_direction}

@@ -8,10 +8,10 @@ use Rattle.overlay_geom.specs.declared.error.OverlayError.{OverlayError}
 use Rattle.overlay_geom.specs.declared.error.OverlayError.TheVariants.{Memory}
 use Rattle.overlay_geom.specs.declared.solver.Solver.{Solver}
 use Rattle.overlay_geom.specs.declared.solver.Solver.TheVariants.{Snapping}
+use Rattle.overlay_geom.specs.declared.fill_rule.FillRule.{FillRule}
+use Rattle.overlay_geom.specs.declared.options.ShapeType.TheVariants.{Subject}
 use Rattle.overlay_plane.specs.Meetings.{MeetInWholePoints}
-use Rattle.overlay_arrange.specs.Vectors.{Vector}
-use Rattle.overlay_arrange.specs.declared.fill_rule.FillRule.{FillRule}
-use Rattle.overlay_arrange.specs.declared.options.ShapeType.TheVariants.{Subject}
+use Rattle.overlay_order.specs.Vectors.{Vector}
 use Rattle.overlay_builder.specs.GivenPaths.{GivenPath, added_paths, paths_for}
 use Rattle.overlay_builder.specs.Held.{Held, AnswersQuery}
 use Rattle.overlay_builder.specs.PathLists.{HoldsPaths}

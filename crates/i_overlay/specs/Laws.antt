@@ -2,11 +2,11 @@
 use Rattle.std.specs.Prelude.{◌≡◌, cond, ℤ, pos, negsuc, List}
 use Rattle.overlay_geom.specs.Plane.{Point, PlanePoint, winding}
 use Rattle.overlay_geom.specs.Edges.{CountedEdge, subj_of, winding_by}
+use Rattle.overlay_geom.specs.Rules.{is_filled}
+use Rattle.overlay_geom.specs.declared.fill_rule.FillRule.{FillRule}
+use Rattle.overlay_geom.specs.declared.options.ContourDirection.{ContourDirection}
+use Rattle.overlay_geom.specs.declared.options.ContourDirection.TheVariants.{CounterClockwise, Clockwise}
 use Rattle.overlay_plane.specs.ShapeWindings.{steps_of_shapes}
-use Rattle.overlay_arrange.specs.Rules.{is_filled}
-use Rattle.overlay_arrange.specs.declared.fill_rule.FillRule.{FillRule}
-use Rattle.overlay_arrange.specs.declared.options.ContourDirection.{ContourDirection}
-use Rattle.overlay_arrange.specs.declared.options.ContourDirection.TheVariants.{CounterClockwise, Clockwise}
 use Rattle.i_overlay.specs.Simple.{IsSimple, RunsIn}
 use Rattle.i_overlay.specs.Outcome.{outcome_of, shapes_left}
 

@@ -2,8 +2,8 @@
 use Rattle.std.specs.Prelude.{◌≡◌, Bool, List}
 use Rattle.overlay_geom.specs.Plane.{Point}
 use Rattle.overlay_geom.specs.Edges.{CountedEdge}
-use Rattle.overlay_arrange.specs.declared.fill_rule.FillRule.{FillRule}
-use Rattle.overlay_arrange.specs.declared.options.ContourDirection.{ContourDirection}
+use Rattle.overlay_geom.specs.declared.fill_rule.FillRule.{FillRule}
+use Rattle.overlay_geom.specs.declared.options.ContourDirection.{ContourDirection}
 use Rattle.i_overlay.specs.Outcome.{IsOutcome}
 use Rattle.i_overlay.specs.declared.simplifying.outcome.Outcome.{Outcome}
 

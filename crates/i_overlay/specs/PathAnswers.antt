@@ -1,10 +1,10 @@
 -- What answers about the relations of two resources tell of their paths, as these were given.
 use Rattle.std.specs.Prelude.{Bool, List}
 use Rattle.overlay_geom.specs.declared.solver.Solver.{Solver}
+use Rattle.overlay_geom.specs.Rules.{is_filled}
+use Rattle.overlay_geom.specs.declared.fill_rule.FillRule.{FillRule}
+use Rattle.overlay_geom.specs.declared.options.ShapeType.TheVariants.{Subject, Clip}
 use Rattle.overlay_plane.specs.Predicates.{InteriorsIntersect, IsWithin}
-use Rattle.overlay_arrange.specs.Rules.{is_filled}
-use Rattle.overlay_arrange.specs.declared.fill_rule.FillRule.{FillRule}
-use Rattle.overlay_arrange.specs.declared.options.ShapeType.TheVariants.{Subject, Clip}
 use Rattle.overlay_builder.specs.GivenPaths.{GivenPath}
 use Rattle.overlay_relate.specs.PathRelations.{TellsOfPathInteriors, TellsOfPathWithin}
 use Rattle.overlay_relate.specs.declared.relations.Relations.{Relations}

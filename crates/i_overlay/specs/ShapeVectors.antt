@@ -2,7 +2,7 @@
 use Rattle.std.specs.Prelude.{◌≡◌, ⊤, true, List}
 use Rattle.overlay_geom.specs.Edges.{CountedEdge}
 use Rattle.overlay_plane.specs.Carried.{Carried, edges_in}
-use Rattle.overlay_arrange.specs.declared.data.CountWithData.{CountWithData}
+use Rattle.overlay_order.specs.declared.data.CountWithData.{CountWithData}
 use Rattle.overlay_extract.specs.Results.{Asked}
 use Rattle.overlay_vector.specs.DataVectors.{DataVector}
 use Rattle.overlay_vector.specs.VectorShapes.{AreVectorShapes}

@@ -3,11 +3,11 @@ use Rattle.std.specs.Prelude.{◌≡◌, ◌≢◌, ℕ, List, []}
 use Rattle.std.specs.Int.{Width}
 use Rattle.overlay_geom.specs.Edges.{CountedEdge}
 use Rattle.overlay_geom.specs.declared.solver.Solver.{Solver}
+use Rattle.overlay_geom.specs.declared.fill_rule.FillRule.{FillRule}
+use Rattle.overlay_geom.specs.declared.options.IntOverlayOptions.{IntOverlayOptions}
+use Rattle.overlay_geom.specs.declared.overlay_rule.OverlayRule.{OverlayRule}
+use Rattle.overlay_graph.specs.Graphs.{Graph, graph_edges}
 use Rattle.overlay_arrange.specs.Arranged.{IsArranged}
-use Rattle.overlay_arrange.specs.Graphs.{Graph, graph_edges}
-use Rattle.overlay_arrange.specs.declared.fill_rule.FillRule.{FillRule}
-use Rattle.overlay_arrange.specs.declared.options.IntOverlayOptions.{IntOverlayOptions}
-use Rattle.overlay_arrange.specs.declared.overlay_rule.OverlayRule.{OverlayRule}
 use Rattle.overlay_extract.specs.Results.{Asked, asked}
 
 -- what a view shows: a graph, and the options by which contours are extracted from it

@@ -1,3 +1,3 @@
 //! Data that edges carry through an overlay.
 
-pub use overlay_arrange::data::{EdgeDataMerge, OverlayEdgeData};
+pub use overlay_order::data::{EdgeDataMerge, OverlayEdgeData};

@@ -1,3 +1,3 @@
 //! Fill rules: which windings are filled.
 
-pub use overlay_arrange::fill_rule::FillRule;
+pub use overlay_geom::fill_rule::FillRule;

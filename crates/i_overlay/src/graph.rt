@@ -5,8 +5,8 @@ ghost use Rattle.overlay_geom.specs.Flat.{paths_in, shapes_in};
 ghost use Rattle.overlay_geom.specs.FlatShapes.{AreShapesPacked};
 ghost use Rattle.overlay_geom.specs.Packed.{IsPacked};
 ghost use Rattle.overlay_geom.specs.Paths.{plain_shapes};
+ghost use Rattle.overlay_order.specs.Vectors.{plain_vector, vector_of};
 ghost use Rattle.overlay_arrange.specs.Stores.{IsStoreReached};
-ghost use Rattle.overlay_arrange.specs.Vectors.{plain_vector, vector_of};
 ghost use Rattle.overlay_extract.specs.ChildLinks.{plain_link};
 ghost use Rattle.overlay_extract.specs.PlacedResults.{IsHierarchy};
 ghost use Rattle.overlay_extract.specs.Results.{IsResult, IsContoursResult};
@@ -15,15 +15,15 @@ ghost use Rattle.overlay_vector.specs.VectorShapes.{plain_vector_shapes, AreVect
 ghost use Rattle.i_overlay.specs.Views.{asked_of, viewed_edges};
 
 use crate::viewed_graph::ViewedGraph;
-use overlay_arrange::data::{CountWithData, OverlayEdgeData};
-use overlay_arrange::overlay_rule::OverlayRule;
-use overlay_arrange::vector::DataVectorEdge;
 use overlay_extract::extract::{extract_contours, extract_shapes};
 use overlay_extract::hierarchy::{FlatShapeHierarchy, extract_shape_hierarchy};
 use overlay_geom::error::OverlayError;
 use overlay_geom::flat::contours::FlatContoursBuffer;
 use overlay_geom::integer::OverlayInt;
+use overlay_geom::overlay_rule::OverlayRule;
 use overlay_geom::path::IntShapes;
+use overlay_order::data::{CountWithData, OverlayEdgeData};
+use overlay_order::vector::DataVectorEdge;
 use overlay_vector::graph_vectors::graph_vectors;
 use overlay_vector::path::DataVectorShape;
 use overlay_vector::vector_shapes::vector_shapes;

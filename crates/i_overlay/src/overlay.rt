@@ -2,9 +2,9 @@
 
 ghost use Rattle.std.specs.List.{flat_map};
 ghost use Rattle.std.specs.Prelude.{◌≡◌, false, [], map, Some, IfOk, OnOk, OnErr, IsOkUnless};
-ghost use Rattle.overlay_arrange.specs.Content.{IsAscending};
-ghost use Rattle.overlay_arrange.specs.Graphs.{graph_edges};
-ghost use Rattle.overlay_arrange.specs.Vectors.{plain_vector, vector_of};
+ghost use Rattle.overlay_order.specs.Content.{IsAscending};
+ghost use Rattle.overlay_order.specs.Vectors.{plain_vector, vector_of};
+ghost use Rattle.overlay_graph.specs.Graphs.{graph_edges};
 ghost use Rattle.overlay_geom.specs.Flat.{paths_in};
 ghost use Rattle.overlay_geom.specs.Packed.{IsPacked};
 ghost use Rattle.overlay_geom.specs.Paths.{plain_shapes};
@@ -17,17 +17,17 @@ ghost use Rattle.overlay_extract.specs.Results.{asked, IsResult, IsContoursResul
 
 use crate::solver::Solver;
 use crate::viewed_graph::ViewedGraph;
-use overlay_arrange::data::CountWithData;
-use overlay_arrange::fill_rule::FillRule;
-use overlay_arrange::graph::Graph;
-use overlay_arrange::overlay_rule::OverlayRule;
-use overlay_arrange::vector::DataVectorEdge;
 use overlay_builder::builder_core::BuilderCore;
 use overlay_extract::extract::{emptied, extract_contours, extract_shapes_of};
 use overlay_geom::error::OverlayError;
+use overlay_geom::fill_rule::FillRule;
 use overlay_geom::flat::contours::FlatContoursBuffer;
 use overlay_geom::integer::OverlayInt;
+use overlay_geom::overlay_rule::OverlayRule;
 use overlay_geom::path::IntShapes;
+use overlay_graph::graph::Graph;
+use overlay_order::data::CountWithData;
+use overlay_order::vector::DataVectorEdge;
 use overlay_walk::buffer::BooleanExtractionBuffer;
 use std::alloc::{AllocError, Allocator};
 use std::marker::Model;
@@ -43,7 +43,7 @@ mod simplify;
 mod simplify_flat;
 mod views;
 
-pub use overlay_arrange::options::{ContourDirection, IntOverlayOptions, ShapeType};
+pub use overlay_geom::options::{ContourDirection, IntOverlayOptions, ShapeType};
 
 /// A builder that holds counted edges of a subject and of a clip, and answers queries on them.
 ///

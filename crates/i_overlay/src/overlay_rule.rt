@@ -1,3 +1,3 @@
 //! Overlay rules: the points that the result takes.
 
-pub use overlay_arrange::overlay_rule::OverlayRule;
+pub use overlay_geom::overlay_rule::OverlayRule;

@@ -6,8 +6,8 @@ ghost use Rattle.overlay_plane.specs.Predicates.{IsWithin, IsDisjoint};
 ghost use Rattle.i_overlay.specs.Relations.{AreBothInRange, TellsOfTwo};
 
 use crate::solver::Solver;
-use overlay_arrange::fill_rule::FillRule;
 use overlay_geom::error::OverlayError;
+use overlay_geom::fill_rule::FillRule;
 use overlay_geom::integer::OverlayInt;
 use overlay_geom::resource::IntShapeResource;
 pub use overlay_relate::predicate_overlay::PredicateOverlay;

@@ -1,21 +1,21 @@
 //! Simplification of a resource, in one call.
 
 ghost use Rattle.std.specs.Prelude.{All, IfOk, IfErr};
-ghost use Rattle.overlay_arrange.specs.declared.options.ShapeType.TheVariants.{Subject};
-ghost use Rattle.overlay_builder.specs.GivenPaths.{paths_for};
-ghost use Rattle.overlay_extract.specs.Results.{asked};
+ghost use Rattle.overlay_geom.specs.declared.options.ShapeType.TheVariants.{Subject};
 ghost use Rattle.overlay_geom.specs.Paths.{plain_shapes};
 ghost use Rattle.overlay_geom.specs.Points.{AllInRange};
 ghost use Rattle.overlay_geom.specs.declared.solver.Solver.TheVariants.{Rounds};
+ghost use Rattle.overlay_builder.specs.GivenPaths.{paths_for};
+ghost use Rattle.overlay_extract.specs.Results.{asked};
 ghost use Rattle.i_overlay.specs.Alone.{MayRefuseAlone};
 ghost use Rattle.i_overlay.specs.Simplified.{IsSimplifiedAlone};
 
 use crate::overlay::{IntOverlayOptions, Overlay};
 use crate::solver::Solver;
-use overlay_arrange::fill_rule::FillRule;
-use overlay_arrange::overlay_rule::OverlayRule;
 use overlay_geom::error::OverlayError;
+use overlay_geom::fill_rule::FillRule;
 use overlay_geom::integer::OverlayInt;
+use overlay_geom::overlay_rule::OverlayRule;
 use overlay_geom::path::IntShapes;
 use overlay_geom::resource::IntShapeResource;
 use std::alloc::Allocator;

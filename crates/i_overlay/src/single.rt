@@ -9,10 +9,10 @@ ghost use Rattle.overlay_builder.specs.GivenPaths.{subject_and_clip};
 
 use crate::overlay::{IntOverlayOptions, Overlay};
 use crate::solver::Solver;
-use overlay_arrange::fill_rule::FillRule;
-use overlay_arrange::overlay_rule::OverlayRule;
 use overlay_geom::error::OverlayError;
+use overlay_geom::fill_rule::FillRule;
 use overlay_geom::integer::OverlayInt;
+use overlay_geom::overlay_rule::OverlayRule;
 use overlay_geom::path::IntShapes;
 use overlay_geom::resource::IntShapeResource;
 use std::alloc::Allocator;

@@ -2,7 +2,7 @@
 
 /// An edge with its filled sides and its data, and contours and shapes of such edges.
 pub mod edge {
-    pub use overlay_arrange::vector::{
+    pub use overlay_order::vector::{
         CLIP_LEFT, CLIP_RIGHT, DataVectorEdge, SUBJ_LEFT, SUBJ_RIGHT, SideFill,
     };
     pub use overlay_vector::path::{

@@ -2,12 +2,12 @@
 
 ghost use Rattle.std.specs.Prelude.{◌≡◌};
 ghost use Rattle.overlay_plane.specs.Balance.{HasBalancedCounts};
-ghost use Rattle.overlay_arrange.specs.Graphs.{graph_edges};
+ghost use Rattle.overlay_graph.specs.Graphs.{graph_edges};
 
-use overlay_arrange::count::EdgeCount;
-use overlay_arrange::graph::Graph;
-use overlay_arrange::options::IntOverlayOptions;
 use overlay_geom::integer::OverlayInt;
+use overlay_geom::options::IntOverlayOptions;
+use overlay_graph::graph::Graph;
+use overlay_order::count::EdgeCount;
 use std::alloc::Allocator;
 use std::marker::Model;
 
@@ -21,7 +21,7 @@ pub struct ViewedGraph<I: OverlayInt, C: EdgeCount, A: Allocator> {
 
 impl<I: OverlayInt, C: EdgeCount, A: Allocator> Model for ViewedGraph<I, C, A> {
     ghost use Rattle.overlay_plane.specs.Balance.{HasBalancedCounts};
-    ghost use Rattle.overlay_arrange.specs.Graphs.{graph_edges};
+    ghost use Rattle.overlay_graph.specs.Graphs.{graph_edges};
     ghost use Rattle.i_overlay.specs.Views.{Viewed};
 
     ghost Value = { Viewed C I.WideUInt };

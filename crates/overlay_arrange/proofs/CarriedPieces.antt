@@ -11,7 +11,7 @@ use Rattle.overlay_plane.specs.Carried.{Carried}
 use Rattle.overlay_plane.specs.Cutting.{piece_along}
 use Rattle.overlay_plane.specs.DerivedData.{AreGiven, none, ArePieces, GivesPiece}
 use Rattle.overlay_plane.proofs.DerivedLists.{given_both, given_one, given_weaker}
-use Rattle.overlay_arrange.specs.Content.{edge_with, point_cmp}
+use Rattle.overlay_order.specs.Content.{edge_with, point_cmp}
 use Rattle.overlay_arrange.specs.Cut.{chain_by, AddsGiven, LeadingPoints, StaysWhole}
 use Rattle.overlay_arrange.proofs.Pieces.{back_where_greater, on_where_less, same_where_equal, piece_back, piece_forth}
 

@@ -14,7 +14,7 @@ use Rattle.overlay_plane.specs.CutPoints.{comes_first, cut_points, met_at}
 use Rattle.overlay_plane.proofs.Entries.{all_of_entries}
 use Rattle.overlay_plane.proofs.InOrderLists.{Contains-in_order}
 use Rattle.overlay_plane.proofs.MetInBox.{IsInBox, met_at-in_box}
-use Rattle.overlay_arrange.specs.Content.{IsHeld}
+use Rattle.overlay_order.specs.Content.{IsHeld}
 
 -- an edge weighs no more than a list that has it
 pub weight_of_entry : (es : List CountedEdge) (e : CountedEdge) → Contains es e → edge_weight e ≤ weight es

@@ -5,7 +5,7 @@ use Rattle.std.proofs.lemmas.List.Elements.{All-take}
 use Rattle.std.proofs.lemmas.List.Sums.{sum_by-take-le}
 use Rattle.overlay_geom.specs.Edges.{CountedEdge, weight}
 use Rattle.overlay_geom.proofs.Weights.{edge_weight}
-use Rattle.overlay_arrange.specs.Content.{IsContent, IsHeld}
+use Rattle.overlay_order.specs.Content.{IsContent, IsHeld}
 
 -- a builder may hold the first edges of a content
 first_are_content : (limit count : ℕ) (es : List CountedEdge) → IsContent limit es → IsContent limit (take count es)

@@ -1,39 +1,25 @@
 -- A loop over pairs of ascending edges that gathers the points through which they lead each other: the points that a
 -- pair adds, and the pairs that may be left out.
 use Rattle.std.proofs.Common.{◌≡◌, ◌⊎◌, ⊎_elim, inl, inr, ℕ, ◌+◌, ◌<◌, ◌≤◌, List, [], ◌∷◌, ◌++◌, All, Contains, length}
-use Rattle.std.proofs.Common.{map}
-use Rattle.std.proofs.Common.{get_or, sym, ◌∙◌, subst, arith}
+use Rattle.std.proofs.Common.{sym, ◌∙◌, subst, arith}
 use Rattle.std.specs.List.{flat_map}
 use Rattle.std.proofs.lemmas.Bool.{cases_lt}
-use Rattle.std.proofs.lemmas.List.{get_or_default, length-map}
 use Rattle.std.proofs.lemmas.List.Elements.{Contains-push_cases}
 use Rattle.std.proofs.Math.Nat.{eq-or-lt_of_le}
 use Rattle.overlay_geom.specs.Plane.{Point}
 use Rattle.overlay_geom.specs.Edges.{CountedEdge, ends_of}
-use Rattle.overlay_geom.proofs.Mapped.{read_mapped}
 use Rattle.overlay_plane.specs.CutPoints.{comes_first, cut_points, met_at}
 use Rattle.overlay_plane.proofs.CutChains.{met_at_itself}
 use Rattle.overlay_plane.proofs.Entries.{Contains-flat_map}
 use Rattle.overlay_plane.proofs.InOrderLists.{Contains-put_in_order}
-use Rattle.overlay_arrange.specs.Content.{IsHeld}
+use Rattle.overlay_order.specs.Content.{IsHeld}
+use Rattle.overlay_pairs.specs.Places.{IsAt}
+use Rattle.overlay_pairs.specs.Near.{AreNear}
+use Rattle.overlay_pairs.proofs.Entries.{one_entry}
 use Rattle.overlay_arrange.specs.Cut.{IsEndOf}
-use Rattle.overlay_arrange.specs.Meetings.{AddsBoth, AreGathered, AreMeetings, HasBefore, IsAt, IsEndOrMet}
+use Rattle.overlay_arrange.specs.Meetings.{AddsBoth, AreGathered, AreMeetings, HasBefore, IsEndOrMet}
 use Rattle.overlay_arrange.specs.Meetings.{Meeting}
-use Rattle.overlay_arrange.specs.Near.{AreNear}
 use Rattle.overlay_arrange.proofs.LedToEnds.{leads_to_ends, led_to_ends, IsLedBy, LeadsNowhere}
-
--- at one place stands one entry
-pub one_entry : {X : Type 0} (xs : List X) (i : ℕ) (x y : X) → IsAt xs i x → IsAt xs i y → x ≡ y
-one_entry xs i x y at_x at_y = sym at_x.1 ∙ get_or_default xs i x y at_x.0 ∙ at_y.1
-
--- an entry of a list that is read stands there in the mapped list
-pub placed_in_mapped : {X Y : Type 0} (f : X → Y) (xs : List X) (i : ℕ) (x : X) → i < length xs → x ≡ get_or xs i x →
-    IsAt (map f xs) i (f x)
-placed_in_mapped f xs i x within is = (
-  let count = length-map xs f in
-      omega (arith, within),
-  read_mapped f xs i x (f x) within is,
-)
 
 -- a place before i + 1 is i, or comes before i
 pub at_or_before : (k i : ℕ) → k < i + 1 → (k ≡ i) ⊎ (k < i)

@@ -16,12 +16,14 @@ use Rattle.overlay_plane.specs.SnapPoints.{hot_points, meets_pixel}
 use Rattle.overlay_plane.proofs.Entries.{all_of_entries, Contains-filter, Contains-from_filter, Contains-from_map}
 use Rattle.overlay_plane.proofs.Entries.{Contains-map}
 use Rattle.overlay_plane.proofs.InOrderLists.{Contains-in_order, Contains-put_in_order}
+use Rattle.overlay_pairs.specs.Places.{IsAt}
+use Rattle.overlay_pairs.proofs.Entries.{one_entry}
 use Rattle.overlay_arrange.specs.Cut.{IsEndOf}
 use Rattle.overlay_arrange.specs.HotPoints.{AddsMet, AreHotPoints, AreLeftBefore}
 use Rattle.overlay_arrange.specs.HotPoints.{AreMetAmong, AreRightFrom, AreSnappedBefore}
-use Rattle.overlay_arrange.specs.Meetings.{AreByPlace, IsAt, IsEndOrMet, Meeting}
+use Rattle.overlay_arrange.specs.Meetings.{AreByPlace, IsEndOrMet, Meeting}
 use Rattle.overlay_arrange.specs.SnapMeetings.{AreSnapMeetings}
-use Rattle.overlay_arrange.proofs.GatheredMeetings.{at_or_before, one_entry}
+use Rattle.overlay_arrange.proofs.GatheredMeetings.{at_or_before}
 use Rattle.overlay_arrange.proofs.LedThrough.{from_ranged, ranged}
 use Rattle.overlay_arrange.proofs.PassedCorners.{met_amid}
 

@@ -9,10 +9,10 @@ use Rattle.std.proofs.Math.Nat.{eq-or-lt_of_le}
 use Rattle.overlay_geom.specs.Plane.{Point}
 use Rattle.overlay_geom.specs.Edges.{CountedEdge}
 use Rattle.overlay_geom.proofs.Signs.{linear}
-use Rattle.overlay_arrange.specs.Meetings.{IsAt}
+use Rattle.overlay_pairs.specs.Places.{IsAt}
+use Rattle.overlay_pairs.proofs.Entries.{one_entry}
 use Rattle.overlay_arrange.specs.PixelRuns.{AddsPoints, AddsRun, ArePassedAbove, ArePassedBelow, AreUpwards, IsAmidX}
 use Rattle.overlay_arrange.specs.PixelRuns.{IsAmong, PassesAbove, PassesBelow}
-use Rattle.overlay_arrange.proofs.GatheredMeetings.{one_entry}
 use Rattle.overlay_arrange.proofs.LedThrough.{from_ranged, ranged}
 use Rattle.overlay_arrange.proofs.PassedCorners.{met_amid}
 

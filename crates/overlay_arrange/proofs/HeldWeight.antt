@@ -4,10 +4,10 @@ use Rattle.std.specs.List.{sum_by}
 use Rattle.std.proofs.lemmas.List.Folds.{fold-map}
 use Rattle.std.proofs.lemmas.List.Sums.{sum_by_more_le}
 use Rattle.overlay_geom.specs.Edges.{weight}
-use Rattle.overlay_geom.proofs.Weights.{edge_weight}
 use Rattle.overlay_geom.specs.Counts.{Counts, weight_of_counts}
-use Rattle.overlay_arrange.specs.Content.{plain_edge, plain_edges}
-use Rattle.overlay_arrange.specs.declared.edge.CountedEdge.{CountedEdge as HeldEdge}
+use Rattle.overlay_geom.proofs.Weights.{edge_weight}
+use Rattle.overlay_order.specs.Content.{plain_edge, plain_edges}
+use Rattle.overlay_order.specs.declared.edge.CountedEdge.{CountedEdge as HeldEdge}
 
 module _ {I C : Type 0} (whole : I → ℤ) (counts : C → Counts) where
   -- the weight of one edge

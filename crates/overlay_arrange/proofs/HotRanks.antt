@@ -9,8 +9,8 @@ use Rattle.overlay_geom.specs.declared.point.IntPoint.{IntPoint}
 use Rattle.overlay_geom.proofs.Mapped.{AllPairs-unmap}
 use Rattle.overlay_geom.proofs.PointOrder.{Decides-point_lt}
 use Rattle.overlay_geom.proofs.Signs.{linear}
+use Rattle.overlay_pairs.specs.Places.{IsAt}
 use Rattle.overlay_arrange.specs.HotPoints.{AreLeftBefore, ArePointsAscending, AreRightFrom}
-use Rattle.overlay_arrange.specs.Meetings.{IsAt}
 
 -- ---- points by x
 

@@ -17,12 +17,13 @@ use Rattle.overlay_plane.proofs.Entries.{all_of_entries, Contains-from_flat_map,
 use Rattle.overlay_plane.proofs.InOrderLists.{Contains-in_order, Contains-put_in_order, Each-in_weak_order}
 use Rattle.overlay_plane.proofs.LaterEntries.{Each}
 use Rattle.overlay_plane.proofs.WholeChains.{ends_where_one_step, one_step_through}
-use Rattle.overlay_arrange.specs.Content.{IsHeld}
+use Rattle.overlay_order.specs.Content.{IsHeld}
+use Rattle.overlay_pairs.specs.Places.{IsAt}
+use Rattle.overlay_pairs.proofs.Entries.{one_entry}
 use Rattle.overlay_arrange.specs.Cut.{chain_by, LeadingPoints, StaysWhole}
-use Rattle.overlay_arrange.specs.Meetings.{AreInRange, AreLedAlong, AreMeetings, ArePointsAt, IsAt, IsEndOrMet}
+use Rattle.overlay_arrange.specs.Meetings.{AreInRange, AreLedAlong, AreMeetings, ArePointsAt, IsEndOrMet}
 use Rattle.overlay_arrange.specs.Meetings.{IsRunAt, Meeting}
 use Rattle.overlay_arrange.proofs.CutContents.{cut_points_in_range}
-use Rattle.overlay_arrange.proofs.GatheredMeetings.{one_entry}
 
 -- ---- the points of a run
 

@@ -14,10 +14,10 @@ use Rattle.overlay_plane.proofs.Placements.{AreCrossing, by_placement, both_acro
 use Rattle.overlay_plane.proofs.SettledMeetings.{common_of_held}
 use Rattle.overlay_plane.proofs.WholeOnEdges.{at_whole}
 use Rattle.overlay_plane.proofs.WholePlaces.{rounded_whole}
-use Rattle.overlay_arrange.specs.Content.{IsHeld}
+use Rattle.overlay_order.specs.Content.{IsHeld}
+use Rattle.overlay_pairs.specs.Settle.{AreSettled}
 use Rattle.overlay_arrange.specs.Cut.{IsEndOf}
 use Rattle.overlay_arrange.specs.Meetings.{AddsBoth, Meeting}
-use Rattle.overlay_arrange.specs.Settle.{AreSettled}
 use Rattle.overlay_arrange.proofs.PairMeetings.{ends_left_out, only_entry}
 
 -- h leads g through v

@@ -11,7 +11,8 @@ use Rattle.std.proofs.lemmas.List.Sorted.{sorted_far}
 use Rattle.std.proofs.Math.Nat.{eq-or-lt_of_le}
 use Rattle.overlay_geom.proofs.Entries.{some_entry}
 use Rattle.overlay_geom.proofs.Mapped.{AllPairs-map, read_mapped}
-use Rattle.overlay_arrange.specs.Meetings.{plain_meeting, plain_meetings, AreByPlace, IsAt, IsRunAt, Meeting}
+use Rattle.overlay_pairs.specs.Places.{IsAt}
+use Rattle.overlay_arrange.specs.Meetings.{plain_meeting, plain_meetings, AreByPlace, IsRunAt, Meeting}
 use Rattle.overlay_arrange.specs.declared.meetings.Meeting.{Meeting as HeldMeeting}
 
 -- the comparison answers `Less` where the first number is below the second

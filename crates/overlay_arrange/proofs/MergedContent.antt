@@ -13,7 +13,7 @@ use Rattle.overlay_geom.proofs.Between.{find_between}
 use Rattle.overlay_geom.proofs.Merging.{joined_none}
 use Rattle.overlay_geom.proofs.Shuffled.{weight_shuffled}
 use Rattle.overlay_geom.proofs.Weights.{weight_of_merged}
-use Rattle.overlay_arrange.specs.Content.{IsHeld, IsContent}
+use Rattle.overlay_order.specs.Content.{IsHeld, IsContent}
 
 -- an edge is held or not by its ends
 pub IsHeld-same_ends : (limit : ℕ) (e f : CountedEdge) → ends_of e ≡ ends_of f → IsHeld limit e → IsHeld limit f

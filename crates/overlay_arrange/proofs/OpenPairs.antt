@@ -5,11 +5,11 @@ use Rattle.std.proofs.Common.{length, sym, subst, ◌∙◌, arith}
 use Rattle.std.proofs.lemmas.List.Elements.{Contains-push_cases}
 use Rattle.std.proofs.Math.Nat.{eq-or-lt_of_le}
 use Rattle.overlay_geom.specs.Edges.{CountedEdge}
-use Rattle.overlay_arrange.specs.Changed.{AreOpenBefore, AreOpenIn, IsOneOpen, StayOpen}
-use Rattle.overlay_arrange.specs.Meetings.{AreSettledBefore, IsAt}
-use Rattle.overlay_arrange.specs.Near.{AreNear}
-use Rattle.overlay_arrange.specs.Settle.{AreSettled}
-use Rattle.overlay_arrange.proofs.GatheredMeetings.{one_entry}
+use Rattle.overlay_pairs.specs.Changed.{AreOpenBefore, AreOpenIn, IsOneOpen, StayOpen}
+use Rattle.overlay_pairs.specs.Places.{AreSettledBefore, IsAt}
+use Rattle.overlay_pairs.specs.Near.{AreNear}
+use Rattle.overlay_pairs.specs.Settle.{AreSettled}
+use Rattle.overlay_pairs.proofs.Entries.{one_entry}
 
 -- an open place of two stays open
 one_stays : (old new : List Bool) → StayOpen old new → (i j : ℕ) → IsOneOpen old i j → IsOneOpen new i j

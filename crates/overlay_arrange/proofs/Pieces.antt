@@ -11,14 +11,14 @@ use Rattle.std.proofs.lemmas.List.Sums.{sum_by-append}
 use Rattle.overlay_geom.specs.Plane.{Point, Edge, point_eq, point_lt, steps_between}
 use Rattle.overlay_geom.specs.Points.{InRange}
 use Rattle.overlay_geom.specs.Edges.{CountedEdge, weight}
+use Rattle.overlay_geom.specs.Counts.{Counts, reversed_counts}
 use Rattle.overlay_geom.proofs.Orders.{Decides-point_eq, point_lt-back}
 use Rattle.overlay_geom.proofs.PointComparisons.{point_cmp-is_tie}
 use Rattle.overlay_geom.proofs.PointOrder.{Decides-point_lt, before_is_other}
 use Rattle.overlay_geom.proofs.Weights.{edge_weight}
-use Rattle.overlay_geom.specs.Counts.{Counts, reversed_counts}
 use Rattle.overlay_plane.specs.Cutting.{piece_along}
 use Rattle.overlay_plane.proofs.PieceCounts.{edge_weight-piece}
-use Rattle.overlay_arrange.specs.Content.{edge_with, point_cmp, IsHeld}
+use Rattle.overlay_order.specs.Content.{edge_with, point_cmp, IsHeld}
 
 -- ---- how the two points of a step compare
 

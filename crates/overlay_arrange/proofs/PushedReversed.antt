@@ -9,8 +9,8 @@ use Rattle.overlay_geom.specs.Edges.{CountedEdge, weight}
 use Rattle.overlay_geom.specs.Plane.{Point}
 use Rattle.overlay_geom.proofs.Weights.{edge_weight, weight-cons}
 use Rattle.overlay_plane.proofs.PieceCounts.{edge_weight-piece}
-use Rattle.overlay_arrange.specs.Content.{edge_with, plain_edge, plain_edges, IsHeld, IsWeighed}
-use Rattle.overlay_arrange.specs.declared.edge.CountedEdge.{CountedEdge as HeldEdge}
+use Rattle.overlay_order.specs.Content.{edge_with, plain_edge, plain_edges, IsHeld, IsWeighed}
+use Rattle.overlay_order.specs.declared.edge.CountedEdge.{CountedEdge as HeldEdge}
 
 -- reversed counts have the weight of the counts
 weight_reversed : (c : Counts) → weight_of_counts (reversed_counts c) ≡ weight_of_counts c

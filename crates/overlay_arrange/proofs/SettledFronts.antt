@@ -4,9 +4,10 @@ use Rattle.std.proofs.Common.{◌≡◌, ⊎_elim, inl, inr, ℕ, ◌<◌, ◌�
 use Rattle.std.proofs.lemmas.Bool.{cases_lt}
 use Rattle.std.proofs.Math.Nat.{eq-or-lt_of_le}
 use Rattle.overlay_geom.specs.Edges.{CountedEdge}
-use Rattle.overlay_arrange.specs.Content.{IsHeld}
-use Rattle.overlay_arrange.specs.Meetings.{AreGathered, AreSettledBefore, HasBefore, IsAt}
-use Rattle.overlay_arrange.specs.Settle.{AreSettled}
+use Rattle.overlay_order.specs.Content.{IsHeld}
+use Rattle.overlay_pairs.specs.Places.{AreSettledBefore, IsAt}
+use Rattle.overlay_pairs.specs.Settle.{AreSettled}
+use Rattle.overlay_arrange.specs.Meetings.{AreGathered, HasBefore}
 use Rattle.overlay_arrange.proofs.GatheredMeetings.{gathered_of_more, leads_itself, none_gathered}
 use Rattle.overlay_arrange.proofs.LedToEnds.{leads_to_ends, led_to_ends, LeadsNowhere}
 

@@ -12,11 +12,12 @@ use Rattle.overlay_plane.proofs.Entries.{all_of_entries, Contains-from_filter}
 use Rattle.overlay_plane.proofs.InOrderLists.{Contains-in_order}
 use Rattle.overlay_plane.proofs.PixelTests.{Decides-meets_pixel}
 use Rattle.overlay_plane.proofs.SnapChains.{same_snap_through}
-use Rattle.overlay_arrange.specs.Content.{IsHeld}
-use Rattle.overlay_arrange.specs.Meetings.{AreInRange, AreLedAlong, IsAt, Meeting}
+use Rattle.overlay_order.specs.Content.{IsHeld}
+use Rattle.overlay_pairs.specs.Places.{IsAt}
+use Rattle.overlay_pairs.proofs.Entries.{one_entry}
+use Rattle.overlay_arrange.specs.Meetings.{AreInRange, AreLedAlong, Meeting}
 use Rattle.overlay_arrange.specs.SnapMeetings.{AreSnapMeetings}
 use Rattle.overlay_arrange.proofs.CutContents.{within_between}
-use Rattle.overlay_arrange.proofs.GatheredMeetings.{one_entry}
 use Rattle.overlay_arrange.proofs.LedThrough.{points_in_order}
 
 -- a point whose pixel an edge in range meets is in range

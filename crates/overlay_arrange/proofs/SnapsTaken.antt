@@ -9,8 +9,8 @@ use Rattle.overlay_plane.specs.Arrangements.{WeighsTooMuch}
 use Rattle.overlay_plane.specs.Carried.{Carried, edges_in}
 use Rattle.overlay_plane.specs.Cutting.{pieces_through}
 use Rattle.overlay_plane.specs.DerivedData.{CarriesMerged}
+use Rattle.overlay_order.specs.Content.{IsContent}
 use Rattle.overlay_arrange.specs.Arranged.{IsSplitCarrying}
-use Rattle.overlay_arrange.specs.Content.{IsContent}
 use Rattle.overlay_arrange.specs.Cut.{chain_by}
 use Rattle.overlay_arrange.specs.Snapping.{AreHeavyPieces, IsLedOnce}
 use Rattle.overlay_arrange.proofs.ArrangedLists.{carried_at_once, carried_on, forward_content}

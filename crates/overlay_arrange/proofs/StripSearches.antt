@@ -9,10 +9,11 @@ use Rattle.overlay_geom.specs.Plane.{Point}
 use Rattle.overlay_geom.specs.Edges.{CountedEdge, ends_of}
 use Rattle.overlay_geom.proofs.Signs.{linear}
 use Rattle.overlay_plane.specs.SnapPoints.{meets_pixel}
-use Rattle.overlay_arrange.specs.HotPoints.{AreLeftBefore, AreMetAmong, AreRightFrom, AreStripsOf}
-use Rattle.overlay_arrange.specs.Meetings.{IsAt}
+use Rattle.overlay_pairs.specs.PointStrips.{AreStripsOf}
+use Rattle.overlay_pairs.specs.Places.{IsAt}
+use Rattle.overlay_pairs.proofs.ExtentBlocks.{same_block}
+use Rattle.overlay_arrange.specs.HotPoints.{AreLeftBefore, AreMetAmong, AreRightFrom}
 use Rattle.overlay_arrange.specs.PixelRuns.{AddsRun, AreUpwards, IsAmong}
-use Rattle.overlay_arrange.proofs.ExtentBlocks.{same_block}
 use Rattle.overlay_arrange.proofs.PassedCorners.{met_amid}
 
 -- a place where a strip begins, or the end of the list

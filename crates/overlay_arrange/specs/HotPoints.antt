@@ -1,12 +1,13 @@
 -- The hot points of a list of edges in their order, and a search for those whose pixels an edge meets.
-use Rattle.std.specs.Prelude.{◌≡◌, ◌⊎◌, ℕ, ◌/◌, ◌<◌, ◌≤◌, Bool, true, ℤ, pos, ◌<ℤ◌, ◌≤ℤ◌, List, [], ◌++◌, map, length}
-use Rattle.std.specs.Prelude.{slice_index_or, AllPairs, Contains, not, ◌&&◌, ◌||◌}
+use Rattle.std.specs.Prelude.{◌≡◌, ◌⊎◌, ℕ, ◌<◌, ◌≤◌, Bool, true, ℤ, ◌<ℤ◌, List, [], ◌++◌, map, length}
+use Rattle.std.specs.Prelude.{AllPairs, Contains, not, ◌&&◌, ◌||◌}
 use Rattle.overlay_geom.specs.Plane.{Point, point_eq, point_lt}
 use Rattle.overlay_geom.specs.Edges.{CountedEdge, ends_of}
 use Rattle.overlay_plane.specs.SnapPoints.{hot_points, meets_pixel}
+use Rattle.overlay_pairs.specs.Places.{IsAt}
+use Rattle.overlay_pairs.specs.PointStrips.{AreStripsOf}
 use Rattle.overlay_arrange.specs.Cut.{IsEndOf}
-use Rattle.overlay_arrange.specs.Extents.{Extent}
-use Rattle.overlay_arrange.specs.Meetings.{Meeting, IsAt, IsEndOrMet}
+use Rattle.overlay_arrange.specs.Meetings.{Meeting, IsEndOrMet}
 
 -- the two lists have equal members
 pub record HaveSameMembers {X : Type 0} (xs ys : List X) : Type 0 where
@@ -33,21 +34,9 @@ pub record AreLeftBefore (vs : List Point) (x : ℤ) (k : ℕ) : Type 0 where
 abbrev pub AreRightFrom : List Point → ℤ → ℕ → Type 0
 AreRightFrom vs x k = (j : ℕ) (v : Point) → k ≤ j → IsAt vs j v → x <ℤ v.x
 
--- the points in strips, `width` wide: those of each strip are sorted by their heights
-pub record AreStripsOf (vs : List Point) (width : ℕ) (ps : List Point) : Type 0 where
-  pub some : 0 < width
-  pub count : length ps ≡ length vs
-  pub given : (k : ℕ) (v : Point) → IsAt ps k v → (j : ℕ) × IsAt vs j v × (j / width ≡ k / width)
-  pub all : (k : ℕ) (v : Point) → IsAt vs k v → (j : ℕ) × IsAt ps j v × (j / width ≡ k / width)
-  pub heights : (j k : ℕ) (v w : Point) → j ≤ k → j / width ≡ k / width → IsAt ps j v → IsAt ps k w → v.y ≤ℤ w.y
-
 -- they are the points in strips, or there are none yet
 abbrev pub AreStripsIfAny : List Point → ℕ → List Point → Type 0
 AreStripsIfAny vs width ps = (ps ≡ []) ⊎ AreStripsOf vs width ps
-
--- the points at the places of the boxes
-abbrev pub points_of : List Point → List Extent → List Point
-points_of vs ss = map (λ (s : Extent). slice_index_or vs s.first (record { x = pos 0; y = pos 0 })) ss
 
 -- points of vs alone, and each of them whose pixel the edge e meets
 pub record AreMetAmong (vs : List Point) (e : CountedEdge) (us : List Point) : Type 0 where

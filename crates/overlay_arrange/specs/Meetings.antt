@@ -1,13 +1,13 @@
 -- The whole points through which the edges of a list are led, each with the place of its edge.
-use Rattle.std.specs.Prelude.{◌≡◌, ◌⊎◌, ℕ, ◌<◌, ◌≤◌, ℤ, ◌<ℤ◌, List, [], ◌∷◌, ◌++◌, map, length, slice_index_or}
+use Rattle.std.specs.Prelude.{◌≡◌, ◌⊎◌, ℕ, ◌<◌, ◌≤◌, ℤ, List, [], ◌∷◌, ◌++◌, map, length}
 use Rattle.std.specs.Prelude.{All, AllPairs, Contains}
 use Rattle.overlay_geom.specs.Plane.{Point, Edge, steps_through}
 use Rattle.overlay_geom.specs.Edges.{CountedEdge, ends_of}
 use Rattle.overlay_geom.specs.Points.{plain_point, InRange}
 use Rattle.overlay_plane.specs.CutPoints.{comes_first, cut_points, met_at}
 use Rattle.overlay_plane.specs.InOrder.{in_order}
+use Rattle.overlay_pairs.specs.Places.{IsAt}
 use Rattle.overlay_arrange.specs.Cut.{chain_by, IsEndOf, IsOnLineOf, LeadingPoints}
-use Rattle.overlay_arrange.specs.Settle.{AreSettled}
 use Rattle.overlay_arrange.specs.declared.meetings.Meeting.{Meeting as HeldMeeting}
 
 -- a whole point through which the edge at the place is led
@@ -42,25 +42,6 @@ pub record AddsBoth (i : ℕ) (e : CountedEdge) (j : ℕ) (f : CountedEdge) (old
   pub other : AddsPoints j f (met_at (ends_of f) (ends_of e)) between new
 
 -- ---- gathering
-
--- x is the entry at place i
-abbrev pub IsAt : {X : Type 0} → List X → ℕ → X → Type 0
-IsAt xs i x = (i < length xs) × (slice_index_or xs i x ≡ x)
-
--- the edge at the place `end`, which does not come before the place `first`, starts right of x
-pub record IsRunEnd (es : List CountedEdge) (x : ℤ) (first end : ℕ) : Type 0 where
-  pub ordered : first ≤ end
-  pub within : end ≤ length es
-  pub right : (f : CountedEdge) → IsAt es end f → x <ℤ f.a.x
-
--- the edge at place i meets the edges after it, up to place j, in ends alone
-abbrev pub AreSettledUpTo : List CountedEdge → ℕ → ℕ → Type 0
-AreSettledUpTo es i j = (k : ℕ) (e f : CountedEdge) → i < k → k < j → IsAt es i e → IsAt es k f → AreSettled e f
-
--- the edges before place n meet each later edge in ends alone
-pub record AreSettledBefore (es : List CountedEdge) (n : ℕ) : Type 0 where
-  pub within : n ≤ length es
-  pub meet : (k : ℕ) → k < n → AreSettledUpTo es k (length es)
 
 -- the meetings of the edges at such pairs of places: all of them, except perhaps the edges' own ends
 pub record AreGathered (es : List CountedEdge) (Pair : ℕ → ℕ → Type 0) (ms : List Meeting) : Type 0 where

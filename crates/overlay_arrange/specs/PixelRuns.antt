@@ -4,7 +4,7 @@ use Rattle.std.specs.Prelude.{List, Contains}
 use Rattle.overlay_geom.specs.Plane.{Point, Edge, cross_at}
 use Rattle.overlay_geom.specs.Edges.{CountedEdge, ends_of}
 use Rattle.overlay_plane.specs.SnapPoints.{half_girth, meets_pixel}
-use Rattle.overlay_arrange.specs.Meetings.{IsAt}
+use Rattle.overlay_pairs.specs.Places.{IsAt}
 
 -- v lies below the line of e by more than half its girth, or above it by as much
 abbrev pub is_far_below : Edge → Point → Bool

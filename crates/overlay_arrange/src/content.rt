@@ -9,21 +9,21 @@ ghost use Rattle.overlay_geom.specs.Counts.{weight_of_counts};
 ghost use Rattle.overlay_plane.specs.Balance.{HasBalancedCounts};
 ghost use Rattle.overlay_plane.specs.Carried.{edges_in};
 ghost use Rattle.overlay_plane.specs.DerivedData.{CarriesMerged};
-ghost use Rattle.overlay_arrange.specs.Content.{plain_edge, plain_edges};
-ghost use Rattle.overlay_arrange.specs.Content.{carried_edge, carried_edges};
-ghost use Rattle.overlay_arrange.specs.Content.{IsAscending, IsContent, IsHeld};
-ghost use Rattle.overlay_arrange.specs.EdgeData.{IsReversedBy};
-ghost use Rattle.overlay_arrange.specs.FillTests.{some_fill_passes, IsFoundUnless};
+ghost use Rattle.overlay_order.specs.Content.{plain_edge, plain_edges};
+ghost use Rattle.overlay_order.specs.Content.{carried_edge, carried_edges};
+ghost use Rattle.overlay_order.specs.Content.{IsAscending, IsContent, IsHeld};
+ghost use Rattle.overlay_order.specs.EdgeData.{IsReversedBy};
+ghost use Rattle.overlay_graph.specs.FillTests.{some_fill_passes, IsFoundUnless};
 ghost use Rattle.overlay_arrange.specs.Stores.{IsStoreReached};
 
-use crate::count::EdgeCount;
-use crate::edge::CountedEdge;
-use crate::fill_rule::FillRule;
-use crate::fill_test::FillTest;
-use crate::graph::Graph;
 use crate::merge::{merge, merge_runs, weight_of, weight_unless};
 use overlay_geom::error::OverlayError;
+use overlay_geom::fill_rule::FillRule;
 use overlay_geom::number::IntNumber;
+use overlay_graph::fill_test::FillTest;
+use overlay_graph::graph::Graph;
+use overlay_order::count::EdgeCount;
+use overlay_order::edge::CountedEdge;
 use std::alloc::{AllocError, Allocator};
 use std::marker::Model;
 
@@ -41,7 +41,7 @@ pub struct Content<I: IntNumber, C: EdgeCount, A: Allocator> {
 impl<I: IntNumber, C: EdgeCount, A: Allocator> Model for Content<I, C, A> {
     ghost use Rattle.std.specs.Prelude.{List};
     ghost use Rattle.overlay_plane.specs.Carried.{Carried};
-    ghost use Rattle.overlay_arrange.specs.Content.{plain_edges, carried_edges, IsWeighed};
+    ghost use Rattle.overlay_order.specs.Content.{plain_edges, carried_edges, IsWeighed};
 
     ghost Value = { List (Carried C) };
 

@@ -1,10 +1,10 @@
 //! Rough heights of edges. They tell where to look first: no answer depends on them.
 
-use crate::count::EdgeCount;
-use crate::edge::CountedEdge;
-use crate::extents::is_less;
 use overlay_geom::number::IntNumber;
 use overlay_geom::point::IntPoint;
+use overlay_order::count::EdgeCount;
+use overlay_order::edge::CountedEdge;
+use overlay_pairs::extents::is_less;
 
 // Number of bits of a slope behind its point. Lengths are cut to as many bits.
 const FINE: u32 = 32;

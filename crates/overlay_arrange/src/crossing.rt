@@ -7,20 +7,20 @@ ghost use Rattle.overlay_geom.specs.Placed.{share_end, IsAcross, IsAlong};
 ghost use Rattle.overlay_geom.specs.Plane.{cross_at};
 ghost use Rattle.overlay_geom.specs.Points.{plain_point, InRange};
 ghost use Rattle.overlay_plane.specs.CutPoints.{is_between, crossing};
-ghost use Rattle.overlay_arrange.specs.Content.{plain_edge, IsHeld};
+ghost use Rattle.overlay_order.specs.Content.{plain_edge, IsHeld};
+ghost use Rattle.overlay_pairs.specs.Settle.{AreSettled};
 ghost use Rattle.overlay_arrange.specs.Cut.{IsEndOf};
 ghost use Rattle.overlay_arrange.specs.Meetings.{plain_meetings, AddsBoth, AddsPoints};
-ghost use Rattle.overlay_arrange.specs.Settle.{AreSettled};
 
-use crate::count::EdgeCount;
-use crate::edge::CountedEdge;
 use crate::meetings::Meeting;
-use crate::settle::{meet_in_ends, place_by};
 use overlay_geom::edge::is_before;
 use overlay_geom::edge_pair::{Place, is_same};
 use overlay_geom::number::{IntNumber, WideIntNumber};
 use overlay_geom::point::IntPoint;
 use overlay_geom::vector::cross_at;
+use overlay_order::count::EdgeCount;
+use overlay_order::edge::CountedEdge;
+use overlay_pairs::settle::{meet_in_ends, place_by};
 use std::alloc::{AllocError, Allocator};
 
 /// Adds the whole points through which the edges e at place i and f at place j lead each other. Collinear edges give

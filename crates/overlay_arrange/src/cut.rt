@@ -16,8 +16,8 @@ ghost use Rattle.overlay_plane.specs.DerivedData.{AreCutAlong, AreGiven, GivesPi
 ghost use Rattle.overlay_plane.specs.InOrder.{in_order};
 ghost use Rattle.overlay_plane.specs.Meetings.{MeetInWholePoints};
 ghost use Rattle.overlay_plane.specs.SnapPoints.{snap_points, snapped_edges};
-ghost use Rattle.overlay_arrange.specs.Content.{plain_edge, plain_edges, carried_edge, carried_edges};
-ghost use Rattle.overlay_arrange.specs.Content.{IsHeld, IsContent, IsAscending};
+ghost use Rattle.overlay_order.specs.Content.{plain_edge, plain_edges, carried_edge, carried_edges};
+ghost use Rattle.overlay_order.specs.Content.{IsHeld, IsContent, IsAscending};
 ghost use Rattle.overlay_arrange.specs.Cut.{chain_by, AddsGiven, LeadingPoints, StaysWhole};
 ghost use Rattle.overlay_arrange.specs.Meetings.{plain_meetings, AreByPlace, AreInRange, AreLedAlong, AreMeetings};
 ghost use Rattle.overlay_arrange.specs.Meetings.{ArePointsAt};
@@ -25,14 +25,14 @@ ghost use Rattle.overlay_arrange.specs.SnapMeetings.{AreSnapMeetings};
 ghost use Rattle.overlay_arrange.specs.Stores.{IsStoreReached};
 
 use crate::content::Content;
-use crate::count::EdgeCount;
 use crate::crossing::is_end_of;
-use crate::edge::{CountedEdge, compare_points};
 use crate::meetings::{Meeting, run_at, sort_meetings};
 use crate::whole::are_whole;
 use overlay_geom::error::OverlayError;
 use overlay_geom::number::IntNumber;
 use overlay_geom::point::IntPoint;
+use overlay_order::count::EdgeCount;
+use overlay_order::edge::{CountedEdge, compare_points};
 use std::alloc::{AllocError, Allocator};
 use std::cmp::Ordering;
 use std::mem;

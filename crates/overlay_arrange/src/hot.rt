@@ -4,18 +4,18 @@ ghost use Rattle.std.specs.Prelude.{◌≡◌, [], ◌∷◌, ◌++◌, map, IfO
 ghost use Rattle.std.specs.List.Sorted.{IsPermutation, IsSorted};
 ghost use Rattle.overlay_geom.specs.Points.{plain_point, plain_points};
 ghost use Rattle.overlay_geom.specs.Resolved.{point_cmp};
-ghost use Rattle.overlay_arrange.specs.Content.{plain_edges};
+ghost use Rattle.overlay_order.specs.Content.{plain_edges};
 ghost use Rattle.overlay_arrange.specs.HotPoints.{AreHotPoints, ArePointsAscending, HaveSameMembers};
 ghost use Rattle.overlay_arrange.specs.Meetings.{plain_meetings, AreMeetings};
 
-use crate::count::EdgeCount;
-use crate::edge::{CountedEdge, compare_points};
 use crate::meetings::Meeting;
-use crate::sort_points::order_by_points;
-use crate::sort_runs::sort_neighbours;
 use overlay_geom::edge_pair::is_same;
 use overlay_geom::number::IntNumber;
 use overlay_geom::point::IntPoint;
+use overlay_order::count::EdgeCount;
+use overlay_order::edge::{CountedEdge, compare_points};
+use overlay_order::sort_points::order_by_points;
+use overlay_order::sort_runs::sort_neighbours;
 use std::alloc::{AllocError, Allocator};
 use std::cmp::Ordering;
 

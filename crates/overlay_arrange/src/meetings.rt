@@ -4,22 +4,23 @@ ghost use Rattle.std.specs.Prelude.{◌≡◌, ◌+◌, ◌<◌, ◌≤◌, true
 ghost use Rattle.std.specs.Prelude.{All, IfOk, IfSome, OnOk};
 ghost use Rattle.std.specs.List.{AllWithin};
 ghost use Rattle.std.specs.List.Sorted.{IsPartitionPoint, IsPermutation};
-ghost use Rattle.overlay_arrange.specs.Changed.{AreHeldChangesOf, AreOpenBefore, AreOpenIn, StayOpen};
-ghost use Rattle.overlay_arrange.specs.Content.{plain_edges, IsHeld, IsAscending};
-ghost use Rattle.overlay_arrange.specs.Strips.{AreHeldStripsOf};
+ghost use Rattle.overlay_order.specs.Content.{plain_edges, IsHeld, IsAscending};
+ghost use Rattle.overlay_pairs.specs.Changed.{AreHeldChangesOf, AreOpenBefore, AreOpenIn, StayOpen};
+ghost use Rattle.overlay_pairs.specs.Strips.{AreHeldStripsOf};
+ghost use Rattle.overlay_pairs.specs.Places.{AreSettledBefore, IsAt};
+ghost use Rattle.overlay_pairs.specs.Near.{AreNear};
 ghost use Rattle.overlay_arrange.specs.Meetings.{plain_meetings, AreByPlace, AreGathered, AreMeetings};
-ghost use Rattle.overlay_arrange.specs.Meetings.{AreSettledBefore, HasBefore, IsAt, IsRunAt};
-ghost use Rattle.overlay_arrange.specs.Near.{AreNear};
+ghost use Rattle.overlay_arrange.specs.Meetings.{HasBefore, IsRunAt};
 
-use crate::changed::{Changed, find_open};
-use crate::count::EdgeCount;
 use crate::crossing::push_meetings;
-use crate::edge::CountedEdge;
 use crate::repeats::{drop_repeats_from, first_limit};
-use crate::sort_numbers::order_by_numbers;
-use crate::strips::Strips;
 use overlay_geom::number::IntNumber;
 use overlay_geom::point::IntPoint;
+use overlay_order::count::EdgeCount;
+use overlay_order::edge::CountedEdge;
+use overlay_order::sort_numbers::order_by_numbers;
+use overlay_pairs::changed::{Changed, find_open};
+use overlay_pairs::strips::Strips;
 use std::alloc::{AllocError, Allocator};
 
 /// A whole point through which an edge of a list is led.

@@ -5,16 +5,16 @@ ghost use Rattle.std.specs.Ordering.{int_cmp, is_lt, is_le, is_gt, is_ge};
 ghost use Rattle.overlay_geom.specs.Edges.{ends_of};
 ghost use Rattle.overlay_geom.specs.Points.{plain_point, InRange};
 ghost use Rattle.overlay_plane.specs.SnapPoints.{half_girth, is_amid, is_in_box, line_meets};
-ghost use Rattle.overlay_arrange.specs.Content.{plain_edge, IsHeld};
+ghost use Rattle.overlay_order.specs.Content.{plain_edge, IsHeld};
 ghost use Rattle.overlay_arrange.specs.HotPoints.{meets_inside};
 
-use crate::count::EdgeCount;
 use crate::crossing::is_end_of;
-use crate::edge::CountedEdge;
-use crate::extents::is_less;
 use overlay_geom::number::IntNumber;
 use overlay_geom::point::IntPoint;
 use overlay_geom::vector::cross_at;
+use overlay_order::count::EdgeCount;
+use overlay_order::edge::CountedEdge;
+use overlay_pairs::extents::is_less;
 use std::cmp::Ordering;
 
 /// Returns whether some point of the edge rounds to the point, which is no end of the edge.

@@ -6,18 +6,18 @@ ghost use Rattle.std.specs.Prelude.{OnOk};
 ghost use Rattle.std.specs.Ordering.{is_lt};
 ghost use Rattle.overlay_geom.specs.Edges.{ends_of};
 ghost use Rattle.overlay_geom.specs.Points.{plain_point, plain_points, InRange};
-ghost use Rattle.overlay_arrange.specs.Content.{plain_edge, IsHeld};
+ghost use Rattle.overlay_order.specs.Content.{plain_edge, IsHeld};
 ghost use Rattle.overlay_arrange.specs.PixelRuns.{AddsPoints, AddsRun, ArePassedAbove, ArePassedBelow, AreUpwards};
 ghost use Rattle.overlay_arrange.specs.PixelRuns.{is_far_above, is_far_below, IsAmidX, PassesAbove, PassesBelow};
 
-use crate::count::EdgeCount;
 use crate::course::Course;
-use crate::edge::CountedEdge;
-use crate::extents::is_less;
 use crate::pixel::{order_to_high, order_to_low};
 use overlay_geom::number::IntNumber;
 use overlay_geom::point::IntPoint;
 use overlay_geom::vector::cross_at;
+use overlay_order::count::EdgeCount;
+use overlay_order::edge::CountedEdge;
+use overlay_pairs::extents::is_less;
 use std::alloc::{AllocError, Allocator};
 use std::cmp::Ordering;
 

@@ -6,10 +6,10 @@ ghost use Rattle.overlay_geom.specs.Points.{plain_point};
 ghost use Rattle.overlay_arrange.specs.HotPoints.{HaveSameMembers};
 ghost use Rattle.overlay_arrange.specs.Meetings.{plain_meetings};
 
-use crate::edge::compare_points;
 use crate::meetings::Meeting;
 use overlay_geom::edge_pair::is_same;
 use overlay_geom::number::IntNumber;
+use overlay_order::edge::compare_points;
 use std::alloc::{AllocError, Allocator};
 use std::cmp::Ordering;
 

@@ -2,10 +2,10 @@
 
 ghost use Rattle.std.specs.Prelude.{◌≡◌, ◌≢◌, ◌↔◌, ◌^◌, false, []};
 ghost use Rattle.std.specs.Prelude.{Err, None, IfOk, IfErr, IfSome, OnOk, IsErrOf};
+ghost use Rattle.overlay_order.specs.Content.{IsAscending, IsContent};
+ghost use Rattle.overlay_pairs.specs.Changed.{AreOpenIn};
 ghost use Rattle.overlay_arrange.specs.Arranged.{IsArranged, IsArrangedCarrying, IsSplitCarrying};
 ghost use Rattle.overlay_arrange.specs.Arranged.{MayRefuseSplitting};
-ghost use Rattle.overlay_arrange.specs.Changed.{AreOpenIn};
-ghost use Rattle.overlay_arrange.specs.Content.{IsAscending, IsContent};
 ghost use Rattle.overlay_arrange.specs.Meetings.{plain_meetings, AreMeetings};
 ghost use Rattle.overlay_arrange.specs.Stores.{IsStoreReached};
 ghost use Rattle.overlay_geom.specs.Settled.{IsSettled};
@@ -13,15 +13,15 @@ ghost use Rattle.overlay_geom.specs.declared.solver.Solver.TheVariants.{Rounds};
 ghost use Rattle.overlay_plane.specs.Carried.{edges_in};
 ghost use Rattle.overlay_plane.specs.Arrangements.{IsReachedBy, IsSplit, StaysUnsettled, WeighsTooMuch};
 
-use crate::changed::{Settling, changes_since};
 use crate::content::Content;
-use crate::count::EdgeCount;
 use crate::meetings::{Meeting, gather};
-use crate::settle::count_settled;
-use crate::strips::strips_of;
+use crate::settling::{Settling, changes_since};
 use overlay_geom::error::OverlayError;
 use overlay_geom::number::IntNumber;
 use overlay_geom::solver::Solver;
+use overlay_order::count::EdgeCount;
+use overlay_pairs::settle::count_settled;
+use overlay_pairs::strips::strips_of;
 use std::alloc::{AllocError, Allocator};
 
 // Number of cutting rounds before the edges are given up as not settled: `most_rounds`.

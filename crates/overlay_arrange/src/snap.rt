@@ -3,24 +3,25 @@
 ghost use Rattle.std.specs.Prelude.{◌≡◌, ◌++◌, ◌+◌, ◌<◌, ◌≤◌, All, length, IsTrue, false};
 ghost use Rattle.std.specs.Prelude.{slice_range, IfOk, OnOk};
 ghost use Rattle.overlay_geom.specs.Points.{plain_points};
-ghost use Rattle.overlay_arrange.specs.Content.{plain_edge, plain_edges, IsHeld};
+ghost use Rattle.overlay_order.specs.Content.{plain_edge, plain_edges, IsHeld};
+ghost use Rattle.overlay_pairs.specs.PointStrips.{AreStripsOf};
 ghost use Rattle.overlay_arrange.specs.HotPoints.{AddsMet, AreHotPoints, AreLeftBefore, AreMetAmong, AreMetInside};
-ghost use Rattle.overlay_arrange.specs.HotPoints.{ArePointsAscending, AreRightFrom, AreStripsIfAny, AreStripsOf};
+ghost use Rattle.overlay_arrange.specs.HotPoints.{ArePointsAscending, AreRightFrom, AreStripsIfAny};
 ghost use Rattle.overlay_arrange.specs.HotPoints.{meetings_at};
 ghost use Rattle.overlay_arrange.specs.Meetings.{plain_meetings, AreByPlace};
 ghost use Rattle.overlay_arrange.specs.SnapMeetings.{AreSnapMeetings};
 
-use crate::count::EdgeCount;
 use crate::course::course_of;
-use crate::edge::CountedEdge;
-use crate::extents::is_less;
 use crate::meetings::Meeting;
-use crate::near::on_by;
 use crate::pixel::meets_pixel_inside;
 use crate::pixel_runs::push_run;
-use crate::strips::{SAMPLES, points_by_strips, strip_width};
 use overlay_geom::number::IntNumber;
 use overlay_geom::point::IntPoint;
+use overlay_order::count::EdgeCount;
+use overlay_order::edge::CountedEdge;
+use overlay_pairs::extents::is_less;
+use overlay_pairs::near::on_by;
+use overlay_pairs::strips::{SAMPLES, points_by_strips, strip_width};
 use std::alloc::{AllocError, Allocator};
 
 // Number of points in the span of an edge up to which they are tested one by one; more are searched by strips.

@@ -5,21 +5,21 @@ ghost use Rattle.std.specs.Prelude.{◌≡◌, ◌⊎◌, ◌↔◌, ◌^◌, fa
 ghost use Rattle.overlay_geom.specs.declared.solver.Solver.TheVariants.{Snapping};
 ghost use Rattle.overlay_plane.specs.Arrangements.{IsReachedBy, IsSplit, WeighsTooMuch};
 ghost use Rattle.overlay_plane.specs.Carried.{edges_in};
+ghost use Rattle.overlay_order.specs.Content.{IsAscending, IsContent};
 ghost use Rattle.overlay_arrange.specs.Arranged.{IsSplitCarrying};
-ghost use Rattle.overlay_arrange.specs.Content.{IsAscending, IsContent};
 ghost use Rattle.overlay_arrange.specs.Meetings.{plain_meetings, AreByPlace, AreMeetings};
 ghost use Rattle.overlay_arrange.specs.SnapMeetings.{AreSnapMeetings};
 ghost use Rattle.overlay_arrange.specs.Snapping.{AreHeavyPieces, IsLedOnce};
 ghost use Rattle.overlay_arrange.specs.Stores.{IsStoreReached};
 
 use crate::content::Content;
-use crate::count::EdgeCount;
 use crate::hot::hot_points;
 use crate::meetings::Meeting;
 use crate::snap::gather_snapped;
 use crate::whole::are_whole;
 use overlay_geom::error::OverlayError;
 use overlay_geom::number::IntNumber;
+use overlay_order::count::EdgeCount;
 use std::alloc::{AllocError, Allocator};
 
 impl<I: IntNumber, C: EdgeCount, A: Allocator + Clone> Content<I, C, A> {

@@ -2,14 +2,14 @@
 
 ghost use Rattle.std.specs.Prelude.{◌↔◌, IsTrue, All};
 ghost use Rattle.overlay_plane.specs.Meetings.{MeetInWholePoints};
-ghost use Rattle.overlay_arrange.specs.Content.{plain_edges, IsHeld};
+ghost use Rattle.overlay_order.specs.Content.{plain_edges, IsHeld};
 ghost use Rattle.overlay_arrange.specs.Meetings.{plain_meetings, AreMeetings};
 
-use crate::count::EdgeCount;
 use crate::crossing::is_on_line;
-use crate::edge::CountedEdge;
 use crate::meetings::Meeting;
 use overlay_geom::number::IntNumber;
+use overlay_order::count::EdgeCount;
+use overlay_order::edge::CountedEdge;
 
 /// Returns whether the edges meet in whole points alone, or overlap. Then each of the given meetings lies on the line
 /// of its edge, so no point was rounded to another point.

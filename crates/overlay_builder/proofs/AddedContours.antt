@@ -5,12 +5,12 @@ use Rattle.overlay_geom.specs.Counts.{Counts}
 use Rattle.overlay_geom.specs.Edges.{CountedEdge, AddsContour, weight}
 use Rattle.overlay_geom.specs.Plane.{Point, Step, edge_of, is_forward}
 use Rattle.overlay_geom.specs.declared.error.OverlayError.{OverlayError}
+use Rattle.overlay_geom.specs.declared.options.ShapeType.{ShapeType}
 use Rattle.overlay_plane.specs.Carried.{Carried, edges_in}
-use Rattle.overlay_arrange.specs.Content.{count_for, edge_for, edge_with}
-use Rattle.overlay_arrange.specs.Counts.{boolean_counts}
-use Rattle.overlay_arrange.specs.declared.count.ShapeCountBoolean.{ShapeCountBoolean}
-use Rattle.overlay_arrange.specs.declared.data.CountWithData.{CountWithData}
-use Rattle.overlay_arrange.specs.declared.options.ShapeType.{ShapeType}
+use Rattle.overlay_order.specs.Content.{count_for, edge_for, edge_with}
+use Rattle.overlay_order.specs.Counts.{boolean_counts}
+use Rattle.overlay_order.specs.declared.count.ShapeCountBoolean.{ShapeCountBoolean}
+use Rattle.overlay_order.specs.declared.data.CountWithData.{CountWithData}
 use Rattle.overlay_builder.specs.BuilderCalls.{AddsPathAsAsked, AddsContourAsAsked}
 use Rattle.overlay_builder.specs.Held.{Held, plain_held}
 use Rattle.overlay_builder.specs.Passing.{passing, passing_without_data}

@@ -9,13 +9,13 @@ use Rattle.overlay_geom.specs.Plane.{Point, Step, edge_of, is_forward, steps_of}
 use Rattle.overlay_geom.specs.Edges.{CountedEdge, subject_edge, clip_edge, weight}
 use Rattle.overlay_geom.specs.declared.error.OverlayError.{OverlayError}
 use Rattle.overlay_geom.specs.declared.error.OverlayError.TheVariants.{Failed}
+use Rattle.overlay_geom.specs.declared.options.ShapeType.{ShapeType}
+use Rattle.overlay_geom.specs.declared.options.ShapeType.TheVariants.{Subject, Clip}
 use Rattle.overlay_plane.specs.Balance.{HasBalancedCounts}
 use Rattle.overlay_plane.proofs.KeepingBalance.{added_contours_are_balanced, joining_keeps_balance}
-use Rattle.overlay_arrange.specs.Content.{count_for, edge_for, edge_with}
-use Rattle.overlay_arrange.specs.Counts.{boolean_counts}
-use Rattle.overlay_arrange.specs.declared.count.ShapeCountBoolean.{ShapeCountBoolean}
-use Rattle.overlay_arrange.specs.declared.options.ShapeType.{ShapeType}
-use Rattle.overlay_arrange.specs.declared.options.ShapeType.TheVariants.{Subject, Clip}
+use Rattle.overlay_order.specs.Content.{count_for, edge_for, edge_with}
+use Rattle.overlay_order.specs.Counts.{boolean_counts}
+use Rattle.overlay_order.specs.declared.count.ShapeCountBoolean.{ShapeCountBoolean}
 use Rattle.overlay_builder.specs.Held.{Held}
 use Rattle.overlay_builder.specs.PathLists.{AddedPath, AddsOne, AddsPaths, AddsAsAsked, StopsAtPath}
 use Rattle.overlay_builder.specs.PathLists.AddsPaths.{no_path, path_and_others}

@@ -4,10 +4,10 @@ use Rattle.std.specs.List.{All}
 use Rattle.std.proofs.lemmas.List.Elements.{All-nil, All-cons, All-head}
 use Rattle.overlay_geom.specs.Plane.{Point, Edge, point_eq, point_lt, steps_between}
 use Rattle.overlay_geom.specs.Points.{InRange}
-use Rattle.overlay_geom.proofs.Orders.{point_lt-back}
 use Rattle.overlay_geom.specs.Counts.{Counts, weight_of_counts}
+use Rattle.overlay_geom.proofs.Orders.{point_lt-back}
 use Rattle.overlay_plane.specs.Carried.{Carried}
-use Rattle.overlay_arrange.specs.Content.{IsHeld, edge_with}
+use Rattle.overlay_order.specs.Content.{IsHeld, edge_with}
 use Rattle.overlay_builder.specs.Paths.{passed_edge, AreLight}
 use Rattle.overlay_builder.specs.declared.path.StepCounts.{StepCounts}
 

@@ -4,15 +4,15 @@ use Rattle.std.specs.List.{All}
 use Rattle.std.proofs.lemmas.List.Elements.{All-nil, All-append, All-map, All-weaker, All-head, All-tail}
 use Rattle.overlay_geom.specs.Edges.{CountedEdge, subj_of, clip_of, subject_edge, clip_edge, winding_by, AddsContour}
 use Rattle.overlay_geom.specs.Plane.{Point, PlanePoint, Step, edge_of, steps_of, total, winding}
+use Rattle.overlay_geom.specs.declared.options.ShapeType.{ShapeType}
+use Rattle.overlay_geom.specs.declared.options.ShapeType.TheVariants.{Subject, Clip}
 use Rattle.overlay_geom.proofs.Signs.{linear}
 use Rattle.overlay_plane.specs.Adding.{AddsWinding}
 use Rattle.overlay_plane.specs.FarPoints.{AreWithinHalves, IsFarFrom, IsFarFromEdge}
 use Rattle.overlay_plane.specs.Snaps.{IsOnStep}
 use Rattle.overlay_plane.proofs.AddedWindings.{adding_adds_windings}
 use Rattle.overlay_plane.proofs.FarPoints.{on_step}
-use Rattle.overlay_arrange.specs.Content.{edge_for}
-use Rattle.overlay_arrange.specs.declared.options.ShapeType.{ShapeType}
-use Rattle.overlay_arrange.specs.declared.options.ShapeType.TheVariants.{Subject, Clip}
+use Rattle.overlay_order.specs.Content.{edge_for}
 use Rattle.overlay_builder.specs.GivenPaths.{GivenPath, added_path, added_paths}
 use Rattle.overlay_builder.specs.PathLists.{AddsOne, AddsPaths, HoldsPaths}
 use Rattle.overlay_builder.specs.PathLists.AddsPaths.{no_path, path_and_others}

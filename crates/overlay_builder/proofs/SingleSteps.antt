@@ -12,8 +12,8 @@ use Rattle.overlay_geom.specs.Plane.{Point, Step, Edge, point_lt, is_forward, st
 use Rattle.overlay_geom.specs.Resolved.{point_cmp}
 use Rattle.overlay_geom.proofs.PointComparisons.{point_cmp-is_tie, point_cmp-is_less}
 use Rattle.overlay_plane.specs.Carried.{Carried}
-use Rattle.overlay_arrange.specs.Content.{edge_with}
-use Rattle.overlay_arrange.specs.EdgeData.{IsReversedBy}
+use Rattle.overlay_order.specs.Content.{edge_with}
+use Rattle.overlay_order.specs.EdgeData.{IsReversedBy}
 use Rattle.overlay_builder.specs.AddedSteps.{AddsStep, LeavesStore, edge_carrying}
 
 module _ {C : Type 0} (counts : C → Counts) (reverses : C → C → Type 0) (given : C) (p q : Point)

@@ -4,8 +4,8 @@ use Rattle.std.specs.Ordering.{is_le}
 use Rattle.overlay_geom.specs.Counts.{Counts}
 use Rattle.overlay_geom.specs.Edges.{weight}
 use Rattle.overlay_geom.specs.Plane.{Point, Step, edge_of, is_forward, steps_between}
-use Rattle.overlay_arrange.specs.Content.{edge_with, point_cmp}
-use Rattle.overlay_arrange.specs.EdgeData.{IsReversedBy}
+use Rattle.overlay_order.specs.Content.{edge_with, point_cmp}
+use Rattle.overlay_order.specs.EdgeData.{IsReversedBy}
 use Rattle.overlay_plane.specs.Carried.{Carried, edges_in}
 
 -- the edge of the step, carrying this value

@@ -7,8 +7,8 @@ use Rattle.overlay_geom.specs.Plane.{Point}
 use Rattle.overlay_geom.specs.declared.error.OverlayError.{OverlayError}
 use Rattle.overlay_geom.specs.declared.error.OverlayError.TheVariants.{NotSettled, TooManyEdges, Failed}
 use Rattle.overlay_geom.specs.declared.solver.Solver.{Solver}
-use Rattle.overlay_arrange.specs.Content.{edge_for}
-use Rattle.overlay_arrange.specs.declared.options.ShapeType.{ShapeType}
+use Rattle.overlay_geom.specs.declared.options.ShapeType.{ShapeType}
+use Rattle.overlay_order.specs.Content.{edge_for}
 use Rattle.overlay_builder.specs.GivenPaths.{ContourWeighsTooMuch}
 use Rattle.overlay_builder.specs.Held.{Held, AnswersQuery, shown_edges}
 use Rattle.overlay_builder.specs.PathLists.{AddedPath, AddsOne, WouldWeighTooMuch}

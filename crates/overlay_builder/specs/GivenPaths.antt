@@ -2,13 +2,13 @@
 use Rattle.std.specs.Prelude.{◌≡◌, ◌++◌, Bool, false, List, map}
 use Rattle.overlay_geom.specs.Plane.{Point}
 use Rattle.overlay_geom.specs.Edges.{CountedEdge, weight}
+use Rattle.overlay_geom.specs.declared.options.ShapeType.{ShapeType}
+use Rattle.overlay_geom.specs.declared.options.ShapeType.TheVariants.{Subject, Clip}
 use Rattle.overlay_plane.specs.Balance.{HasBalancedCounts}
-use Rattle.overlay_arrange.specs.Content.{edge_for}
-pub use Rattle.overlay_arrange.specs.Paths.{GivenPath}
+use Rattle.overlay_order.specs.Content.{edge_for}
+pub use Rattle.overlay_order.specs.Paths.{GivenPath}
 use Rattle.overlay_builder.specs.PathLists.{AddedPath, WouldWeighTooMuch, path_as}
 use Rattle.overlay_builder.specs.Paths.{contour_kind}
-use Rattle.overlay_arrange.specs.declared.options.ShapeType.{ShapeType}
-use Rattle.overlay_arrange.specs.declared.options.ShapeType.TheVariants.{Subject, Clip}
 
 -- the paths of a resource, all for the subject or all for the clip
 abbrev pub paths_for : ShapeType → List (List Point) → List GivenPath

@@ -1,9 +1,9 @@
 -- The counts of an edge that a contour of the subject or of the clip passes once.
 use Rattle.std.specs.Prelude.{pos, negsuc}
-use Rattle.overlay_arrange.specs.Content.{count_for}
-use Rattle.overlay_arrange.specs.declared.count.ShapeCountBoolean.{ShapeCountBoolean}
-use Rattle.overlay_arrange.specs.declared.data.CountWithData.{CountWithData}
-use Rattle.overlay_arrange.specs.declared.options.ShapeType.{ShapeType}
+use Rattle.overlay_order.specs.Content.{count_for}
+use Rattle.overlay_order.specs.declared.count.ShapeCountBoolean.{ShapeCountBoolean}
+use Rattle.overlay_order.specs.declared.data.CountWithData.{CountWithData}
+use Rattle.overlay_geom.specs.declared.options.ShapeType.{ShapeType}
 use Rattle.overlay_builder.specs.declared.path.StepCounts.{StepCounts}
 
 -- 1 where the step runs from the edge's smaller to its larger end, and -1 where it runs back

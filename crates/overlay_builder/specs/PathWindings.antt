@@ -2,10 +2,10 @@
 use Rattle.std.specs.Prelude.{◌≡◌, ℕ, Bool, ℤ, pos, List, All}
 use Rattle.overlay_geom.specs.Edges.{CountedEdge, subj_of, clip_of, winding_by}
 use Rattle.overlay_geom.specs.Plane.{PlanePoint, steps_of, total, winding}
+use Rattle.overlay_geom.specs.declared.options.ShapeType.{ShapeType}
+use Rattle.overlay_geom.specs.declared.options.ShapeType.TheVariants.{Subject, Clip}
 use Rattle.overlay_plane.specs.FarPoints.{AreWithinHalves, IsFarFrom}
 use Rattle.overlay_plane.specs.Snaps.{IsOnStep}
-use Rattle.overlay_arrange.specs.declared.options.ShapeType.{ShapeType}
-use Rattle.overlay_arrange.specs.declared.options.ShapeType.TheVariants.{Subject, Clip}
 use Rattle.overlay_builder.specs.GivenPaths.{GivenPath, added_paths}
 use Rattle.overlay_builder.specs.PathLists.{HoldsPaths}
 

@@ -4,7 +4,7 @@ use Rattle.overlay_geom.specs.Counts.{Counts, weight_of_counts}
 use Rattle.overlay_geom.specs.Plane.{Point, Step, edge_of, is_forward, path_steps, steps_of}
 use Rattle.overlay_geom.specs.Thinned.{IsThinned}
 use Rattle.overlay_plane.specs.Carried.{Carried}
-use Rattle.overlay_arrange.specs.Content.{edge_with}
+use Rattle.overlay_order.specs.Content.{edge_with}
 use Rattle.overlay_builder.specs.declared.path.PathKind.{PathKind}
 use Rattle.overlay_builder.specs.declared.path.PathKind.TheVariants.{Open, Closed, Thinned}
 use Rattle.overlay_builder.specs.declared.path.StepCounts.{StepCounts}

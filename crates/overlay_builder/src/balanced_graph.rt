@@ -2,11 +2,11 @@
 
 ghost use Rattle.std.specs.Prelude.{◌≡◌};
 ghost use Rattle.overlay_plane.specs.Balance.{HasBalancedCounts};
-ghost use Rattle.overlay_arrange.specs.Graphs.{graph_edges};
+ghost use Rattle.overlay_graph.specs.Graphs.{graph_edges};
 
-use overlay_arrange::count::EdgeCount;
-use overlay_arrange::graph::Graph;
 use overlay_geom::integer::OverlayInt;
+use overlay_graph::graph::Graph;
+use overlay_order::count::EdgeCount;
 use std::alloc::Allocator;
 use std::marker::Model;
 
@@ -19,7 +19,7 @@ pub struct BalancedGraph<I: OverlayInt, C: EdgeCount, A: Allocator> {
 
 impl<I: OverlayInt, C: EdgeCount, A: Allocator> Model for BalancedGraph<I, C, A> {
     ghost use Rattle.overlay_plane.specs.Balance.{HasBalancedCounts};
-    ghost use Rattle.overlay_arrange.specs.Graphs.{Graph, graph_edges};
+    ghost use Rattle.overlay_graph.specs.Graphs.{Graph, graph_edges};
 
     ghost Value = { Graph C };
 

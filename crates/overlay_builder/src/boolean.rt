@@ -1,13 +1,13 @@
 //! The counts of an edge that a contour of the subject or of the clip passes once.
 
 ghost use Rattle.std.specs.Prelude.{◌≡◌};
-ghost use Rattle.overlay_arrange.specs.Content.{count_for};
+ghost use Rattle.overlay_order.specs.Content.{count_for};
 ghost use Rattle.overlay_builder.specs.Passing.{passing, passing_without_data, without_data};
 
 use crate::path::StepCounts;
-use overlay_arrange::count::ShapeCountBoolean;
-use overlay_arrange::data::CountWithData;
-use overlay_arrange::options::ShapeType;
+use overlay_geom::options::ShapeType;
+use overlay_order::count::ShapeCountBoolean;
+use overlay_order::data::CountWithData;
 
 /// Returns the counts of an edge that the shape passes `count` times.
 fn count_for(shape_type: ShapeType, count: i32) -> ShapeCountBoolean

@@ -6,8 +6,8 @@ ghost use Rattle.overlay_geom.specs.Counts.{weight_of_counts};
 ghost use Rattle.overlay_geom.specs.Points.{plain_point, plain_points, InRange, AllInRange};
 ghost use Rattle.overlay_plane.specs.Arrangements.{IsReachedBy};
 ghost use Rattle.overlay_plane.specs.Carried.{edges_in};
+ghost use Rattle.overlay_order.specs.Content.{IsContent};
 ghost use Rattle.overlay_arrange.specs.Arranged.{IsArrangedCarrying};
-ghost use Rattle.overlay_arrange.specs.Content.{IsContent};
 ghost use Rattle.overlay_arrange.specs.Stores.{IsStoreReached};
 ghost use Rattle.overlay_builder.specs.AddedSteps.{AddsStep, LeavesStore, StepWeighsTooMuch};
 ghost use Rattle.overlay_builder.specs.BuilderCalls.{AddsOneAsAsked, AddsPathAsAsked};
@@ -18,12 +18,12 @@ ghost use Rattle.overlay_builder.specs.Paths.{passed_edge, AreLight, IsTakenAs};
 use crate::path::{PathKind, StepCounts, add_path};
 use crate::single_step::push_step;
 use overlay_arrange::content::Content;
-use overlay_arrange::count::EdgeCount;
 use overlay_geom::error::OverlayError;
 use overlay_geom::number::IntNumber;
 use overlay_geom::point::IntPoint;
 use overlay_geom::resource::IntShapeResource;
 use overlay_geom::solver::Solver;
+use overlay_order::count::EdgeCount;
 use std::alloc::{AllocError, Allocator};
 use std::marker::Model;
 
@@ -37,7 +37,7 @@ pub struct BuilderCore<I: IntNumber, C: EdgeCount, A: Allocator> {
 
 impl<I: IntNumber, C: EdgeCount, A: Allocator> Model for BuilderCore<I, C, A> {
     ghost use Rattle.overlay_plane.specs.Carried.{Carried, edges_in};
-    ghost use Rattle.overlay_arrange.specs.Content.{IsContent};
+    ghost use Rattle.overlay_order.specs.Content.{IsContent};
     ghost use Rattle.overlay_builder.specs.Held.{Held};
 
     ghost Value = { Held (Carried C) };

@@ -5,19 +5,19 @@ ghost use Rattle.std.specs.Prelude.{IfOk, IfErr, OnOk, OnErr, IsErrOf, option_ma
 ghost use Rattle.overlay_geom.specs.Edges.{weight};
 ghost use Rattle.overlay_geom.specs.Plane.{steps_between, steps_through};
 ghost use Rattle.overlay_geom.specs.Points.{plain_point, plain_points, InRange, AllInRange};
-ghost use Rattle.overlay_arrange.specs.Content.{carried_edge, IsContent};
+ghost use Rattle.overlay_order.specs.Content.{carried_edge, IsContent};
 ghost use Rattle.overlay_plane.specs.Carried.{edges_in};
 ghost use Rattle.overlay_builder.specs.Paths.{passed_edge, path_steps_of, AreLight};
 ghost use Rattle.overlay_builder.specs.Paths.{IsTakenAs, AddsPath, contour_kind};
 ghost use Rattle.overlay_builder.specs.PathLists.{carried_weight, path_as, WouldWeighTooMuch};
 
 use overlay_arrange::content::Content;
-use overlay_arrange::count::EdgeCount;
-use overlay_arrange::edge::{CountedEdge, compare_points};
 use overlay_geom::error::OverlayError;
 use overlay_geom::number::IntNumber;
 use overlay_geom::point::IntPoint;
 use overlay_geom::thin::thinned;
+use overlay_order::count::EdgeCount;
+use overlay_order::edge::{CountedEdge, compare_points};
 use std::alloc::Allocator;
 use std::cmp::Ordering;
 

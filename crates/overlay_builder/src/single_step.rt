@@ -4,15 +4,15 @@ ghost use Rattle.std.specs.Prelude.{◌≡◌, ◌^◌, ◌<◌, ◌⊎◌, IfEr
 ghost use Rattle.overlay_geom.specs.Counts.{weight_of_counts};
 ghost use Rattle.overlay_geom.specs.Points.{plain_point, InRange};
 ghost use Rattle.overlay_plane.specs.Carried.{edges_in};
-ghost use Rattle.overlay_arrange.specs.Content.{IsContent};
+ghost use Rattle.overlay_order.specs.Content.{IsContent};
 ghost use Rattle.overlay_builder.specs.AddedSteps.{AddsStep, LeavesStore, StepWeighsTooMuch};
 
 use overlay_arrange::content::Content;
-use overlay_arrange::count::EdgeCount;
-use overlay_arrange::edge::{CountedEdge, compare_points};
 use overlay_geom::error::OverlayError;
 use overlay_geom::number::IntNumber;
 use overlay_geom::point::IntPoint;
+use overlay_order::count::EdgeCount;
+use overlay_order::edge::{CountedEdge, compare_points};
 use std::alloc::Allocator;
 use std::cmp::Ordering;
 

@@ -3,6 +3,8 @@ use Rattle.std.proofs.Common.{ℕ, List, All, Contains, sym, subst}
 use Rattle.std.proofs.lemmas.List.Elements.{All-contains}
 use Rattle.overlay_geom.specs.Plane.{Step}
 use Rattle.overlay_geom.specs.Edges.{CountedEdge, subj_of}
+use Rattle.overlay_geom.specs.Rules.{is_filled}
+use Rattle.overlay_geom.specs.declared.fill_rule.FillRule.{FillRule}
 use Rattle.overlay_plane.specs.Balance.{HasBalancedCounts}
 use Rattle.overlay_plane.specs.BoundContours.{walks_in}
 use Rattle.overlay_plane.specs.Contours.{all_steps}
@@ -11,9 +13,7 @@ use Rattle.overlay_plane.specs.MinimumArea.{reaches}
 use Rattle.overlay_plane.specs.RoledContours.{Contour}
 use Rattle.overlay_plane.specs.Turn.Hand.{left}
 use Rattle.overlay_plane.proofs.Entries.{all_of_entries, Contains-flat_map}
-use Rattle.overlay_arrange.specs.Graphs.{IsArrangement}
-use Rattle.overlay_arrange.specs.Rules.{is_filled}
-use Rattle.overlay_arrange.specs.declared.fill_rule.FillRule.{FillRule}
+use Rattle.overlay_graph.specs.Graphs.{IsArrangement}
 use Rattle.overlay_extract.specs.FilledSides.{filled_sides}
 use Rattle.overlay_extract.specs.Loops.{AreLoops}
 use Rattle.overlay_extract.specs.Slices.{AreSliceContours}

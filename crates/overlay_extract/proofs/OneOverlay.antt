@@ -21,7 +21,7 @@ use Rattle.overlay_plane.proofs.Entries.{all_of_entries}
 use Rattle.overlay_plane.proofs.KeptContours.{kept_contours_can_be_bound}
 use Rattle.overlay_plane.proofs.LeadOn.{arranged_lead_on}
 use Rattle.overlay_plane.proofs.NoSpikes.{kept_without, shapes_without, one_shown, one_shown_in_shapes}
-use Rattle.overlay_arrange.proofs.RuledContents.{none_of_zero}
+use Rattle.overlay_order.proofs.RuledContents.{none_of_zero}
 use Rattle.overlay_extract.specs.Determined.{AreArrangedWithBalance, OneResult, OneListOfContours, OneListOfLinks}
 use Rattle.overlay_extract.specs.Results.{Asked, region_asked, filled_asked, selected_of, is_kept}
 use Rattle.overlay_extract.specs.Results.{IsResult, IsContoursResult}

@@ -6,6 +6,9 @@ use Rattle.std.specs.Int.{Width}
 use Rattle.std.proofs.lemmas.List.Elements.{All-contains, All-filter}
 use Rattle.overlay_geom.specs.Plane.{Point, Step, reversed_step}
 use Rattle.overlay_geom.specs.Edges.{CountedEdge, subj_of}
+use Rattle.overlay_geom.specs.Rules.{is_filled}
+use Rattle.overlay_geom.specs.declared.fill_rule.FillRule.{FillRule}
+use Rattle.overlay_geom.specs.declared.options.ContourDirection.{ContourDirection}
 use Rattle.overlay_geom.proofs.Entries.{same_head, same_tail}
 use Rattle.overlay_plane.specs.BoundContours.{AreShapesFound, contours_bound, shapes_bound, walks_in}
 use Rattle.overlay_plane.specs.Groups.{IsSimpleContour}
@@ -20,9 +23,6 @@ use Rattle.overlay_plane.specs.Turn.{Hand}
 use Rattle.overlay_plane.specs.Turn.Hand.{left, right}
 use Rattle.overlay_plane.proofs.Totals.{Contains-head, Contains-later}
 use Rattle.overlay_plane.proofs.WalkedEdges.{one_anchor}
-use Rattle.overlay_arrange.specs.Rules.{is_filled}
-use Rattle.overlay_arrange.specs.declared.fill_rule.FillRule.{FillRule}
-use Rattle.overlay_arrange.specs.declared.options.ContourDirection.{ContourDirection}
 use Rattle.overlay_extract.proofs.OneBound.{one_bound}
 use Rattle.overlay_extract.specs.Bound.{PassesAnchor, HaveRoles}
 use Rattle.overlay_extract.specs.Bound.HaveRoles.{none, an_outline, a_hole}

@@ -6,18 +6,18 @@ use Rattle.std.specs.List.{flat_map}
 use Rattle.std.proofs.lemmas.List.Elements.{All-contains}
 use Rattle.std.proofs.lemmas.List.Folds.{flat_map-map}
 use Rattle.overlay_geom.specs.Edges.{CountedEdge, ends_of, subj_of}
+use Rattle.overlay_geom.specs.Rules.{is_filled, fills_of}
+use Rattle.overlay_geom.specs.declared.fill_rule.FillRule.{FillRule}
 use Rattle.overlay_plane.specs.Balance.{HasBalancedCounts}
 use Rattle.overlay_plane.specs.Nodes.{IsBalancedArrangement}
 use Rattle.overlay_plane.specs.SelectedSteps.{step_with_left}
 use Rattle.overlay_plane.proofs.Entries.{all_of_entries, flat_map-same}
 use Rattle.overlay_plane.proofs.SameWay.{ends_differ}
-use Rattle.overlay_arrange.specs.Content.{IsHeld}
-use Rattle.overlay_arrange.specs.Graphs.{IsArrangement}
-use Rattle.overlay_arrange.specs.Rules.{is_filled, fills_of}
-use Rattle.overlay_arrange.specs.Vectors.{Vector, vector_of}
-use Rattle.overlay_arrange.specs.declared.fill_rule.FillRule.{FillRule}
-use Rattle.overlay_arrange.proofs.RuledContents.{planar_content}
-use Rattle.overlay_arrange.proofs.SideBits.{bits_show_sides}
+use Rattle.overlay_order.specs.Content.{IsHeld}
+use Rattle.overlay_order.specs.Vectors.{Vector, vector_of}
+use Rattle.overlay_order.proofs.RuledContents.{planar_content}
+use Rattle.overlay_graph.specs.Graphs.{IsArrangement}
+use Rattle.overlay_graph.proofs.SideBits.{bits_show_sides}
 use Rattle.overlay_extract.specs.FilledSides.{sides_of, filled_sides}
 use Rattle.overlay_extract.specs.SidesByBits.{step_if, sides_by_bits}
 use Rattle.overlay_extract.proofs.SideLists.{sides_listed}

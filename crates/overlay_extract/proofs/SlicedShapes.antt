@@ -10,6 +10,11 @@ use Rattle.std.proofs.lemmas.List.Elements.{All-contains}
 use Rattle.std.proofs.lemmas.List.Folds.{flat_map-map}
 use Rattle.std.proofs.lemmas.List.Sorted.{IsPermutation-refl, IsPermutation-append}
 use Rattle.overlay_geom.specs.Plane.{Point, PlanePoint, Step, steps_of, points_of, reversed_step, total, winding}
+use Rattle.overlay_geom.specs.declared.options.ContourDirection.{ContourDirection}
+use Rattle.overlay_geom.specs.declared.options.ContourDirection.TheVariants.{CounterClockwise, Clockwise}
+use Rattle.overlay_geom.proofs.Entries.{Contains-head, Contains-later}
+use Rattle.overlay_geom.proofs.Identities.{solve, number, ◌⊗◌, ◌≗◌}
+use Rattle.overlay_geom.proofs.Totals.{total-IsPermutation}
 use Rattle.overlay_plane.specs.Contours.{all_steps}
 use Rattle.overlay_plane.specs.ContourWindings.{once_round}
 use Rattle.overlay_plane.specs.Groups.{IsSimpleContour}
@@ -22,11 +27,6 @@ use Rattle.overlay_plane.proofs.ContourSteps.{contour_long}
 use Rattle.overlay_plane.proofs.Entries.{all_of_entries, All-first, All-rest}
 use Rattle.overlay_plane.proofs.JoinedLists.{total-flat_map, total-map, total-times}
 use Rattle.overlay_plane.proofs.Totals.{total-same}
-use Rattle.overlay_geom.proofs.Entries.{Contains-head, Contains-later}
-use Rattle.overlay_geom.proofs.Identities.{solve, number, ◌⊗◌, ◌≗◌}
-use Rattle.overlay_geom.proofs.Totals.{total-IsPermutation}
-use Rattle.overlay_arrange.specs.declared.options.ContourDirection.{ContourDirection}
-use Rattle.overlay_arrange.specs.declared.options.ContourDirection.TheVariants.{CounterClockwise, Clockwise}
 use Rattle.overlay_walk.specs.Steps.{filled_hand}
 use Rattle.overlay_extract.specs.Sliced.{in_direction, left_steps, left_steps_of_shapes}
 use Rattle.overlay_extract.specs.ClosedWalks.{turned_loop}

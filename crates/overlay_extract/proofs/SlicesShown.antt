@@ -12,6 +12,9 @@ use Rattle.std.proofs.lemmas.List.Sorted.{IsPermutation-sym, IsPermutation-trans
 use Rattle.std.proofs.lemmas.List.Sorted.{All-permutation, Contains-permutation}
 use Rattle.overlay_geom.specs.Plane.{Point, Step, points_of}
 use Rattle.overlay_geom.specs.Edges.{CountedEdge, subj_of, winding_by}
+use Rattle.overlay_geom.specs.Rules.{is_filled}
+use Rattle.overlay_geom.specs.declared.fill_rule.FillRule.{FillRule}
+use Rattle.overlay_geom.specs.declared.options.ContourDirection.{ContourDirection}
 use Rattle.overlay_geom.proofs.Totals.{total-IsPermutation}
 use Rattle.overlay_plane.specs.BesideOrbits.{HasEachOnce}
 use Rattle.overlay_plane.specs.Binding.{walks_of}
@@ -35,10 +38,7 @@ use Rattle.overlay_plane.proofs.PlacesOfContours.{Contains-place}
 use Rattle.overlay_plane.proofs.RoledShapes.{all_kept}
 use Rattle.overlay_plane.proofs.ShuffledPairs.{once_shuffled}
 use Rattle.overlay_plane.proofs.ShuffledSteps.{Differ}
-use Rattle.overlay_arrange.specs.Rules.{is_filled}
-use Rattle.overlay_arrange.specs.declared.fill_rule.FillRule.{FillRule}
-use Rattle.overlay_arrange.specs.declared.options.ContourDirection.{ContourDirection}
-use Rattle.overlay_arrange.proofs.RuledContents.{zero_is_empty}
+use Rattle.overlay_order.proofs.RuledContents.{zero_is_empty}
 use Rattle.overlay_walk.specs.Steps.{filled_hand}
 use Rattle.overlay_extract.specs.Bound.{PassesAnchor}
 use Rattle.overlay_extract.specs.Loops.{AreLoops}

@@ -7,13 +7,13 @@ use Rattle.std.proofs.lemmas.List.{map-append, reverse-append}
 use Rattle.std.proofs.lemmas.List.Sorted.{IsPermutation-refl, IsPermutation-trans, IsPermutation-map}
 use Rattle.std.proofs.lemmas.List.Sorted.{IsPermutation-sym, IsPermutation-reverse, Contains-permutation}
 use Rattle.overlay_geom.specs.Plane.{Point, Step, Edge, point_eq, steps_of, points_of, edge_of, reversed_step, backward}
+use Rattle.overlay_geom.specs.declared.options.ContourDirection.{ContourDirection}
+use Rattle.overlay_geom.specs.declared.options.ContourDirection.TheVariants.{CounterClockwise, Clockwise}
 use Rattle.overlay_geom.proofs.Orders.{point_eq-same, point_eq-of_same}
 use Rattle.overlay_plane.specs.Anchors.{IsAnchor}
 use Rattle.overlay_plane.specs.Groups.{HasEachPointOnce, IsSimpleContour}
 use Rattle.overlay_plane.specs.SelectedSteps.{step_with_left}
 use Rattle.overlay_plane.proofs.ShuffledPairs.{pairs_shuffled}
-use Rattle.overlay_arrange.specs.declared.options.ContourDirection.{ContourDirection}
-use Rattle.overlay_arrange.specs.declared.options.ContourDirection.TheVariants.{CounterClockwise, Clockwise}
 use Rattle.overlay_extract.specs.Bound.{PassesAnchor}
 use Rattle.overlay_extract.specs.ClosedWalks.{LeadsTo, IsClosedWalk, turned_loop}
 use Rattle.overlay_extract.specs.Sliced.{in_direction, left_steps}

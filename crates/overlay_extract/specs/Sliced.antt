@@ -5,6 +5,11 @@ use Rattle.std.specs.Int.{Width}
 use Rattle.std.specs.List.{flat_map}
 use Rattle.overlay_geom.specs.Plane.{Point, PlanePoint, Step, IsOff, reversed_step, backward, steps_of, winding}
 use Rattle.overlay_geom.specs.Edges.{CountedEdge, ends_of, subj_of, clip_of}
+use Rattle.overlay_geom.specs.Rules.{is_filled, rules_hold}
+use Rattle.overlay_geom.specs.declared.fill_rule.FillRule.{FillRule}
+use Rattle.overlay_geom.specs.declared.options.ContourDirection.{ContourDirection}
+use Rattle.overlay_geom.specs.declared.options.ContourDirection.TheVariants.{CounterClockwise, Clockwise}
+use Rattle.overlay_geom.specs.declared.overlay_rule.OverlayRule.TheVariants.{Subject}
 use Rattle.overlay_plane.specs.BesideOrbits.{HasEachOnce}
 use Rattle.overlay_plane.specs.BoundContours.{NoHoleIsLost}
 use Rattle.overlay_plane.specs.ContourWindings.{wanted_winding}
@@ -13,11 +18,6 @@ use Rattle.overlay_plane.specs.Nodes.{IsBalancedArrangement}
 use Rattle.overlay_plane.specs.RoledContours.{Contour}
 use Rattle.overlay_plane.specs.ShapesAlone.{EachWindsOnceOrNot}
 use Rattle.overlay_plane.specs.ShapeWindings.{steps_of_shapes}
-use Rattle.overlay_arrange.specs.Rules.{is_filled, rules_hold}
-use Rattle.overlay_arrange.specs.declared.fill_rule.FillRule.{FillRule}
-use Rattle.overlay_arrange.specs.declared.options.ContourDirection.{ContourDirection}
-use Rattle.overlay_arrange.specs.declared.options.ContourDirection.TheVariants.{CounterClockwise, Clockwise}
-use Rattle.overlay_arrange.specs.declared.overlay_rule.OverlayRule.TheVariants.{Subject}
 use Rattle.overlay_walk.specs.Steps.{filled_hand}
 use Rattle.overlay_extract.specs.Laws.{NoTwoWindRound}
 use Rattle.overlay_extract.specs.Results.{shapes_found}

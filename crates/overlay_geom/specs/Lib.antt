@@ -9,6 +9,7 @@ pub mod Merged
 pub mod Narrowed
 pub mod Numbered
 pub mod Numbers
+pub mod Options
 pub mod OrderedPoints
 pub mod Packed
 pub mod PathCursors
@@ -18,6 +19,7 @@ pub mod Plane
 pub mod Points
 pub mod Resolved
 pub mod Rounding
+pub mod Rules
 pub mod Settled
 pub mod Small
 pub mod Thinned

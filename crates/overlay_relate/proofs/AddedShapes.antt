@@ -9,8 +9,8 @@ use Rattle.overlay_geom.specs.Edges.{weight}
 use Rattle.overlay_geom.specs.Plane.{Point}
 use Rattle.overlay_geom.specs.declared.error.OverlayError.{OverlayError}
 use Rattle.overlay_geom.specs.declared.error.OverlayError.TheVariants.{Failed}
+use Rattle.overlay_geom.specs.declared.options.ShapeType.{ShapeType}
 use Rattle.overlay_geom.proofs.JoinedLists.{joined_more}
-use Rattle.overlay_arrange.specs.declared.options.ShapeType.{ShapeType}
 use Rattle.overlay_builder.specs.GivenPaths.{GivenPath, paths_for}
 use Rattle.overlay_builder.specs.PathLists.AddsPaths.{no_path}
 use Rattle.overlay_relate.specs.PredicateBuilder.{PredicateBuilder, PredicateBuilderAdds}

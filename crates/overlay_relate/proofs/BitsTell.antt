@@ -7,13 +7,13 @@ use Rattle.std.proofs.lemmas.Bool.{false≢true}
 use Rattle.std.proofs.lemmas.List.Folds.{Any-from_list_any, list_any-from_Any}
 use Rattle.std.proofs.lemmas.Simd.{map-map}
 use Rattle.overlay_geom.specs.Edges.{CountedEdge, subj_of, clip_of}
+use Rattle.overlay_geom.specs.Rules.{is_filled, bits_of, fills_of, fill_bits}
+use Rattle.overlay_geom.specs.declared.fill_rule.FillRule.{FillRule}
 use Rattle.overlay_plane.specs.EdgePredicates.{SomeEdge, is_border_of}
 use Rattle.overlay_plane.proofs.Entries.{any_of_entry, Contains-from_any, Contains-map, Contains-from_map}
-use Rattle.overlay_arrange.specs.Rules.{is_filled, bits_of, fills_of, fill_bits}
-use Rattle.overlay_arrange.specs.Vectors.{Vector, plain_vector, vector_of}
-use Rattle.overlay_arrange.specs.declared.fill_rule.FillRule.{FillRule}
-use Rattle.overlay_arrange.specs.declared.vector.DataVectorEdge.{DataVectorEdge}
-use Rattle.overlay_arrange.proofs.SideBits.{bits_show_sides}
+use Rattle.overlay_order.specs.Vectors.{Vector, plain_vector, vector_of}
+use Rattle.overlay_order.specs.declared.vector.DataVectorEdge.{DataVectorEdge}
+use Rattle.overlay_graph.proofs.SideBits.{bits_show_sides}
 use Rattle.overlay_relate.specs.EdgeTests.{bits_pass, edge_passes, is_subject_border, is_clip_border}
 use Rattle.overlay_relate.specs.declared.edge_test.EdgeTest.{EdgeTest}
 use Rattle.overlay_relate.specs.declared.edge_test.EdgeTest.TheVariants.{BothShapes, CommonSide, SubjectSide}

@@ -6,15 +6,15 @@ use Rattle.std.proofs.lemmas.List.Elements.{All-contains}
 use Rattle.overlay_geom.specs.Edges.{CountedEdge, ends_of, all_ends}
 use Rattle.overlay_geom.specs.Plane.{Edge}
 use Rattle.overlay_geom.specs.Resolved.{IsLongEdge}
+use Rattle.overlay_geom.specs.Rules.{is_filled, fills_of, fill_bits}
+use Rattle.overlay_geom.specs.declared.fill_rule.FillRule.{FillRule}
 use Rattle.overlay_plane.specs.Balance.{HasBalancedCounts}
 use Rattle.overlay_plane.proofs.Entries.{all_of_entries, Contains-from_filter, Contains-from_map}
-use Rattle.overlay_arrange.specs.Content.{IsContent, IsHeld}
-use Rattle.overlay_arrange.specs.Counts.{has_bit}
-use Rattle.overlay_arrange.specs.Graphs.{IsArrangement}
-use Rattle.overlay_arrange.specs.Rules.{is_filled, fills_of, fill_bits}
-use Rattle.overlay_arrange.specs.Vectors.{vector_of}
-use Rattle.overlay_arrange.specs.declared.fill_rule.FillRule.{FillRule}
-use Rattle.overlay_arrange.proofs.SideBits.{bits_show_sides}
+use Rattle.overlay_order.specs.Content.{IsContent, IsHeld}
+use Rattle.overlay_order.specs.Counts.{has_bit}
+use Rattle.overlay_order.specs.Vectors.{vector_of}
+use Rattle.overlay_graph.specs.Graphs.{IsArrangement}
+use Rattle.overlay_graph.proofs.SideBits.{bits_show_sides}
 use Rattle.overlay_relate.specs.Boundaries.{bounding}
 use Rattle.overlay_relate.specs.Bounded.{is_bounding, boundary_of, Bounds}
 use Rattle.overlay_relate.specs.Locations.{differ}

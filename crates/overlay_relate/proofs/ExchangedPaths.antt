@@ -10,18 +10,18 @@ use Rattle.std.proofs.lemmas.List.Sorted.{IsPermutation-append_comm}
 use Rattle.overlay_geom.specs.Plane.{Point, Step, point_lt, edge_of, is_forward}
 use Rattle.overlay_geom.specs.Edges.{CountedEdge, ends_of}
 use Rattle.overlay_geom.specs.declared.solver.Solver.{Solver}
+use Rattle.overlay_geom.specs.declared.options.ShapeType.{ShapeType}
+use Rattle.overlay_geom.specs.declared.options.ShapeType.TheVariants.{Subject, Clip}
 use Rattle.overlay_geom.proofs.Shuffled.{weight_shuffled}
 use Rattle.overlay_plane.specs.Arrangements.{IsSplit}
 use Rattle.overlay_plane.specs.EdgeLists.{IsForwardBy}
 use Rattle.overlay_plane.proofs.LinksKept.{IsLong}
 use Rattle.overlay_plane.proofs.NearChains.{long_forward}
 use Rattle.overlay_plane.proofs.StepsAlong.{long_through}
+use Rattle.overlay_order.specs.Content.{count_for, edge_for, edge_with}
+use Rattle.overlay_order.specs.Counts.{boolean_counts}
 use Rattle.overlay_arrange.specs.Arranged.{IsArranged, most_rounds}
 use Rattle.overlay_arrange.proofs.ArrangedLists.{arranged_forward}
-use Rattle.overlay_arrange.specs.Content.{count_for, edge_for, edge_with}
-use Rattle.overlay_arrange.specs.Counts.{boolean_counts}
-use Rattle.overlay_arrange.specs.declared.options.ShapeType.{ShapeType}
-use Rattle.overlay_arrange.specs.declared.options.ShapeType.TheVariants.{Subject, Clip}
 use Rattle.overlay_builder.specs.GivenPaths.{GivenPath, added_path, added_paths}
 use Rattle.overlay_builder.specs.PathLists.{AddedPath, AddsPaths, HoldsPaths}
 use Rattle.overlay_builder.specs.PathLists.AddsPaths.{no_path, path_and_others}

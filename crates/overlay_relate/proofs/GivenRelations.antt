@@ -4,6 +4,7 @@ use Rattle.std.specs.Prelude.{IsTrue}
 use Rattle.std.proofs.lemmas.Bool.{both_ways}
 use Rattle.overlay_geom.specs.Edges.{CountedEdge, subj_of, clip_of}
 use Rattle.overlay_geom.specs.declared.solver.Solver.{Solver}
+use Rattle.overlay_geom.specs.Rules.{is_filled}
 use Rattle.overlay_plane.specs.FarPoints.{KeepsFarPoints}
 use Rattle.overlay_plane.specs.GivenPredicates.{KeepsPointsOff, HaveSameInteriors, TellOfFarPoints}
 use Rattle.overlay_plane.specs.Meetings.{MeetInWholePoints}
@@ -11,7 +12,6 @@ use Rattle.overlay_plane.specs.Predicates.{InteriorsIntersect, IsWithin, Covers}
 use Rattle.overlay_plane.proofs.GivenPredicates.{off_is_far_by_nothing, kept_points_keep_relations}
 use Rattle.overlay_plane.proofs.GivenPredicates.{far_points_tell_relations}
 use Rattle.overlay_arrange.specs.Arranged.{IsArranged}
-use Rattle.overlay_arrange.specs.Rules.{is_filled}
 use Rattle.overlay_relate.specs.GivenRelations.{TellsOfGivenInteriors, TellsOfGivenWithin, TellOfGivenRelations}
 use Rattle.overlay_relate.specs.GivenRelations.{QueriesTellOfGivenEdges}
 use Rattle.overlay_relate.specs.PredicateQueries.{AreRelations}

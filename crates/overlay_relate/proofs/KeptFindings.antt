@@ -6,12 +6,12 @@ use Rattle.std.proofs.lemmas.List.Elements.{All-nil}
 use Rattle.std.specs.Prelude.{◌↔◌, Ok, IfSome, IsTrue, is_some}
 use Rattle.overlay_geom.specs.Edges.{CountedEdge, weight}
 use Rattle.overlay_geom.specs.declared.solver.Solver.{Solver}
+use Rattle.overlay_geom.specs.Rules.{is_filled}
 use Rattle.overlay_geom.proofs.Merging.{IsMerged-again}
 use Rattle.overlay_plane.specs.Predicates.{IsFillable}
 use Rattle.overlay_plane.specs.Rounds.{after_rounds, pieces_of}
+use Rattle.overlay_order.specs.Content.{IsContent}
 use Rattle.overlay_arrange.specs.Arranged.{IsArranged, WasArranged}
-use Rattle.overlay_arrange.specs.Content.{IsContent}
-use Rattle.overlay_arrange.specs.Rules.{is_filled}
 use Rattle.overlay_arrange.proofs.ArrangedLists.{arranged_of_split}
 use Rattle.overlay_builder.specs.Held.{Held, AnswersQuery}
 use Rattle.overlay_builder.proofs.Queries.{answers_arranged, answers_after}

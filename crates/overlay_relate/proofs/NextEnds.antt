@@ -13,7 +13,7 @@ use Rattle.overlay_geom.proofs.Mapped.{AllPairs-map}
 use Rattle.overlay_geom.proofs.Orders.{point_eq-same, point_eq-of_same, point_lt-order}
 use Rattle.overlay_plane.proofs.LaterEntries.{Each, Each-from_all_pairs, Contains-cases}
 use Rattle.overlay_plane.proofs.Totals.{Contains-head, Contains-later}
-use Rattle.overlay_arrange.proofs.EndSums.{neither_before}
+use Rattle.overlay_graph.proofs.EndSums.{neither_before}
 use Rattle.overlay_relate.specs.EdgeTests.{BorderEnd, plain_end, plain_ends, differ, differs_along, some_next_differ}
 use Rattle.overlay_relate.specs.EdgeTests.{ShareAnEnd}
 use Rattle.overlay_relate.specs.declared.border_end.BorderEnd.{BorderEnd as HeldEnd}

@@ -4,6 +4,8 @@ use Rattle.std.specs.List.{flat_map}
 use Rattle.std.proofs.lemmas.List.Elements.{All-contains}
 use Rattle.overlay_geom.specs.Edges.{CountedEdge, ends_of, all_ends, subj_of, clip_of, winding_by, subject_edge}
 use Rattle.overlay_geom.specs.Plane.{PlanePoint, Step, Edge, IsOn, IsOff, is_forward, edge_of, steps_of}
+use Rattle.overlay_geom.specs.declared.options.ShapeType.{ShapeType}
+use Rattle.overlay_geom.specs.declared.options.ShapeType.TheVariants.{Subject, Clip}
 use Rattle.overlay_plane.specs.FarPoints.{AreWithinHalves, IsFarFrom}
 use Rattle.overlay_plane.specs.Predicates.{InteriorsIntersect, LiesWithin}
 use Rattle.overlay_plane.specs.Snaps.{IsOnStep}
@@ -12,8 +14,6 @@ use Rattle.overlay_plane.proofs.Entries.{Contains-map, Contains-flat_map, all_of
 use Rattle.overlay_plane.proofs.GivenPredicates.{off_is_far_by_nothing, same_place, on_at_place}
 use Rattle.overlay_plane.proofs.NearOff.{IsNearOff, near_off}
 use Rattle.overlay_plane.proofs.SnapsNear.{on_turned}
-use Rattle.overlay_arrange.specs.declared.options.ShapeType.{ShapeType}
-use Rattle.overlay_arrange.specs.declared.options.ShapeType.TheVariants.{Subject, Clip}
 use Rattle.overlay_builder.specs.GivenPaths.{GivenPath, added_paths}
 use Rattle.overlay_builder.specs.PathLists.{HoldsPaths}
 use Rattle.overlay_builder.specs.PathWindings.{winding_of_paths, IsFarFromPath, IsFarFromPaths, HeldPathsWind}

@@ -4,13 +4,13 @@ use Rattle.std.proofs.Common.{map, refl, sym, ap, ◌∙◌, subst}
 use Rattle.std.proofs.lemmas.Bool.{false≢true, and_parts, and_from, or_cases, or_left, or_right, both_ways}
 use Rattle.overlay_geom.specs.Plane.{Edge, PlanePoint, IsOff, is_strictly_below}
 use Rattle.overlay_geom.specs.Edges.{CountedEdge, ends_of, all_ends, subj_of, clip_of, winding_by}
+use Rattle.overlay_geom.specs.Rules.{is_filled}
+use Rattle.overlay_geom.specs.declared.fill_rule.FillRule.{FillRule}
 use Rattle.overlay_plane.specs.EdgePredicates.{has_both, has_common_side}
 use Rattle.overlay_plane.specs.Predicates.{fills_at, fills_above, fills_below, fills_a_side, IsInClosedRegion}
 use Rattle.overlay_plane.specs.Predicates.{LiesWithin}
 use Rattle.overlay_plane.proofs.EdgesTell.{edges_tell_predicates}
-use Rattle.overlay_arrange.specs.Rules.{is_filled}
-use Rattle.overlay_arrange.specs.declared.fill_rule.FillRule.{FillRule}
-use Rattle.overlay_arrange.proofs.RuledContents.{zero_is_empty}
+use Rattle.overlay_order.proofs.RuledContents.{zero_is_empty}
 use Rattle.overlay_relate.specs.PredicateLaws.{TouchesIsIntersectsAlone, PointIntersectsTouches}
 use Rattle.overlay_relate.specs.PredicateLaws.{WithinInteriorsIntersect, EmptyIsWithinNothing}
 use Rattle.overlay_relate.specs.PredicateLaws.{DisjointIsNoIntersection, exchanged, CoversIsWithinExchanged}

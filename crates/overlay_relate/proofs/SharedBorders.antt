@@ -5,13 +5,13 @@ use Rattle.std.specs.List.{flat_map}
 use Rattle.std.proofs.lemmas.Bool.{false≢true}
 use Rattle.overlay_geom.specs.Plane.{Point}
 use Rattle.overlay_geom.specs.Edges.{CountedEdge, subj_of, clip_of}
+use Rattle.overlay_geom.specs.Rules.{is_filled, fill_bits}
+use Rattle.overlay_geom.specs.declared.fill_rule.FillRule.{FillRule}
 use Rattle.overlay_plane.specs.EdgePredicates.{EndsAt, HasSharedEnd, is_border_of}
 use Rattle.overlay_plane.proofs.Entries.{Contains-map, Contains-from_map, Contains-flat_map, Contains-from_flat_map}
 use Rattle.overlay_plane.proofs.LaterEntries.{Contains-cases}
 use Rattle.overlay_plane.proofs.Totals.{Contains-head, Contains-later}
-use Rattle.overlay_arrange.specs.Rules.{is_filled, fill_bits}
-use Rattle.overlay_arrange.specs.Vectors.{Vector, vector_of}
-use Rattle.overlay_arrange.specs.declared.fill_rule.FillRule.{FillRule}
+use Rattle.overlay_order.specs.Vectors.{Vector, vector_of}
 use Rattle.overlay_relate.specs.EdgeTests.{BorderEnd, is_subject_border, is_clip_border, two_ends, border_ends}
 use Rattle.overlay_relate.specs.EdgeTests.{ShareAnEnd}
 use Rattle.overlay_relate.proofs.BitsTell.{subject_border, clip_border, not_both}

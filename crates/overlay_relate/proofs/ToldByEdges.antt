@@ -5,16 +5,16 @@ use Rattle.std.proofs.lemmas.Bool.{not-true}
 use Rattle.std.specs.Prelude.{◌↔◌, IsTrue}
 use Rattle.overlay_geom.specs.Edges.{CountedEdge, subj_of, clip_of}
 use Rattle.overlay_geom.specs.Settled.{IsSettled}
+use Rattle.overlay_geom.specs.Rules.{is_filled}
+use Rattle.overlay_geom.specs.declared.fill_rule.FillRule.{FillRule}
 use Rattle.overlay_plane.specs.Balance.{HasBalancedCounts}
 use Rattle.overlay_plane.specs.EdgePredicates.{SomeEdge, HasSharedEnd, has_both, has_common_side, pokes_out, EdgesTell}
 use Rattle.overlay_plane.specs.Predicates.{fills_a_side, Intersects, IsDisjoint, IsFillable}
 use Rattle.overlay_plane.specs.Regions.{IsPlanar}
 use Rattle.overlay_plane.proofs.EdgesTell.{edges_tell_predicates}
-use Rattle.overlay_arrange.specs.Content.{IsContent, IsAscending}
-use Rattle.overlay_arrange.specs.Graphs.{IsArrangement}
-use Rattle.overlay_arrange.specs.Rules.{is_filled}
-use Rattle.overlay_arrange.specs.declared.fill_rule.FillRule.{FillRule}
-use Rattle.overlay_arrange.proofs.RuledContents.{zero_is_empty, planar_content}
+use Rattle.overlay_order.specs.Content.{IsContent, IsAscending}
+use Rattle.overlay_order.proofs.RuledContents.{zero_is_empty, planar_content}
+use Rattle.overlay_graph.specs.Graphs.{IsArrangement}
 use Rattle.overlay_relate.specs.EdgeTests.{clip_pokes_out}
 use Rattle.overlay_relate.specs.Found.{IsFoundUnder, answer_by, relations_by}
 use Rattle.overlay_relate.specs.PredicateQueries.{Holds, AreRelations}

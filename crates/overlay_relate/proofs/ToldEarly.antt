@@ -3,15 +3,15 @@ use Rattle.std.proofs.Common.{◌≡◌, inl, ℕ, ℤ, Bool, true, false, List,
 use Rattle.std.proofs.lemmas.Bool.{false≢true}
 use Rattle.std.specs.Prelude.{◌↔◌, IsTrue}
 use Rattle.overlay_geom.specs.Edges.{CountedEdge, subj_of, clip_of}
+use Rattle.overlay_geom.specs.Rules.{is_filled, fill_bits}
+use Rattle.overlay_geom.specs.declared.fill_rule.FillRule.{FillRule}
 use Rattle.overlay_plane.specs.Balance.{HasBalancedCounts}
 use Rattle.overlay_plane.specs.EdgePredicates.{SomeEdge, EdgesTell}
 use Rattle.overlay_plane.specs.Predicates.{fills_a_side, IsFillable}
 use Rattle.overlay_plane.proofs.EdgesTell.{edges_tell_predicates}
+use Rattle.overlay_order.specs.Content.{IsContent}
+use Rattle.overlay_graph.specs.FillTests.{some_fill_passes}
 use Rattle.overlay_arrange.specs.Arranged.{WasArranged}
-use Rattle.overlay_arrange.specs.Content.{IsContent}
-use Rattle.overlay_arrange.specs.FillTests.{some_fill_passes}
-use Rattle.overlay_arrange.specs.Rules.{is_filled, fill_bits}
-use Rattle.overlay_arrange.specs.declared.fill_rule.FillRule.{FillRule}
 use Rattle.overlay_relate.specs.EdgeTests.{bits_pass, edge_passes}
 use Rattle.overlay_relate.specs.Findings.{telling_test, is_told, Tells}
 use Rattle.overlay_relate.specs.Found.{IsFoundUnder, answer_by}

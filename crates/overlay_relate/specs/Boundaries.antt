@@ -1,8 +1,8 @@
 -- The edges that bound a shape, by the fill bits of the edges of a graph.
 use Rattle.std.specs.Prelude.{cond, List, [], ◌∷◌}
 use Rattle.overlay_geom.specs.Plane.{Edge}
-use Rattle.overlay_arrange.specs.Counts.{has_bit}
-use Rattle.overlay_arrange.specs.Vectors.{Vector}
+use Rattle.overlay_order.specs.Counts.{has_bit}
+use Rattle.overlay_order.specs.Vectors.{Vector}
 use Rattle.overlay_relate.specs.Locations.{differ}
 
 -- the edge, if the subject fills exactly one side of it, as its bits say

@@ -5,8 +5,8 @@ use Rattle.overlay_geom.specs.Points.{plain_point}
 use Rattle.overlay_geom.specs.Edges.{CountedEdge, subj_of, clip_of}
 use Rattle.overlay_plane.specs.Predicates.{fills_above, fills_below, fills_a_side}
 use Rattle.overlay_plane.specs.EdgePredicates.{has_both, has_common_side, pokes_out}
-use Rattle.overlay_arrange.specs.Counts.{has_bit}
-use Rattle.overlay_arrange.specs.Vectors.{Vector}
+use Rattle.overlay_order.specs.Counts.{has_bit}
+use Rattle.overlay_order.specs.Vectors.{Vector}
 use Rattle.overlay_relate.specs.declared.border_end.BorderEnd.{BorderEnd as HeldEnd}
 use Rattle.overlay_relate.specs.declared.edge_test.EdgeTest.{EdgeTest}
 use Rattle.overlay_relate.specs.declared.edge_test.EdgeTest.TheVariants.{BothShapes, CommonSide, SubjectSide}

@@ -1,11 +1,11 @@
 -- What a query finds of an arrangement, which its builder keeps: the answer of one predicate, or those of all.
 use Rattle.std.specs.Prelude.{◌≡◌, ◌↔◌, ℕ, Bool, true, false, List, Option, IsTrue, IfSome}
 use Rattle.overlay_geom.specs.Edges.{CountedEdge}
+use Rattle.overlay_geom.specs.Rules.{is_filled}
+use Rattle.overlay_geom.specs.declared.fill_rule.FillRule.{FillRule}
 use Rattle.overlay_plane.specs.Predicates.{IsFillable}
+use Rattle.overlay_order.specs.Content.{IsContent}
 use Rattle.overlay_arrange.specs.Arranged.{WasArranged}
-use Rattle.overlay_arrange.specs.Content.{IsContent}
-use Rattle.overlay_arrange.specs.Rules.{is_filled}
-use Rattle.overlay_arrange.specs.declared.fill_rule.FillRule.{FillRule}
 use Rattle.overlay_builder.specs.GivenPaths.{IsBalancedUnlessFailed}
 use Rattle.overlay_relate.specs.Found.{IsFoundUnder, answer_by}
 use Rattle.overlay_relate.specs.PredicateQueries.{Holds}

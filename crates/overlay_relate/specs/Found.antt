@@ -1,9 +1,9 @@
 -- What is found of the edges of an arrangement, from which each predicate is answered.
 use Rattle.std.specs.Prelude.{◌↔◌, Bool, not, ◌&&◌, List, IsTrue}
 use Rattle.overlay_geom.specs.Edges.{CountedEdge}
+use Rattle.overlay_geom.specs.Rules.{is_filled}
+use Rattle.overlay_geom.specs.declared.fill_rule.FillRule.{FillRule}
 use Rattle.overlay_plane.specs.Predicates.{IsFillable}
-use Rattle.overlay_arrange.specs.Rules.{is_filled}
-use Rattle.overlay_arrange.specs.declared.fill_rule.FillRule.{FillRule}
 use Rattle.overlay_relate.specs.PredicateQueries.{Holds}
 use Rattle.overlay_relate.specs.declared.found.Found.{Found}
 use Rattle.overlay_relate.specs.declared.predicate.Predicate.{Predicate}

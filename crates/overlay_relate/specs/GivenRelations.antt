@@ -2,10 +2,10 @@
 use Rattle.std.specs.Prelude.{◌≡◌, ◌↔◌, ℕ, ℤ, Bool, true, false, ◌&&◌, List, Ok, IsTrue}
 use Rattle.overlay_geom.specs.Edges.{CountedEdge, subj_of, clip_of}
 use Rattle.overlay_geom.specs.Plane.{PlanePoint}
+use Rattle.overlay_geom.specs.Rules.{is_filled}
 use Rattle.overlay_plane.specs.FarPoints.{IsFarFrom}
 use Rattle.overlay_plane.specs.Meetings.{MeetInWholePoints}
 use Rattle.overlay_plane.specs.Predicates.{fills_at, InteriorsIntersect, LiesWithin, IsWithin, Covers}
-use Rattle.overlay_arrange.specs.Rules.{is_filled}
 use Rattle.overlay_relate.specs.PredicateBuilder.{PredicateBuilder}
 use Rattle.overlay_relate.specs.PredicateQueries.{TellsRelation, TellsRelations}
 use Rattle.overlay_relate.specs.declared.relations.Relations.{Relations}

@@ -2,15 +2,15 @@
 use Rattle.std.specs.Prelude.{◌≡◌, ◌↔◌, ℕ, ℤ, Bool, true, false, ◌&&◌, List, IsTrue}
 use Rattle.overlay_geom.specs.Edges.{CountedEdge}
 use Rattle.overlay_geom.specs.Plane.{PlanePoint}
+use Rattle.overlay_geom.specs.declared.options.ShapeType.{ShapeType}
+use Rattle.overlay_geom.specs.declared.options.ShapeType.TheVariants.{Subject, Clip}
+use Rattle.overlay_geom.specs.declared.solver.Solver.{Solver}
 use Rattle.overlay_plane.specs.Meetings.{MeetInWholePoints}
 use Rattle.overlay_plane.specs.Predicates.{InteriorsIntersect, IsWithin, Covers}
 use Rattle.overlay_arrange.specs.Arranged.{IsArranged}
-use Rattle.overlay_arrange.specs.declared.options.ShapeType.{ShapeType}
-use Rattle.overlay_arrange.specs.declared.options.ShapeType.TheVariants.{Subject, Clip}
 use Rattle.overlay_builder.specs.GivenPaths.{GivenPath, added_paths}
 use Rattle.overlay_builder.specs.PathLists.{HoldsPaths}
 use Rattle.overlay_builder.specs.PathWindings.{winding_of_paths, IsFarFromPaths}
-use Rattle.overlay_geom.specs.declared.solver.Solver.{Solver}
 
 -- the side fills the point
 abbrev pub path_fills : (ℤ → Bool) → List GivenPath → ShapeType → PlanePoint → Bool

@@ -2,13 +2,13 @@
 use Rattle.std.specs.Prelude.{◌≡◌, ◌↔◌, false, List, [], map}
 use Rattle.overlay_geom.specs.Plane.{PlanePoint, IsOff}
 use Rattle.overlay_geom.specs.Edges.{CountedEdge, all_ends, subj_of, clip_of}
+use Rattle.overlay_geom.specs.Rules.{is_filled, rules_hold}
+use Rattle.overlay_geom.specs.declared.fill_rule.FillRule.{FillRule}
+use Rattle.overlay_geom.specs.declared.overlay_rule.OverlayRule.TheVariants.{Subject, Intersect, Difference}
 use Rattle.overlay_plane.specs.Balance.{HasBalancedCounts}
 use Rattle.overlay_plane.specs.Predicates.{fills_at, HoldsSomewhere, Intersects, InteriorsIntersect, Touches}
 use Rattle.overlay_plane.specs.Predicates.{PointIntersects, IsWithin, Covers, IsDisjoint}
 use Rattle.overlay_plane.specs.Regions.{IsPlanar}
-use Rattle.overlay_arrange.specs.Rules.{is_filled, rules_hold}
-use Rattle.overlay_arrange.specs.declared.fill_rule.FillRule.{FillRule}
-use Rattle.overlay_arrange.specs.declared.overlay_rule.OverlayRule.TheVariants.{Subject, Intersect, Difference}
 
 -- shapes touch exactly where they intersect and their interiors do not
 abbrev pub TouchesIsIntersectsAlone : Type 0

@@ -3,9 +3,9 @@ use Rattle.std.specs.Prelude.{◌≡◌, ◌↔◌, ℕ, ℤ, Bool, List, Result
 use Rattle.overlay_geom.specs.Edges.{CountedEdge}
 use Rattle.overlay_geom.specs.declared.error.OverlayError.{OverlayError}
 use Rattle.overlay_geom.specs.declared.error.OverlayError.TheVariants.{Failed}
+use Rattle.overlay_geom.specs.Rules.{is_filled}
 use Rattle.overlay_plane.specs.Predicates.{Intersects, InteriorsIntersect, Touches, PointIntersects, IsWithin, Covers}
 use Rattle.overlay_plane.specs.Predicates.{IsDisjoint, IsFillable}
-use Rattle.overlay_arrange.specs.Rules.{is_filled}
 use Rattle.overlay_builder.specs.Held.{AnswersQuery}
 use Rattle.overlay_relate.specs.PredicateBuilder.{PredicateBuilder, held_by}
 use Rattle.overlay_relate.specs.declared.predicate.Predicate.{Predicate}

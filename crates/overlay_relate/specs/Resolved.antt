@@ -2,10 +2,10 @@
 use Rattle.std.specs.Prelude.{ℤ, List}
 use Rattle.overlay_geom.specs.Edges.{CountedEdge, all_ends}
 use Rattle.overlay_geom.specs.Plane.{Edge}
-use Rattle.overlay_arrange.specs.Content.{plain_edges}
-use Rattle.overlay_arrange.specs.Counts.{boolean_counts}
-use Rattle.overlay_arrange.specs.declared.count.ShapeCountBoolean.{ShapeCountBoolean}
-use Rattle.overlay_arrange.specs.declared.edge.CountedEdge.{CountedEdge as HeldEdge}
+use Rattle.overlay_order.specs.Content.{plain_edges}
+use Rattle.overlay_order.specs.Counts.{boolean_counts}
+use Rattle.overlay_order.specs.declared.count.ShapeCountBoolean.{ShapeCountBoolean}
+use Rattle.overlay_order.specs.declared.edge.CountedEdge.{CountedEdge as HeldEdge}
 
 -- the edges with their counts
 abbrev pub edges_once : {I : Type 0} → (I → ℤ) → List (HeldEdge I ShapeCountBoolean) → List CountedEdge

@@ -1,21 +1,21 @@
 //! The edges that bound the shape of an arrangement.
 
 ghost use Rattle.std.specs.Prelude.{◌≡◌, ◌++◌, map, flat_map, All, IfOk, OnOk};
-ghost use Rattle.overlay_arrange.specs.Counts.{has_bit};
-ghost use Rattle.overlay_arrange.specs.Graphs.{graph_edges};
-ghost use Rattle.overlay_arrange.specs.Rules.{is_filled};
-ghost use Rattle.overlay_arrange.specs.Vectors.{plain_vector};
+ghost use Rattle.overlay_order.specs.Counts.{has_bit};
+ghost use Rattle.overlay_order.specs.Vectors.{plain_vector};
+ghost use Rattle.overlay_geom.specs.Rules.{is_filled};
 ghost use Rattle.overlay_geom.specs.Resolved.{plain_edges, IsLongEdge};
+ghost use Rattle.overlay_graph.specs.Graphs.{graph_edges};
 ghost use Rattle.overlay_plane.specs.Balance.{HasBalancedCounts};
 ghost use Rattle.overlay_relate.specs.Boundaries.{bounding};
 ghost use Rattle.overlay_relate.specs.Bounded.{Bounds};
 ghost use Rattle.overlay_relate.specs.Locations.{differ};
 
-use overlay_arrange::count::EdgeCount;
-use overlay_arrange::graph::Graph;
-use overlay_arrange::vector::{DataVectorEdge, SUBJ_LEFT, SUBJ_RIGHT, SideFill};
 use overlay_geom::edge::IntEdge;
 use overlay_geom::number::IntNumber;
+use overlay_graph::graph::Graph;
+use overlay_order::count::EdgeCount;
+use overlay_order::vector::{DataVectorEdge, SUBJ_LEFT, SUBJ_RIGHT, SideFill};
 use std::alloc::{AllocError, Allocator};
 
 /// Returns the edges with exactly one side filled by the subject, in their order.

@@ -1,9 +1,9 @@
 //! What answers predicates, found from the filled sides of the edges of an arrangement.
 
 ghost use Rattle.std.specs.Prelude.{◌≡◌, ◌↔◌, ◌⊎◌, false, IsTrue, IfOk, IfSome};
-ghost use Rattle.overlay_arrange.specs.FillTests.{some_fill_passes};
-ghost use Rattle.overlay_arrange.specs.Graphs.{graph_edges};
-ghost use Rattle.overlay_arrange.specs.Rules.{is_filled};
+ghost use Rattle.overlay_graph.specs.FillTests.{some_fill_passes};
+ghost use Rattle.overlay_graph.specs.Graphs.{graph_edges};
+ghost use Rattle.overlay_geom.specs.Rules.{is_filled};
 ghost use Rattle.overlay_plane.specs.Balance.{HasBalancedCounts};
 ghost use Rattle.overlay_plane.specs.EdgePredicates.{SomeEdge, HasSharedEnd, has_both};
 ghost use Rattle.overlay_relate.specs.EdgeTests.{bits_pass};
@@ -15,10 +15,10 @@ use crate::finding::{Finding, Told};
 use crate::found::Found;
 use crate::predicate::Predicate;
 use crate::shared_end::has_shared_end;
-use overlay_arrange::count::EdgeCount;
-use overlay_arrange::fill_rule::FillRule;
-use overlay_arrange::graph::Graph;
+use overlay_geom::fill_rule::FillRule;
 use overlay_geom::number::IntNumber;
+use overlay_graph::graph::Graph;
+use overlay_order::count::EdgeCount;
 use std::alloc::{AllocError, Allocator};
 
 /// Returns the answer of the predicate where the sides alone tell it, else the answers of all predicates. No edge

@@ -4,8 +4,8 @@ ghost use Rattle.std.specs.Prelude.{◌≡◌, map};
 ghost use Rattle.std.specs.List.{list_any};
 ghost use Rattle.overlay_relate.specs.EdgeTests.{bits_pass, sides_pass};
 
-use overlay_arrange::fill_test::FillTest;
-use overlay_arrange::vector::{
+use overlay_graph::fill_test::FillTest;
+use overlay_order::vector::{
     CLIP_LEFT, CLIP_RIGHT, DataVectorEdge, SUBJ_LEFT, SUBJ_RIGHT, SideFill,
 };
 

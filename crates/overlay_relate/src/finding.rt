@@ -5,7 +5,7 @@ ghost use Rattle.overlay_relate.specs.Findings.{finding_answer};
 
 use crate::found::Found;
 use crate::predicate::Predicate;
-use overlay_arrange::fill_rule::FillRule;
+use overlay_geom::fill_rule::FillRule;
 
 /// The answer of one predicate under a rule.
 #[derive(Clone, Copy)]

@@ -5,7 +5,7 @@ ghost use Rattle.overlay_relate.specs.Found.{answer_by, relations_by};
 
 use crate::predicate::Predicate;
 use crate::relations::Relations;
-use overlay_arrange::fill_rule::FillRule;
+use overlay_geom::fill_rule::FillRule;
 
 /// What was found of the edges of an arrangement, with the sides that the two shapes fill under a rule.
 #[derive(Clone, Copy)]

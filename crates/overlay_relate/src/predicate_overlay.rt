@@ -1,11 +1,11 @@
 //! The builder for predicates: it holds the subject and the clip that predicates are asked of.
 
 use crate::finding::Finding;
-use overlay_arrange::count::ShapeCountBoolean;
-use overlay_arrange::fill_rule::FillRule;
 use overlay_builder::builder_core::BuilderCore;
 use overlay_builder::solver::Solver;
+use overlay_geom::fill_rule::FillRule;
 use overlay_geom::integer::OverlayInt;
+use overlay_order::count::ShapeCountBoolean;
 use std::alloc::Allocator;
 use std::marker::Model;
 
@@ -14,7 +14,7 @@ mod constructors;
 mod lists;
 mod predicates;
 
-pub use overlay_arrange::options::ShapeType;
+pub use overlay_geom::options::ShapeType;
 
 /// A builder of counted edges of a subject and a clip that answers predicates: how the two shapes lie to each
 /// other. Points on one line with their two neighbours are always dropped from what is added.

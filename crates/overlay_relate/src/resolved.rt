@@ -4,18 +4,18 @@ ghost use Rattle.std.specs.Prelude.{◌≡◌, ◌↔◌, All, IsTrue, IfOk, IsO
 ghost use Rattle.std.specs.List.Sorted.{IsPermutation};
 ghost use Rattle.overlay_geom.specs.Points.{plain_points, AllInRange};
 ghost use Rattle.overlay_geom.specs.Resolved.{plain_edges, IsLongEdge, AreApart, IsResolved};
-ghost use Rattle.overlay_arrange.specs.Content.{IsAscending};
+ghost use Rattle.overlay_order.specs.Content.{IsAscending};
 ghost use Rattle.overlay_arrange.specs.Runs.{IsInOrder};
 ghost use Rattle.overlay_relate.specs.Resolved.{edges_once, ends_once};
 
 use crate::contour_edges::contour_edges;
-use overlay_arrange::count::ShapeCountBoolean;
-use overlay_arrange::edge::{CountedEdge, compare_edges};
-use overlay_arrange::settle::is_settled;
 use overlay_geom::edge::IntEdge;
 use overlay_geom::error::OverlayError;
 use overlay_geom::number::IntNumber;
 use overlay_geom::point::IntPoint;
+use overlay_order::count::ShapeCountBoolean;
+use overlay_order::edge::{CountedEdge, compare_edges};
+use overlay_pairs::settle::is_settled;
 use std::alloc::{AllocError, Allocator};
 
 /// Returns whether two steps at different places of the contour never share a point that isn't an end of both: so

@@ -1,18 +1,18 @@
 //! Ends that the borders of two shapes share.
 
 ghost use Rattle.std.specs.Prelude.{◌≡◌, ◌++◌, ◌↔◌, map, flat_map, IsTrue, IfOk, OnOk};
-ghost use Rattle.overlay_arrange.specs.Graphs.{graph_edges};
-ghost use Rattle.overlay_arrange.specs.Rules.{is_filled};
-ghost use Rattle.overlay_arrange.specs.Vectors.{plain_vector};
+ghost use Rattle.overlay_order.specs.Vectors.{plain_vector};
+ghost use Rattle.overlay_geom.specs.Rules.{is_filled};
+ghost use Rattle.overlay_graph.specs.Graphs.{graph_edges};
 ghost use Rattle.overlay_plane.specs.EdgePredicates.{HasSharedEnd};
 ghost use Rattle.overlay_relate.specs.EdgeTests.{plain_end, plain_ends, border_ends, differ, some_next_differ};
 
 use crate::border_end::BorderEnd;
-use overlay_arrange::count::EdgeCount;
-use overlay_arrange::graph::Graph;
-use overlay_arrange::vector::{CLIP_LEFT, CLIP_RIGHT, DataVectorEdge, SUBJ_LEFT, SUBJ_RIGHT};
 use overlay_geom::edge::compare_points;
 use overlay_geom::number::IntNumber;
+use overlay_graph::graph::Graph;
+use overlay_order::count::EdgeCount;
+use overlay_order::vector::{CLIP_LEFT, CLIP_RIGHT, DataVectorEdge, SUBJ_LEFT, SUBJ_RIGHT};
 use std::alloc::{AllocError, Allocator};
 
 /// Returns whether some point is an end of an edge that the subject alone fills on one side alone, and of an edge that

@@ -7,9 +7,9 @@ use Rattle.overlay_geom.specs.Edges.{CountedEdge, weight}
 use Rattle.overlay_geom.specs.Plane.{Point, Step, edge_of, is_forward}
 use Rattle.overlay_geom.specs.declared.error.OverlayError.{OverlayError}
 use Rattle.overlay_plane.specs.Carried.{Carried, edges_in}
-use Rattle.overlay_arrange.specs.Content.{edge_with}
-use Rattle.overlay_arrange.specs.Counts.{string_counts}
-use Rattle.overlay_arrange.specs.declared.string_count.ShapeCountString.{ShapeCountString}
+use Rattle.overlay_order.specs.Content.{edge_with}
+use Rattle.overlay_order.specs.Counts.{string_counts}
+use Rattle.overlay_order.specs.declared.string_count.ShapeCountString.{ShapeCountString}
 use Rattle.overlay_builder.specs.BuilderCalls.{AddsPathAsAsked}
 use Rattle.overlay_builder.specs.Held.{Held, plain_held}
 use Rattle.overlay_builder.specs.PathLists.{AddsOne, AddsAsAsked, WouldWeighTooMuch}

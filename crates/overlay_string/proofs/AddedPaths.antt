@@ -1,8 +1,8 @@
 -- What paths that are added to a builder for strings leave of it.
 use Rattle.std.proofs.Common.{◌≡◌, ap}
 use Rattle.overlay_plane.specs.Carried.{Carried, edges_in}
-use Rattle.overlay_arrange.specs.declared.options.IntOverlayOptions.{IntOverlayOptions}
-use Rattle.overlay_arrange.specs.declared.string_count.ShapeCountString.{ShapeCountString}
+use Rattle.overlay_geom.specs.declared.options.IntOverlayOptions.{IntOverlayOptions}
+use Rattle.overlay_order.specs.declared.string_count.ShapeCountString.{ShapeCountString}
 use Rattle.overlay_builder.specs.Held.{Held}
 use Rattle.overlay_string.specs.StringBuilder.{StringBuilder}
 

@@ -6,11 +6,11 @@ use Rattle.std.proofs.lemmas.List.Elements.{All-contains, Contains-append_cases}
 use Rattle.std.proofs.lemmas.List.Sorted.{IsPermutation-trans, IsPermutation-append_left, IsPermutation-append_right}
 use Rattle.overlay_geom.specs.Edges.{CountedEdge, ends_of, goes_along, goes_against}
 use Rattle.overlay_geom.specs.Plane.{Step, point_lt}
+use Rattle.overlay_geom.specs.declared.fill_rule.FillRule.{FillRule}
 use Rattle.overlay_geom.proofs.Orders.{point_lt-itself}
 use Rattle.overlay_plane.specs.EdgeLists.{IsForwardBy}
 use Rattle.overlay_plane.proofs.Entries.{Contains-from_flat_map}
 use Rattle.overlay_plane.proofs.MarkedLinks.{only_entry}
-use Rattle.overlay_arrange.specs.declared.fill_rule.FillRule.{FillRule}
 use Rattle.overlay_string.specs.ClipPieces.{is_kept, string_steps, clip_pieces}
 use Rattle.overlay_string.specs.Laws.{PathsTakeEachPieceOnce, EachPieceIsClippedOnce, steps_of_paths, inside_alone}
 use Rattle.overlay_string.specs.Laws.{outside_alone, boundary_pieces, string_pieces}

@@ -3,16 +3,16 @@ use Rattle.std.proofs.Common.{◌≡◌, ℤ, cond, List, [], ◌∷◌, ◌++�
 use Rattle.std.specs.List.{flat_map}
 use Rattle.overlay_geom.specs.Edges.{CountedEdge}
 use Rattle.overlay_geom.specs.Plane.{Step}
+use Rattle.overlay_geom.specs.Rules.{fills_of}
+use Rattle.overlay_geom.specs.declared.fill_rule.FillRule.{FillRule}
 use Rattle.overlay_plane.specs.Carried.{edges_in}
 use Rattle.overlay_plane.proofs.Entries.{flat_map-same}
-use Rattle.overlay_arrange.specs.Counts.{has_bit, string_counts}
-use Rattle.overlay_arrange.specs.Graphs.{carried_vector, carried_vectors}
-use Rattle.overlay_arrange.specs.Rules.{fills_of}
-use Rattle.overlay_arrange.specs.Vectors.{Vector, plain_vector, vector_of}
-use Rattle.overlay_arrange.specs.declared.fill_rule.FillRule.{FillRule}
-use Rattle.overlay_arrange.specs.declared.string_count.ShapeCountString.{ShapeCountString}
-use Rattle.overlay_arrange.specs.declared.vector.DataVectorEdge.{DataVectorEdge}
-use Rattle.overlay_arrange.proofs.SideBits.{bits_show_sides}
+use Rattle.overlay_order.specs.Counts.{has_bit, string_counts}
+use Rattle.overlay_order.specs.Vectors.{Vector, plain_vector, vector_of}
+use Rattle.overlay_order.specs.declared.string_count.ShapeCountString.{ShapeCountString}
+use Rattle.overlay_order.specs.declared.vector.DataVectorEdge.{DataVectorEdge}
+use Rattle.overlay_graph.specs.Graphs.{carried_vector, carried_vectors}
+use Rattle.overlay_graph.proofs.SideBits.{bits_show_sides}
 use Rattle.overlay_string.specs.ClipPieces.{keeps_sides, is_kept, string_steps, clip_pieces}
 use Rattle.overlay_string.specs.Pieces.{pieces_by_bits}
 use Rattle.overlay_string.specs.declared.clip_rule.ClipRule.{ClipRule}

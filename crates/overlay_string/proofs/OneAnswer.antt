@@ -8,11 +8,11 @@ use Rattle.overlay_geom.specs.Plane.{Point, point_lt}
 use Rattle.overlay_geom.specs.declared.error.OverlayError.{OverlayError}
 use Rattle.overlay_geom.specs.declared.error.OverlayError.TheVariants.{Memory, NotSettled, TooManyEdges, Failed}
 use Rattle.overlay_geom.specs.declared.solver.Solver.TheVariants.{Snapping}
+use Rattle.overlay_geom.specs.declared.options.ContourDirection.TheVariants.{CounterClockwise}
 use Rattle.overlay_plane.specs.EdgeLists.{IsForwardBy}
 use Rattle.overlay_plane.proofs.NearChains.{long_forward}
 use Rattle.overlay_plane.proofs.OneArrangement.{one_arrangement_of_shuffled}
 use Rattle.overlay_arrange.specs.Arranged.{IsArranged}
-use Rattle.overlay_arrange.specs.declared.options.ContourDirection.TheVariants.{CounterClockwise}
 use Rattle.overlay_builder.specs.Determined.{MemoryAloneRefuses}
 use Rattle.overlay_builder.specs.PathLists.{AddedPath, HoldsPaths}
 use Rattle.overlay_builder.proofs.LeadOn.{HasForwardEdges, paths_lead_on}

@@ -6,9 +6,9 @@ use Rattle.std.specs.Prelude.{◌==◌}
 use Rattle.std.proofs.lemmas.Bool.{false≢true}
 use Rattle.std.proofs.lemmas.List.Sorted.{IsPermutation-refl, IsPermutation-trans, IsPermutation-append_right}
 use Rattle.overlay_geom.specs.Edges.{CountedEdge}
+use Rattle.overlay_geom.specs.Rules.{fills_of}
+use Rattle.overlay_geom.specs.declared.fill_rule.FillRule.{FillRule}
 use Rattle.overlay_plane.proofs.SplitLists.{IsPermutation-past}
-use Rattle.overlay_arrange.specs.Rules.{fills_of}
-use Rattle.overlay_arrange.specs.declared.fill_rule.FillRule.{FillRule}
 use Rattle.overlay_string.specs.ClipPieces.{filled_side_count, keeps_sides, is_kept, string_steps, clip_pieces}
 use Rattle.overlay_string.specs.Laws.{inside_alone, outside_alone, is_on_boundary, boundary_pieces, string_pieces}
 

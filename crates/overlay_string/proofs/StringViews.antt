@@ -2,9 +2,9 @@
 use Rattle.std.proofs.Common.{◌≡◌, ℕ, [], sym, subst}
 use Rattle.std.specs.Prelude.{◌≢◌, Ok}
 use Rattle.overlay_geom.specs.declared.solver.Solver.{Solver}
+use Rattle.overlay_geom.specs.declared.fill_rule.FillRule.{FillRule}
+use Rattle.overlay_graph.specs.Graphs.{Graph, graph_edges}
 use Rattle.overlay_arrange.specs.Arranged.{IsArranged}
-use Rattle.overlay_arrange.specs.Graphs.{Graph, graph_edges}
-use Rattle.overlay_arrange.specs.declared.fill_rule.FillRule.{FillRule}
 use Rattle.overlay_builder.specs.Held.{AnswersQuery}
 use Rattle.overlay_string.specs.StringBuilder.{StringBuilder, held_by}
 use Rattle.overlay_string.specs.StringViews.{IsStringView}

@@ -4,9 +4,9 @@ use Rattle.std.specs.Prelude.{◌≡◌, ◌≢◌, true, false, List, [], ◌�
 use Rattle.overlay_geom.specs.Edges.{CountedEdge, ends_of}
 use Rattle.overlay_geom.specs.Plane.{Point, Step, is_forward, reversed_step, backward}
 use Rattle.overlay_geom.specs.declared.solver.Solver.{Solver}
+use Rattle.overlay_geom.specs.declared.fill_rule.FillRule.{FillRule}
 use Rattle.overlay_plane.specs.EdgeLists.{IsForwardBy}
 use Rattle.overlay_arrange.specs.Arranged.{IsArranged}
-use Rattle.overlay_arrange.specs.declared.fill_rule.FillRule.{FillRule}
 use Rattle.overlay_string.specs.ClipPieces.{clip_pieces}
 use Rattle.overlay_string.specs.declared.clip_rule.ClipRule.{ClipRule}
 

@@ -2,8 +2,8 @@
 use Rattle.std.specs.Prelude.{ℕ, ◌+◌, Bool, cond, ◌&&◌, ◌||◌, ◌==◌, List, [], ◌∷◌, ◌++◌, flat_map}
 use Rattle.overlay_geom.specs.Edges.{CountedEdge, goes_along, goes_against}
 use Rattle.overlay_geom.specs.Plane.{Step}
-use Rattle.overlay_arrange.specs.Rules.{fills_of, bit}
-use Rattle.overlay_arrange.specs.declared.fill_rule.FillRule.{FillRule}
+use Rattle.overlay_geom.specs.Rules.{fills_of, bit}
+use Rattle.overlay_geom.specs.declared.fill_rule.FillRule.{FillRule}
 use Rattle.overlay_string.specs.declared.clip_rule.ClipRule.{ClipRule}
 
 -- on how many of its sides the shape fills an edge, of which it fills the upper side, or not, and the lower one, or not

@@ -3,9 +3,9 @@ use Rattle.std.specs.Prelude.{Bool, true, false, cond, ◌==◌, List, [], ◌++
 use Rattle.std.specs.List.Sorted.{IsPermutation}
 use Rattle.overlay_geom.specs.Edges.{CountedEdge, ends_of}
 use Rattle.overlay_geom.specs.Plane.{Point, Step, path_steps}
+use Rattle.overlay_geom.specs.Rules.{fills_of}
+use Rattle.overlay_geom.specs.declared.fill_rule.FillRule.{FillRule}
 use Rattle.overlay_plane.specs.EdgeLists.{IsForwardBy}
-use Rattle.overlay_arrange.specs.Rules.{fills_of}
-use Rattle.overlay_arrange.specs.declared.fill_rule.FillRule.{FillRule}
 use Rattle.overlay_string.specs.ClipPaths.{ArePathsOf}
 use Rattle.overlay_string.specs.ClipPieces.{filled_side_count, string_steps, clip_pieces}
 use Rattle.overlay_string.specs.declared.clip_rule.ClipRule.{ClipRule}

@@ -6,7 +6,7 @@ use Rattle.overlay_geom.specs.Plane.{Point}
 use Rattle.overlay_geom.specs.declared.error.OverlayError.{OverlayError}
 use Rattle.overlay_geom.specs.declared.error.OverlayError.TheVariants.{Memory}
 use Rattle.overlay_geom.specs.declared.solver.Solver.TheVariants.{Snapping}
-use Rattle.overlay_arrange.specs.declared.fill_rule.FillRule.{FillRule}
+use Rattle.overlay_geom.specs.declared.fill_rule.FillRule.{FillRule}
 use Rattle.overlay_string.specs.OneShot.{AreClippedOfPaths, MayRefusePaths, shape_and_strings}
 use Rattle.overlay_string.specs.StringSlices.{AreSlicedOfPaths}
 use Rattle.overlay_string.specs.declared.clip_rule.ClipRule.{ClipRule}

@@ -5,10 +5,10 @@ use Rattle.overlay_geom.specs.Points.{plain_point}
 use Rattle.overlay_string.specs.declared.piece.Piece.{Piece}
 use Rattle.overlay_string.specs.declared.piece.Way.{Way}
 use Rattle.overlay_string.specs.declared.piece.Way.TheVariants.{Onward, Back}
-use Rattle.overlay_arrange.specs.Counts.{has_bit, string_counts}
-use Rattle.overlay_arrange.specs.Graphs.{carried_vector}
-use Rattle.overlay_arrange.specs.declared.string_count.ShapeCountString.{ShapeCountString}
-use Rattle.overlay_arrange.specs.declared.vector.DataVectorEdge.{DataVectorEdge}
+use Rattle.overlay_order.specs.Counts.{has_bit, string_counts}
+use Rattle.overlay_order.specs.declared.string_count.ShapeCountString.{ShapeCountString}
+use Rattle.overlay_order.specs.declared.vector.DataVectorEdge.{DataVectorEdge}
+use Rattle.overlay_graph.specs.Graphs.{carried_vector}
 use Rattle.overlay_string.specs.ClipPaths.{TakesFirst, IsWalkFrom, IsPathOf, points_along}
 use Rattle.overlay_string.specs.ClipPieces.{keeps_sides, string_steps}
 use Rattle.overlay_string.specs.declared.clip_rule.ClipRule.{ClipRule}

@@ -2,8 +2,8 @@
 use Rattle.std.specs.Prelude.{◌≡◌, ℕ, Bool, false, List, [], Result}
 use Rattle.overlay_geom.specs.Edges.{CountedEdge, weight}
 use Rattle.overlay_geom.specs.declared.error.OverlayError.{OverlayError}
-use Rattle.overlay_arrange.specs.Options.{AreOptions}
-use Rattle.overlay_arrange.specs.declared.options.IntOverlayOptions.{IntOverlayOptions}
+use Rattle.overlay_geom.specs.Options.{AreOptions}
+use Rattle.overlay_geom.specs.declared.options.IntOverlayOptions.{IntOverlayOptions}
 use Rattle.overlay_builder.specs.BuilderCalls.{AddsPathAsAsked}
 use Rattle.overlay_builder.specs.Held.{Held}
 use Rattle.overlay_builder.specs.PathLists.{AddedPath, AddsAsAsked}

@@ -4,8 +4,8 @@ use Rattle.overlay_geom.specs.Edges.{CountedEdge, subject_edge}
 use Rattle.overlay_geom.specs.Plane.{Point, Step, edge_of, is_forward}
 use Rattle.overlay_geom.specs.Points.{plain_points}
 use Rattle.overlay_geom.specs.declared.point.IntPoint.{IntPoint}
-use Rattle.overlay_arrange.specs.Content.{edge_with}
-use Rattle.overlay_arrange.specs.declared.string_count.ShapeCountString.{ShapeCountString}
+use Rattle.overlay_order.specs.Content.{edge_with}
+use Rattle.overlay_order.specs.declared.string_count.ShapeCountString.{ShapeCountString}
 use Rattle.overlay_builder.specs.PathLists.{AddedPath, path_as}
 use Rattle.overlay_builder.specs.declared.path.PathKind.{PathKind}
 use Rattle.overlay_builder.specs.declared.path.PathKind.TheVariants.{Open, Closed, Thinned}

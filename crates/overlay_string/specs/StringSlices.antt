@@ -4,11 +4,11 @@ use Rattle.std.specs.Int.{Width}
 use Rattle.overlay_geom.specs.Plane.{Point}
 use Rattle.overlay_geom.specs.Edges.{CountedEdge}
 use Rattle.overlay_geom.specs.declared.solver.Solver.{Solver}
+use Rattle.overlay_geom.specs.declared.fill_rule.FillRule.{FillRule}
+use Rattle.overlay_geom.specs.declared.options.ContourDirection.TheVariants.{CounterClockwise}
+use Rattle.overlay_geom.specs.declared.options.IntOverlayOptions.{IntOverlayOptions}
+use Rattle.overlay_graph.specs.Graphs.{Graph, graph_edges}
 use Rattle.overlay_arrange.specs.Arranged.{IsArranged}
-use Rattle.overlay_arrange.specs.Graphs.{Graph, graph_edges}
-use Rattle.overlay_arrange.specs.declared.fill_rule.FillRule.{FillRule}
-use Rattle.overlay_arrange.specs.declared.options.ContourDirection.TheVariants.{CounterClockwise}
-use Rattle.overlay_arrange.specs.declared.options.IntOverlayOptions.{IntOverlayOptions}
 use Rattle.overlay_builder.specs.PathLists.{AddedPath, HoldsPaths}
 use Rattle.overlay_extract.specs.Sliced.{IsSliced}
 

@@ -2,9 +2,9 @@
 use Rattle.std.specs.Prelude.{◌≡◌, ◌≢◌, List, []}
 use Rattle.overlay_geom.specs.Edges.{CountedEdge}
 use Rattle.overlay_geom.specs.declared.solver.Solver.{Solver}
+use Rattle.overlay_geom.specs.declared.fill_rule.FillRule.{FillRule}
+use Rattle.overlay_graph.specs.Graphs.{Graph, graph_edges}
 use Rattle.overlay_arrange.specs.Arranged.{IsArranged}
-use Rattle.overlay_arrange.specs.Graphs.{Graph, graph_edges}
-use Rattle.overlay_arrange.specs.declared.fill_rule.FillRule.{FillRule}
 
 -- the graph shows an arrangement by the solver, with some edge, of what a builder held, and the sides that are filled
 -- under the rule

@@ -8,10 +8,10 @@ ghost use Rattle.overlay_walk.specs.Steps.{plain_step};
 
 use crate::piece::{Piece, Way};
 use crate::taken_pieces::is_taken;
-use overlay_arrange::edge::compare_points;
-use overlay_arrange::sort_points::order_by_points;
 use overlay_geom::number::IntNumber;
 use overlay_geom::point::IntPoint;
+use overlay_order::edge::compare_points;
+use overlay_order::sort_points::order_by_points;
 use overlay_walk::next::run_start;
 use overlay_walk::onward::{first_near, note_of};
 use overlay_walk::step::Step;

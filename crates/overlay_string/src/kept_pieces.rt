@@ -1,19 +1,19 @@
 //! The pieces of strings that a clip keeps.
 
 ghost use Rattle.std.specs.Prelude.{◌≡◌, ◌++◌, ◌∷◌, [], cond, IfOk, OnOk};
-ghost use Rattle.overlay_arrange.specs.Counts.{has_bit};
+ghost use Rattle.overlay_order.specs.Counts.{has_bit};
 ghost use Rattle.overlay_geom.specs.Points.{plain_point};
-ghost use Rattle.overlay_arrange.specs.Graphs.{graph_edges};
+ghost use Rattle.overlay_graph.specs.Graphs.{graph_edges};
 ghost use Rattle.overlay_string.specs.ClipPieces.{clip_pieces, keeps_sides};
 ghost use Rattle.overlay_string.specs.Pieces.{plain_pieces, pieces_by_bits};
 
 use crate::clip_rule::ClipRule;
 use crate::piece::Piece;
-use overlay_arrange::graph::Graph;
-use overlay_arrange::string_count::ShapeCountString;
-use overlay_arrange::vector::{DataVectorEdge, SUBJ_LEFT, SUBJ_RIGHT, SideFill};
 use overlay_geom::number::IntNumber;
 use overlay_geom::point::IntPoint;
+use overlay_graph::graph::Graph;
+use overlay_order::string_count::ShapeCountString;
+use overlay_order::vector::{DataVectorEdge, SUBJ_LEFT, SUBJ_RIGHT, SideFill};
 use std::alloc::{AllocError, Allocator};
 
 /// The pieces that a clip keeps of the strings along the edges of the graph, in the order of the edges.

@@ -5,9 +5,9 @@ ghost use Rattle.overlay_geom.specs.Plane.{is_forward};
 ghost use Rattle.overlay_geom.specs.Points.{plain_point};
 ghost use Rattle.overlay_string.specs.Pieces.{plain_piece, turned, way_of};
 
-use overlay_arrange::edge::compare_points;
 use overlay_geom::number::IntNumber;
 use overlay_geom::point::IntPoint;
+use overlay_order::edge::compare_points;
 
 /// A piece of a string, straight on from one point to another.
 #[derive(Clone, Copy)]

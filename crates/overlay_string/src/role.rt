@@ -3,8 +3,8 @@
 ghost use Rattle.std.specs.Prelude.{◌≡◌};
 ghost use Rattle.overlay_string.specs.StringPaths.{kind_in, passing_in};
 
-use overlay_arrange::string_count::{STRING_AGAINST, STRING_ALONG, ShapeCountString};
 use overlay_builder::path::{PathKind, StepCounts};
+use overlay_order::string_count::{STRING_AGAINST, STRING_ALONG, ShapeCountString};
 
 /// As what a path is added.
 #[derive(Debug, Clone, Copy, PartialEq, Eq)]

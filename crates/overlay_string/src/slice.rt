@@ -10,8 +10,8 @@ ghost use Rattle.overlay_string.specs.StringSlices.{AreSlicedOfPaths};
 
 use crate::lines::BorrowedLines;
 use crate::string_overlay::StringOverlay;
-use overlay_arrange::fill_rule::FillRule;
 use overlay_geom::error::OverlayError;
+use overlay_geom::fill_rule::FillRule;
 use overlay_geom::integer::OverlayInt;
 use overlay_geom::path::{IntLine, IntPath, IntShapes, PathRef};
 use overlay_geom::resource::IntShapeResource;

@@ -2,17 +2,17 @@
 
 ghost use Rattle.std.specs.Prelude.{IfOk, IsOkUnless};
 ghost use Rattle.overlay_geom.specs.Paths.{plain_shapes};
-ghost use Rattle.overlay_arrange.specs.Graphs.{graph_edges};
+ghost use Rattle.overlay_graph.specs.Graphs.{graph_edges};
 ghost use Rattle.overlay_string.specs.StringSlices.{IsSlicedBy, IsSlicedWhole};
 
 use crate::string_rule::StringRule;
-use overlay_arrange::options::IntOverlayOptions;
-use overlay_arrange::string_count::ShapeCountString;
 use overlay_builder::balanced_graph::BalancedGraph;
 use overlay_extract::slicing::sliced_shapes::sliced_shapes;
 use overlay_geom::error::OverlayError;
 use overlay_geom::integer::OverlayInt;
+use overlay_geom::options::IntOverlayOptions;
 use overlay_geom::path::IntShapes;
+use overlay_order::string_count::ShapeCountString;
 use std::alloc::Allocator;
 
 /// A view of what a builder for strings holds: the edges of its arrangement, with the sides that the shape fills under

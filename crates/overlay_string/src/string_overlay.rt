@@ -1,9 +1,9 @@
 //! The builder for strings: it holds a shape, and strings that lie over it.
 
-use overlay_arrange::string_count::ShapeCountString;
 use overlay_builder::balanced_graph::BalancedGraph;
 use overlay_builder::builder_core::BuilderCore;
 use overlay_geom::integer::OverlayInt;
+use overlay_order::string_count::ShapeCountString;
 use std::alloc::Allocator;
 use std::marker::Model;
 
@@ -14,7 +14,7 @@ mod deprecated;
 mod strings;
 mod views;
 
-pub use overlay_arrange::options::IntOverlayOptions;
+pub use overlay_geom::options::IntOverlayOptions;
 
 /// A builder that holds counted edges of a shape, and of strings: open or closed lines that lie over it. Points on
 /// one line with their two neighbours are dropped from the contours of the shape, and never from strings.

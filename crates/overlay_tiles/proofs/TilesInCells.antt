@@ -11,6 +11,9 @@ use Rattle.std.proofs.lemmas.List.Elements.{All-contains, Contains-append_left, 
 use Rattle.overlay_geom.specs.Plane.{Point, Step, point_lt, reversed_step, steps_of}
 use Rattle.overlay_geom.specs.Edges.{CountedEdge, subj_of}
 use Rattle.overlay_geom.specs.declared.solver.Solver.{Solver}
+use Rattle.overlay_geom.specs.Rules.{is_filled}
+use Rattle.overlay_geom.specs.declared.fill_rule.FillRule.{FillRule}
+use Rattle.overlay_geom.specs.declared.options.ContourDirection.TheVariants.{CounterClockwise}
 use Rattle.overlay_geom.proofs.PointOrder.{Decides-point_lt}
 use Rattle.overlay_geom.proofs.Signs.{linear}
 use Rattle.overlay_plane.specs.HalfPlanes.{IsEdgeInHalf}
@@ -21,10 +24,7 @@ use Rattle.overlay_plane.proofs.Entries.{all_of_entries, Contains-map, Contains-
 use Rattle.overlay_plane.proofs.LaterEntries.{Contains-cases}
 use Rattle.overlay_plane.proofs.OrbitsApart.{is_step_of_decides}
 use Rattle.overlay_plane.specs.Orbits.{is_step_of}
-use Rattle.overlay_arrange.proofs.RuledContents.{zero_is_empty}
-use Rattle.overlay_arrange.specs.Rules.{is_filled}
-use Rattle.overlay_arrange.specs.declared.fill_rule.FillRule.{FillRule}
-use Rattle.overlay_arrange.specs.declared.options.ContourDirection.TheVariants.{CounterClockwise}
+use Rattle.overlay_order.proofs.RuledContents.{zero_is_empty}
 use Rattle.overlay_extract.specs.Bound.{PassesAnchor}
 use Rattle.overlay_extract.specs.FilledSides.{AreFilledSides, IsInOneOrbit}
 use Rattle.overlay_extract.specs.Sliced.{IsOutlineWithHoles, left_steps, left_steps_of_shapes, sides_under}

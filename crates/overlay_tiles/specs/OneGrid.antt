@@ -3,7 +3,7 @@ use Rattle.std.specs.Prelude.{◌≡◌, ℤ, List}
 use Rattle.std.specs.Int.{Width}
 use Rattle.overlay_geom.specs.Plane.{Point}
 use Rattle.overlay_geom.specs.declared.solver.Solver.{Solver}
-use Rattle.overlay_arrange.specs.declared.fill_rule.FillRule.{FillRule}
+use Rattle.overlay_geom.specs.declared.fill_rule.FillRule.{FillRule}
 use Rattle.overlay_tiles.specs.Grids.{AreGridLines}
 use Rattle.overlay_tiles.specs.Tiles.{AreTiles}
 

@@ -5,10 +5,10 @@ use Rattle.overlay_geom.specs.Plane.{Point, Step}
 use Rattle.overlay_geom.specs.declared.error.OverlayError.{OverlayError}
 use Rattle.overlay_geom.specs.declared.error.OverlayError.TheVariants.{Memory, NotSettled, TooManyEdges, Failed}
 use Rattle.overlay_geom.specs.declared.solver.Solver.{Solver}
+use Rattle.overlay_geom.specs.declared.fill_rule.FillRule.{FillRule}
+use Rattle.overlay_geom.specs.declared.options.ContourDirection.TheVariants.{CounterClockwise}
 use Rattle.overlay_plane.specs.BesideOrbits.{HasEachOnce}
 use Rattle.overlay_plane.specs.ShapeWindings.{steps_of_shapes}
-use Rattle.overlay_arrange.specs.declared.fill_rule.FillRule.{FillRule}
-use Rattle.overlay_arrange.specs.declared.options.ContourDirection.TheVariants.{CounterClockwise}
 use Rattle.overlay_extract.specs.Sliced.{WindsRoundFilled, left_steps_of_shapes, sides_under}
 use Rattle.overlay_string.specs.OneShot.{shape_and_strings, MayRefusePaths}
 use Rattle.overlay_string.specs.StringSlices.{AreSlicedOfPaths}

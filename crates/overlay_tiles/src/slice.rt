@@ -10,8 +10,8 @@ ghost use Rattle.overlay_tiles.specs.Tiles.{AreTiles, MayRefuseTiles};
 
 use crate::grid::Grid;
 use crate::lines::grid_lines;
-use overlay_arrange::fill_rule::FillRule;
 use overlay_geom::error::OverlayError;
+use overlay_geom::fill_rule::FillRule;
 use overlay_geom::integer::OverlayInt;
 use overlay_geom::path::IntShapes;
 use overlay_geom::resource::IntShapeResource;

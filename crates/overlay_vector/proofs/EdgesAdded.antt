@@ -8,11 +8,11 @@ use Rattle.overlay_geom.specs.Counts.{weight_of_counts}
 use Rattle.overlay_geom.specs.Edges.{weight}
 use Rattle.overlay_geom.specs.declared.error.OverlayError.{OverlayError}
 use Rattle.overlay_geom.specs.declared.error.OverlayError.TheVariants.{Memory, NotSettled, TooManyEdges, Failed}
+use Rattle.overlay_geom.specs.declared.options.ShapeType.{ShapeType}
+use Rattle.overlay_geom.specs.declared.options.ShapeType.TheVariants.{Subject, Clip}
 use Rattle.overlay_plane.specs.Carried.{Carried, edges_in}
-use Rattle.overlay_arrange.specs.Counts.{boolean_counts}
-use Rattle.overlay_arrange.specs.declared.data.CountWithData.{CountWithData}
-use Rattle.overlay_arrange.specs.declared.options.ShapeType.{ShapeType}
-use Rattle.overlay_arrange.specs.declared.options.ShapeType.TheVariants.{Subject, Clip}
+use Rattle.overlay_order.specs.Counts.{boolean_counts}
+use Rattle.overlay_order.specs.declared.data.CountWithData.{CountWithData}
 use Rattle.overlay_vector.specs.AddedEdges.{passed_once, AddsEdge, AddsEdges, EdgeWeighsTooMuch, MayRefuseEdge}
 use Rattle.overlay_vector.specs.AddedEdges.{StopsAtEdge}
 use Rattle.overlay_vector.specs.AddedEdges.AddsEdges.{no_edge, edge_and_others}

@@ -4,16 +4,16 @@ use Rattle.std.proofs.Common.{◌∙◌}
 use Rattle.std.specs.List.{filter, flat_map}
 use Rattle.overlay_geom.specs.Counts.{Counts}
 use Rattle.overlay_geom.specs.Edges.{CountedEdge, subj_of, clip_of}
+use Rattle.overlay_geom.specs.Rules.{rule_holds, rules_hold, fills_of, fill_bits}
+use Rattle.overlay_geom.specs.declared.fill_rule.FillRule.{FillRule}
+use Rattle.overlay_geom.specs.declared.overlay_rule.OverlayRule.{OverlayRule}
 use Rattle.overlay_plane.specs.Carried.{Carried, edges_in}
 use Rattle.overlay_plane.specs.Regions.{holds_above, holds_below}
-use Rattle.overlay_arrange.specs.Graphs.{carried_vector, carried_vectors}
-use Rattle.overlay_arrange.specs.Rules.{rule_holds, rules_hold, fills_of, fill_bits}
-use Rattle.overlay_arrange.specs.Vectors.{Vector, plain_vector, vector_of}
-use Rattle.overlay_arrange.specs.declared.data.CountWithData.{CountWithData}
-use Rattle.overlay_arrange.specs.declared.fill_rule.FillRule.{FillRule}
-use Rattle.overlay_arrange.specs.declared.overlay_rule.OverlayRule.{OverlayRule}
-use Rattle.overlay_arrange.specs.declared.vector.DataVectorEdge.{DataVectorEdge}
-use Rattle.overlay_arrange.proofs.SideBits.{bits_show_sides}
+use Rattle.overlay_order.specs.Vectors.{Vector, plain_vector, vector_of}
+use Rattle.overlay_order.specs.declared.data.CountWithData.{CountWithData}
+use Rattle.overlay_order.specs.declared.vector.DataVectorEdge.{DataVectorEdge}
+use Rattle.overlay_graph.specs.Graphs.{carried_vector, carried_vectors}
+use Rattle.overlay_graph.proofs.SideBits.{bits_show_sides}
 use Rattle.overlay_walk.specs.Selection.{bits_select, bits_hold_above, bits_hold_below}
 use Rattle.overlay_vector.specs.DataVectors.{DataVector, data_vector, is_selected_edge}
 use Rattle.overlay_vector.specs.ListedVectors.{uncounted, vectors_by_bits}

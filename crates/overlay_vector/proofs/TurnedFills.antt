@@ -2,10 +2,10 @@
 use Rattle.std.proofs.Common.{◌≡◌, ℕ, ◌+◌, ◌*◌, ◌/◌, ◌%◌, ◌<◌, ◌==◌, ap, ap₂, ◌∙◌, arith}
 use Rattle.std.specs.Int.{bit_at}
 use Rattle.std.proofs.lemmas.Nat.Bits.{bit_at-lt}
-use Rattle.overlay_arrange.specs.Counts.{has_bit}
-use Rattle.overlay_arrange.specs.Rules.{Fills, bit}
-use Rattle.overlay_arrange.proofs.DirectionBits.{by_bit}
-use Rattle.overlay_arrange.proofs.SideBits.{bits_show_sides}
+use Rattle.overlay_order.specs.Counts.{has_bit}
+use Rattle.overlay_geom.specs.Rules.{Fills, bit}
+use Rattle.overlay_order.proofs.DirectionBits.{by_bit}
+use Rattle.overlay_graph.proofs.SideBits.{bits_show_sides}
 use Rattle.overlay_vector.specs.SideFills.{TurningTwiceKeepsFills}
 
 -- the sides that the turned bits stand for

@@ -8,6 +8,7 @@ use Rattle.std.specs.List.{AllZip, flat_map}
 use Rattle.std.specs.List.Sorted.{IsPermutation}
 use Rattle.std.proofs.lemmas.List.Elements.{All-nil, All-cons, All-head, All-tail}
 use Rattle.overlay_geom.specs.Plane.{Point, PlanePoint, Step, steps_of, points_of, total}
+use Rattle.overlay_geom.specs.declared.fill_rule.FillRule.{FillRule}
 use Rattle.overlay_plane.specs.BoundContours.{AreShapesFound, contours_bound, shapes_bound}
 use Rattle.overlay_plane.specs.Carried.{Carried, edges_in}
 use Rattle.overlay_plane.specs.Contours.{IsContour}
@@ -18,8 +19,7 @@ use Rattle.overlay_plane.specs.ShapeWindings.{points_of_shapes, steps_of_shapes,
 use Rattle.overlay_plane.specs.Turn.{Hand}
 use Rattle.overlay_plane.proofs.AlongLines.{winding_part}
 use Rattle.overlay_plane.proofs.JoinedLists.{total-append}
-use Rattle.overlay_arrange.specs.declared.data.CountWithData.{CountWithData}
-use Rattle.overlay_arrange.specs.declared.fill_rule.FillRule.{FillRule}
+use Rattle.overlay_order.specs.declared.data.CountWithData.{CountWithData}
 use Rattle.overlay_walk.specs.KeptResults.{AreKeptResults}
 use Rattle.overlay_extract.specs.Results.{Asked, filled_asked, selected_of, shapes_found}
 use Rattle.overlay_extract.proofs.PlacedShapes.{placed_have}

@@ -10,16 +10,16 @@ use Rattle.overlay_geom.specs.Edges.{ends_of, all_ends}
 use Rattle.overlay_geom.specs.Plane.{Step, Edge, edge_of, is_forward, point_lt}
 use Rattle.overlay_geom.specs.Points.{plain_point, InRange}
 use Rattle.overlay_geom.specs.declared.point.IntPoint.{IntPoint}
+use Rattle.overlay_geom.specs.Rules.{fill_bits}
+use Rattle.overlay_geom.specs.declared.fill_rule.FillRule.{FillRule}
 use Rattle.overlay_plane.specs.Carried.{Carried, edges_in}
 use Rattle.overlay_plane.specs.SelectedSteps.{step_with_left}
 use Rattle.overlay_plane.proofs.SelectedWindings.{along_edge}
-use Rattle.overlay_arrange.specs.Content.{IsHeld}
-use Rattle.overlay_arrange.specs.Graphs.{carried_vector, carried_vectors, IsArrangement}
-use Rattle.overlay_arrange.specs.Rules.{fill_bits}
-use Rattle.overlay_arrange.specs.Vectors.{Vector, plain_vector, vector_of}
-use Rattle.overlay_arrange.specs.declared.data.CountWithData.{CountWithData}
-use Rattle.overlay_arrange.specs.declared.fill_rule.FillRule.{FillRule}
-use Rattle.overlay_arrange.specs.declared.vector.DataVectorEdge.{DataVectorEdge}
+use Rattle.overlay_order.specs.Content.{IsHeld}
+use Rattle.overlay_order.specs.Vectors.{Vector, plain_vector, vector_of}
+use Rattle.overlay_order.specs.declared.data.CountWithData.{CountWithData}
+use Rattle.overlay_order.specs.declared.vector.DataVectorEdge.{DataVectorEdge}
+use Rattle.overlay_graph.specs.Graphs.{carried_vector, carried_vectors, IsArrangement}
 use Rattle.overlay_vector.specs.DataVectors.{DataVector}
 use Rattle.overlay_vector.specs.Joining.{IsInRange}
 use Rattle.overlay_vector.specs.SideFills.{turned_fill}

@@ -4,12 +4,12 @@ use Rattle.std.specs.Iterator.{Drains, YieldsThen}
 use Rattle.overlay_geom.specs.Points.{plain_point, InRange}
 use Rattle.overlay_geom.specs.declared.error.OverlayError.{OverlayError}
 use Rattle.overlay_geom.specs.declared.error.OverlayError.TheVariants.{Memory, NotSettled, TooManyEdges, Failed}
+use Rattle.overlay_geom.specs.declared.options.ShapeType.{ShapeType}
 use Rattle.overlay_plane.specs.Carried.{Carried}
-use Rattle.overlay_arrange.specs.Content.{count_for}
-use Rattle.overlay_arrange.specs.Counts.{boolean_counts}
-use Rattle.overlay_arrange.specs.EdgeData.{IsReversed}
-use Rattle.overlay_arrange.specs.declared.data.CountWithData.{CountWithData}
-use Rattle.overlay_arrange.specs.declared.options.ShapeType.{ShapeType}
+use Rattle.overlay_order.specs.Content.{count_for}
+use Rattle.overlay_order.specs.Counts.{boolean_counts}
+use Rattle.overlay_order.specs.EdgeData.{IsReversed}
+use Rattle.overlay_order.specs.declared.data.CountWithData.{CountWithData}
 use Rattle.overlay_builder.specs.AddedSteps.{AddsStep, StepWeighsTooMuch}
 use Rattle.overlay_vector.specs.declared.input_edge.InputEdge.{InputEdge}
 

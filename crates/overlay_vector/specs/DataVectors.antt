@@ -3,13 +3,13 @@ use Rattle.std.specs.Prelude.{ℕ, ℤ, Bool, List, map, filter}
 use Rattle.overlay_geom.specs.Plane.{Point}
 use Rattle.overlay_geom.specs.Points.{plain_point}
 use Rattle.overlay_geom.specs.Edges.{CountedEdge, subj_of, clip_of}
+use Rattle.overlay_geom.specs.Rules.{fill_bits, rules_hold}
+use Rattle.overlay_geom.specs.declared.fill_rule.FillRule.{FillRule}
+use Rattle.overlay_geom.specs.declared.overlay_rule.OverlayRule.{OverlayRule}
 use Rattle.overlay_plane.specs.Carried.{Carried, edges_in}
 use Rattle.overlay_plane.specs.SelectedSteps.{is_selected}
-use Rattle.overlay_arrange.specs.Rules.{fill_bits, rules_hold}
-use Rattle.overlay_arrange.specs.declared.data.CountWithData.{CountWithData}
-use Rattle.overlay_arrange.specs.declared.fill_rule.FillRule.{FillRule}
-use Rattle.overlay_arrange.specs.declared.overlay_rule.OverlayRule.{OverlayRule}
-use Rattle.overlay_arrange.specs.declared.vector.DataVectorEdge.{DataVectorEdge}
+use Rattle.overlay_order.specs.declared.data.CountWithData.{CountWithData}
+use Rattle.overlay_order.specs.declared.vector.DataVectorEdge.{DataVectorEdge}
 
 -- an edge from a to b, which of its sides are filled, as fill bits, and its data
 pub record DataVector (D : Type 0) : Type 0 where

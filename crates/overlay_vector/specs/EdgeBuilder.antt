@@ -3,13 +3,13 @@ use Rattle.std.specs.Prelude.{◌≡◌, ℕ, Bool, true, false, List, [], Optio
 use Rattle.overlay_geom.specs.Edges.{CountedEdge}
 use Rattle.overlay_geom.specs.declared.solver.Solver.{Solver}
 use Rattle.overlay_geom.specs.declared.solver.Solver.TheVariants.{Rounds}
+use Rattle.overlay_geom.specs.Options.{AreOptions}
+use Rattle.overlay_geom.specs.declared.options.IntOverlayOptions.{IntOverlayOptions}
 use Rattle.overlay_plane.specs.Carried.{Carried, edges_in}
+use Rattle.overlay_order.specs.EdgeData.{AreMerged, IsPiece, IsReversed}
+use Rattle.overlay_order.specs.declared.count.ShapeCountBoolean.{ShapeCountBoolean}
+use Rattle.overlay_order.specs.declared.data.CountWithData.{CountWithData}
 use Rattle.overlay_arrange.specs.Arranged.{IsArrangedCarrying}
-use Rattle.overlay_arrange.specs.EdgeData.{AreMerged, IsPiece, IsReversed}
-use Rattle.overlay_arrange.specs.Options.{AreOptions}
-use Rattle.overlay_arrange.specs.declared.count.ShapeCountBoolean.{ShapeCountBoolean}
-use Rattle.overlay_arrange.specs.declared.data.CountWithData.{CountWithData}
-use Rattle.overlay_arrange.specs.declared.options.IntOverlayOptions.{IntOverlayOptions}
 use Rattle.overlay_builder.specs.Held.{Held}
 
 -- a builder of edges with data: its settings, whether it holds a buffer for extractions (of which nothing is seen), the

@@ -1,9 +1,9 @@
 -- Selected edges as a program lists them, by their fill bits.
 use Rattle.std.specs.Prelude.{ℤ, cond, List, [], ◌∷◌}
 use Rattle.overlay_geom.specs.Points.{plain_point}
-use Rattle.overlay_arrange.specs.declared.data.CountWithData.{CountWithData}
-use Rattle.overlay_arrange.specs.declared.overlay_rule.OverlayRule.{OverlayRule}
-use Rattle.overlay_arrange.specs.declared.vector.DataVectorEdge.{DataVectorEdge}
+use Rattle.overlay_geom.specs.declared.overlay_rule.OverlayRule.{OverlayRule}
+use Rattle.overlay_order.specs.declared.data.CountWithData.{CountWithData}
+use Rattle.overlay_order.specs.declared.vector.DataVectorEdge.{DataVectorEdge}
 use Rattle.overlay_walk.specs.Selection.{bits_select}
 use Rattle.overlay_vector.specs.DataVectors.{DataVector}
 

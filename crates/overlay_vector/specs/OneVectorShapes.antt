@@ -1,9 +1,9 @@
 -- Shapes of edges with data are the only ones: their steps, filled sides and, where edges stay, their data.
 use Rattle.std.specs.Prelude.{◌≡◌, Bool, true, List}
 use Rattle.overlay_geom.specs.Plane.{Step}
+use Rattle.overlay_geom.specs.declared.fill_rule.FillRule.{FillRule}
 use Rattle.overlay_plane.specs.Carried.{Carried, edges_in}
-use Rattle.overlay_arrange.specs.declared.data.CountWithData.{CountWithData}
-use Rattle.overlay_arrange.specs.declared.fill_rule.FillRule.{FillRule}
+use Rattle.overlay_order.specs.declared.data.CountWithData.{CountWithData}
 use Rattle.overlay_extract.specs.Determined.{AreArrangedWithBalance}
 use Rattle.overlay_extract.specs.Results.{Asked}
 use Rattle.overlay_vector.specs.DataVectors.{DataVector}

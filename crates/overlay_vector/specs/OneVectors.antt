@@ -1,9 +1,9 @@
 -- The selected edges of an arrangement with data are the only answer as edges.
 use Rattle.std.specs.Prelude.{◌≡◌, List}
 use Rattle.overlay_plane.specs.Carried.{Carried}
-use Rattle.overlay_arrange.specs.declared.data.CountWithData.{CountWithData}
-use Rattle.overlay_arrange.specs.declared.fill_rule.FillRule.{FillRule}
-use Rattle.overlay_arrange.specs.declared.overlay_rule.OverlayRule.{OverlayRule}
+use Rattle.overlay_order.specs.declared.data.CountWithData.{CountWithData}
+use Rattle.overlay_geom.specs.declared.fill_rule.FillRule.{FillRule}
+use Rattle.overlay_geom.specs.declared.overlay_rule.OverlayRule.{OverlayRule}
 use Rattle.overlay_vector.specs.DataVectors.{DataVector, selected_vectors}
 
 -- two lists of the selected edges of one arrangement, with filled sides and data, are one

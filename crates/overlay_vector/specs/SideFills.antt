@@ -1,7 +1,7 @@
 -- The filled sides of an edge as bits, and as they are seen on the way back.
 use Rattle.std.specs.Prelude.{◌≡◌, ℕ, ◌+◌, ◌%◌}
-use Rattle.overlay_arrange.specs.Counts.{has_bit}
-use Rattle.overlay_arrange.specs.Rules.{bit}
+use Rattle.overlay_order.specs.Counts.{has_bit}
+use Rattle.overlay_geom.specs.Rules.{bit}
 
 -- left and right exchanged, for the subject (bits 0 and 1) and for the clip (bits 2 and 3), without higher bits
 abbrev pub turned_fill : ℕ → ℕ

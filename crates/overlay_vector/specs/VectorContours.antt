@@ -2,7 +2,7 @@
 use Rattle.std.specs.Prelude.{ℤ}
 use Rattle.overlay_geom.specs.Plane.{Edge}
 use Rattle.overlay_geom.specs.Points.{plain_point}
-use Rattle.overlay_arrange.specs.declared.vector.DataVectorEdge.{DataVectorEdge}
+use Rattle.overlay_order.specs.declared.vector.DataVectorEdge.{DataVectorEdge}
 
 -- the ends of an edge at its numbers
 abbrev pub plain_ends : {I C : Type 0} → (I → ℤ) → DataVectorEdge I C → Edge

@@ -5,16 +5,16 @@ use Rattle.std.specs.List.{AllZip, flat_map}
 use Rattle.std.specs.List.Sorted.{IsPermutation}
 use Rattle.overlay_geom.specs.Edges.{ends_of}
 use Rattle.overlay_geom.specs.Plane.{Step, edge_of, is_forward}
+use Rattle.overlay_geom.specs.Rules.{fill_bits}
+use Rattle.overlay_geom.specs.declared.fill_rule.FillRule.{FillRule}
 use Rattle.overlay_plane.specs.BoundContours.{AreShapesFound, NoHoleIsLost, contours_bound, shapes_bound}
 use Rattle.overlay_plane.specs.Carried.{Carried, edges_in}
 use Rattle.overlay_plane.specs.RoledContours.{Contour, IsCut}
 use Rattle.overlay_plane.specs.ShapesAlone.{WindsOnceOrNot}
 use Rattle.overlay_plane.specs.ShapeWindings.{steps_of_shapes}
 use Rattle.overlay_plane.specs.Turn.{Hand}
-use Rattle.overlay_arrange.specs.Rules.{fill_bits}
-use Rattle.overlay_arrange.specs.declared.data.CountWithData.{CountWithData}
-use Rattle.overlay_arrange.specs.declared.fill_rule.FillRule.{FillRule}
-use Rattle.overlay_arrange.specs.declared.vector.DataVectorEdge.{DataVectorEdge}
+use Rattle.overlay_order.specs.declared.data.CountWithData.{CountWithData}
+use Rattle.overlay_order.specs.declared.vector.DataVectorEdge.{DataVectorEdge}
 use Rattle.overlay_extract.specs.Results.{Asked, filled_asked, selected_of, is_kept, shapes_found}
 use Rattle.overlay_extract.specs.Results.{WindsRoundRegion}
 use Rattle.overlay_vector.specs.DataVectors.{DataVector, plain_data_vectors}

@@ -6,13 +6,13 @@ ghost use Rattle.overlay_geom.specs.Numbers.{Within};
 ghost use Rattle.overlay_geom.specs.Plane.{point_eq};
 ghost use Rattle.overlay_geom.specs.Points.{plain_point};
 ghost use Rattle.overlay_plane.specs.Balance.{HasBalancedCounts};
-ghost use Rattle.overlay_arrange.specs.Content.{plain_edge, plain_edges, IsContent};
+ghost use Rattle.overlay_order.specs.Content.{plain_edge, plain_edges, IsContent};
 ghost use Rattle.overlay_vector.specs.Entering.{entering, entering_along, IsBalancedAt};
 
-use overlay_arrange::count::EdgeCount;
-use overlay_arrange::edge::{CountedEdge, compare_points};
 use overlay_geom::number::IntNumber;
 use overlay_geom::point::IntPoint;
+use overlay_order::count::EdgeCount;
+use overlay_order::edge::{CountedEdge, compare_points};
 
 /// How many steps enter a point, less how many leave it.
 #[derive(Clone, Copy)]

@@ -3,11 +3,11 @@
 ghost use Rattle.std.specs.Prelude.{IfOk, IsOkUnless};
 ghost use Rattle.overlay_vector.specs.EdgeBuilder.{IsNewEdgeBuilder};
 
-use overlay_arrange::data::{CountWithData, OverlayEdgeData};
 use overlay_builder::builder_core::BuilderCore;
 use overlay_builder::solver::Solver;
 use overlay_geom::error::OverlayError;
 use overlay_geom::integer::OverlayInt;
+use overlay_order::data::{CountWithData, OverlayEdgeData};
 use overlay_walk::buffer::BooleanExtractionBuffer;
 use std::alloc::Allocator;
 use std::marker::Model;
@@ -18,7 +18,7 @@ mod shapes;
 mod stores;
 mod vectors;
 
-pub use overlay_arrange::options::{ContourDirection, IntOverlayOptions, ShapeType};
+pub use overlay_geom::options::{ContourDirection, IntOverlayOptions, ShapeType};
 
 /// A builder that holds counted edges of a subject and of a clip, each with data of the caller's, and
 /// answers queries on them.

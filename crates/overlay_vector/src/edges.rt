@@ -3,10 +3,10 @@
 ghost use Rattle.std.specs.Prelude.{◌≡◌, map};
 ghost use Rattle.overlay_vector.specs.HeldEdges.{ends_held};
 
-use overlay_arrange::data::CountWithData;
-use overlay_arrange::edge::CountedEdge;
 use overlay_geom::number::IntNumber;
 use overlay_geom::path::IntLine;
+use overlay_order::data::CountWithData;
+use overlay_order::edge::CountedEdge;
 use std::marker::Model;
 
 /// The two ends of each edge that a builder holds, the smaller one first, in the order in which it holds

@@ -5,10 +5,10 @@ ghost use Rattle.overlay_vector.specs.DataVectors.{graph_vectors, plain_data_vec
 ghost use Rattle.overlay_vector.specs.ListedVectors.{uncounted};
 
 use crate::selected_vectors::with_data;
-use overlay_arrange::data::{CountWithData, OverlayEdgeData};
-use overlay_arrange::graph::Graph;
-use overlay_arrange::vector::DataVectorEdge;
 use overlay_geom::number::IntNumber;
+use overlay_graph::graph::Graph;
+use overlay_order::data::{CountWithData, OverlayEdgeData};
+use overlay_order::vector::DataVectorEdge;
 use std::alloc::{AllocError, Allocator};
 
 /// Every edge of the graph, in their order, each with its filled sides, seen from its smaller to its larger end, and

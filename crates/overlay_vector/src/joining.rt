@@ -6,11 +6,11 @@ ghost use Rattle.overlay_vector.specs.Joining.{joined, AreJoinable, IsJoined, No
 ghost use Rattle.overlay_vector.specs.Joining.{IsInRange, IsAppended};
 
 use crate::path::DataVectorPath;
-use overlay_arrange::data::OverlayEdgeData;
-use overlay_arrange::edge::compare_points;
-use overlay_arrange::vector::DataVectorEdge;
 use overlay_geom::number::{IntNumber, WideIntNumber};
 use overlay_geom::vector::cross_at;
+use overlay_order::data::OverlayEdgeData;
+use overlay_order::edge::compare_points;
+use overlay_order::vector::DataVectorEdge;
 use std::alloc::{AllocError, Allocator};
 
 /// The closed contour in which each edge that goes straight on from the one before it, with equal filled sides and

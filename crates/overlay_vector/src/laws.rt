@@ -5,7 +5,7 @@ ghost use Rattle.overlay_vector.specs.OneVectorShapes.{VectorShapesShowOneList, 
 ghost use Rattle.overlay_vector.specs.OneVectors.{OneListOfVectors};
 ghost use Rattle.overlay_vector.specs.SideFills.{TurningTwiceKeepsFills};
 
-use overlay_arrange::data::OverlayEdgeData;
+use overlay_order::data::OverlayEdgeData;
 
 /// Each joined edge leads as a run of neighbours does, whose filled sides are its own, and whose data equals its own;
 /// the runs, one behind another, are the whole contour.

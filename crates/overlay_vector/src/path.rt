@@ -3,10 +3,10 @@
 ghost use Rattle.std.specs.Prelude.{◌≡◌, List, map, IfOk, IsOkUnless};
 ghost use Rattle.overlay_geom.specs.declared.point.IntPoint.{IntPoint};
 
-use overlay_arrange::vector::DataVectorEdge;
 use overlay_geom::error::OverlayError;
 use overlay_geom::path::IntPath;
 use overlay_geom::point::IntPoint;
+use overlay_order::vector::DataVectorEdge;
 use std::alloc::Allocator;
 
 /// A closed contour as its edges in order, each with its filled sides, seen on the way along it, and its

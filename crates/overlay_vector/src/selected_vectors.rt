@@ -6,13 +6,13 @@ ghost use Rattle.overlay_walk.specs.Selection.{bits_select};
 ghost use Rattle.overlay_vector.specs.DataVectors.{plain_data_vectors, selected_vectors};
 ghost use Rattle.overlay_vector.specs.ListedVectors.{vectors_by_bits};
 
-use overlay_arrange::data::{CountWithData, OverlayEdgeData};
-use overlay_arrange::graph::Graph;
-use overlay_arrange::overlay_rule::OverlayRule;
-use overlay_arrange::vector::{
+use overlay_geom::number::IntNumber;
+use overlay_geom::overlay_rule::OverlayRule;
+use overlay_graph::graph::Graph;
+use overlay_order::data::{CountWithData, OverlayEdgeData};
+use overlay_order::vector::{
     CLIP_LEFT, CLIP_RIGHT, DataVectorEdge, SUBJ_LEFT, SUBJ_RIGHT, SideFill,
 };
-use overlay_geom::number::IntNumber;
 use std::alloc::{AllocError, Allocator};
 
 /// Returns the edges of the graph with the region of its rule and the overlay rule on exactly one side, in order, each

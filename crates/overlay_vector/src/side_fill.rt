@@ -1,10 +1,10 @@
 //! The filled sides of an edge, seen on the way back.
 
 ghost use Rattle.std.specs.Prelude.{◌≡◌, ◌≤◌};
-ghost use Rattle.overlay_arrange.specs.Rules.{bit};
+ghost use Rattle.overlay_geom.specs.Rules.{bit};
 ghost use Rattle.overlay_vector.specs.SideFills.{turned_fill};
 
-use overlay_arrange::vector::{CLIP_LEFT, CLIP_RIGHT, SUBJ_LEFT, SUBJ_RIGHT, SideFill};
+use overlay_order::vector::{CLIP_LEFT, CLIP_RIGHT, SUBJ_LEFT, SUBJ_RIGHT, SideFill};
 
 /// What can be seen the other way round.
 pub trait Reverse {

@@ -2,19 +2,19 @@
 
 ghost use Rattle.std.specs.Prelude.{IfOk};
 ghost use Rattle.overlay_plane.specs.Balance.{HasBalancedCounts};
-ghost use Rattle.overlay_arrange.specs.Graphs.{graph_edges};
+ghost use Rattle.overlay_graph.specs.Graphs.{graph_edges};
 ghost use Rattle.overlay_arrange.specs.Stores.{IsStoreReached};
 ghost use Rattle.overlay_extract.specs.Results.{asked};
 ghost use Rattle.overlay_vector.specs.VectorShapes.{plain_vector_shapes, AreVectorShapes};
 
 use crate::path::DataVectorShape;
 use crate::vector_contours::assembled;
-use overlay_arrange::data::{CountWithData, OverlayEdgeData};
-use overlay_arrange::graph::Graph;
-use overlay_arrange::options::IntOverlayOptions;
-use overlay_arrange::overlay_rule::OverlayRule;
 use overlay_extract::binding::placed::bound_places;
 use overlay_geom::number::IntNumber;
+use overlay_geom::options::IntOverlayOptions;
+use overlay_geom::overlay_rule::OverlayRule;
+use overlay_graph::graph::Graph;
+use overlay_order::data::{CountWithData, OverlayEdgeData};
 use overlay_walk::buffer::BooleanExtractionBuffer;
 use overlay_walk::kept_contours::kept_contours;
 use std::alloc::{AllocError, Allocator};

@@ -19,7 +19,7 @@ use Rattle.overlay_plane.proofs.FreeHoles.{all_holes_have_shapes}
 use Rattle.overlay_plane.proofs.KeptContours.{can_be_bound, kept_contours_are_simple, kept_selected}
 use Rattle.overlay_plane.proofs.RoledShapes.{reaches_zero}
 use Rattle.overlay_plane.proofs.ShapesApart.{kept_shapes_can_be_bound}
-use Rattle.overlay_arrange.specs.Content.{IsContent}
+use Rattle.overlay_order.specs.Content.{IsContent}
 use Rattle.overlay_walk.specs.Asked.{Asked, region_asked, filled_asked, selected_of, is_kept}
 use Rattle.overlay_walk.specs.KeptResults.{AreKeptResults}
 use Rattle.overlay_walk.specs.Steps.{plain_steps, IsLong}

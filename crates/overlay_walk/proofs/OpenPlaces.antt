@@ -6,7 +6,7 @@ use Rattle.std.proofs.lemmas.Bool.{both_ways}
 use Rattle.std.proofs.lemmas.List.{length-set}
 use Rattle.std.proofs.lemmas.List.Elements.{All-weaker, All-contains_itself}
 use Rattle.overlay_geom.proofs.Entries.{Contains-head, Contains-later, Contains-cases}
-use Rattle.overlay_arrange.proofs.TakenItems.{filled_up}
+use Rattle.overlay_order.proofs.TakenItems.{filled_up}
 use Rattle.overlay_walk.specs.Places.{is_open}
 use Rattle.overlay_walk.specs.Steps.{unmarked}
 

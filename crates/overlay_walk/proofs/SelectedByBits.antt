@@ -4,15 +4,15 @@ use Rattle.std.specs.List.{flat_map}
 use Rattle.std.proofs.lemmas.List.Folds.{flat_map-map}
 use Rattle.overlay_geom.specs.Plane.{Step}
 use Rattle.overlay_geom.specs.Edges.{CountedEdge, ends_of, subj_of, clip_of}
+use Rattle.overlay_geom.specs.Rules.{rule_holds, rules_hold, fills_of, fill_bits}
+use Rattle.overlay_geom.specs.declared.fill_rule.FillRule.{FillRule}
+use Rattle.overlay_geom.specs.declared.overlay_rule.OverlayRule.{OverlayRule}
 use Rattle.overlay_plane.specs.Regions.{holds_above, holds_below}
 use Rattle.overlay_plane.specs.SelectedSteps.{step_with_left, selected_steps}
 use Rattle.overlay_plane.specs.Turn.{Hand, is_left_hand}
 use Rattle.overlay_plane.proofs.Entries.{flat_map-same}
-use Rattle.overlay_arrange.specs.Rules.{rule_holds, rules_hold, fills_of, fill_bits}
-use Rattle.overlay_arrange.specs.Vectors.{Vector, vector_of}
-use Rattle.overlay_arrange.specs.declared.fill_rule.FillRule.{FillRule}
-use Rattle.overlay_arrange.specs.declared.overlay_rule.OverlayRule.{OverlayRule}
-use Rattle.overlay_arrange.proofs.SideBits.{bits_show_sides}
+use Rattle.overlay_order.specs.Vectors.{Vector, vector_of}
+use Rattle.overlay_graph.proofs.SideBits.{bits_show_sides}
 use Rattle.overlay_walk.specs.Selection.{bits_hold_above, bits_hold_below, steps_by_bits}
 
 module _ (fill : FillRule) (rule : OverlayRule) (es : List CountedEdge) where

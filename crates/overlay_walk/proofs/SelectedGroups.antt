@@ -5,6 +5,9 @@ use Rattle.std.proofs.lemmas.List.Elements.{All-weaker}
 use Rattle.std.proofs.lemmas.List.Sorted.{All-permutation}
 use Rattle.overlay_geom.specs.Plane.{Step}
 use Rattle.overlay_geom.specs.Edges.{CountedEdge, subj_of, clip_of}
+use Rattle.overlay_geom.specs.declared.fill_rule.FillRule.{FillRule}
+use Rattle.overlay_geom.specs.declared.overlay_rule.OverlayRule.{OverlayRule}
+use Rattle.overlay_geom.specs.Rules.{rules_hold}
 use Rattle.overlay_plane.specs.Alternates.{Alternates}
 use Rattle.overlay_plane.specs.Balance.{HasBalancedCounts}
 use Rattle.overlay_plane.specs.BesideOrbits.{HasEachOnce}
@@ -18,11 +21,8 @@ use Rattle.overlay_plane.proofs.GroupedCuts.{contours_are_inside_groups}
 use Rattle.overlay_plane.proofs.InsideGroups.{walks_inside_groups_are_simple}
 use Rattle.overlay_plane.proofs.ShuffledCuts.{same_shuffled, shuffled_alternate, shuffled_once}
 use Rattle.overlay_plane.proofs.WalksOfCuts.{selected_along}
-use Rattle.overlay_arrange.specs.declared.fill_rule.FillRule.{FillRule}
-use Rattle.overlay_arrange.specs.declared.overlay_rule.OverlayRule.{OverlayRule}
-use Rattle.overlay_arrange.specs.Graphs.{IsArrangement}
-use Rattle.overlay_arrange.specs.Rules.{rules_hold}
-use Rattle.overlay_arrange.proofs.RuledContents.{ruled_content}
+use Rattle.overlay_order.proofs.RuledContents.{ruled_content}
+use Rattle.overlay_graph.specs.Graphs.{IsArrangement}
 use Rattle.overlay_walk.specs.Steps.{IsLong}
 use Rattle.overlay_walk.proofs.SelectedLong.{selected_are_long}
 use Rattle.overlay_walk.proofs.SplitGroups.{grouped_alike}

@@ -11,7 +11,7 @@ use Rattle.overlay_plane.proofs.Entries.{all_of_entries}
 use Rattle.overlay_plane.proofs.SameWay.{ends_differ}
 use Rattle.overlay_plane.proofs.SelectedLists.{selected_steps_of_edges}
 use Rattle.overlay_plane.proofs.WalksOfCuts.{walk_of_a_cut}
-use Rattle.overlay_arrange.specs.Content.{IsHeld, IsContent}
+use Rattle.overlay_order.specs.Content.{IsHeld, IsContent}
 use Rattle.overlay_walk.specs.Steps.{IsLong}
 
 -- the two steps along an edge that is held

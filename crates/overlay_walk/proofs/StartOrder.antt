@@ -11,7 +11,7 @@ use Rattle.overlay_geom.proofs.PointOrder.{point_lt-transitive, point_lt-after_u
 use Rattle.overlay_plane.specs.Nodes.{edge_turn, turns_left}
 use Rattle.overlay_plane.proofs.EdgeTurns.{edge_turn_same, left_after_left, IsForward, left_of_not_left}
 use Rattle.overlay_plane.proofs.Tests.{lt_from_test, test_from_lt}
-use Rattle.overlay_arrange.specs.Content.{point_cmp}
+use Rattle.overlay_order.specs.Content.{point_cmp}
 use Rattle.overlay_arrange.proofs.EdgeOrder.{point_cmp-is_tie}
 use Rattle.overlay_walk.specs.Places.{comes_top_first}
 use Rattle.overlay_plane.proofs.TiedStarts.{tied_before}

@@ -1,12 +1,12 @@
 -- The selected step of an edge, by its fill bits.
 use Rattle.std.specs.Prelude.{ℕ, Bool, not, cond, List, [], ◌∷◌}
 use Rattle.overlay_geom.specs.Plane.{Step, Edge}
+use Rattle.overlay_geom.specs.Rules.{rule_holds}
+use Rattle.overlay_geom.specs.declared.overlay_rule.OverlayRule.{OverlayRule}
 use Rattle.overlay_plane.specs.SelectedSteps.{step_with_left}
 use Rattle.overlay_plane.specs.Turn.{Hand, is_left_hand}
-use Rattle.overlay_arrange.specs.Counts.{has_bit}
-use Rattle.overlay_arrange.specs.Rules.{rule_holds}
-use Rattle.overlay_arrange.specs.Vectors.{Vector}
-use Rattle.overlay_arrange.specs.declared.overlay_rule.OverlayRule.{OverlayRule}
+use Rattle.overlay_order.specs.Counts.{has_bit}
+use Rattle.overlay_order.specs.Vectors.{Vector}
 
 -- the rule holds above an edge with these fill bits, and below it
 abbrev pub bits_hold_above : OverlayRule → ℕ → Bool

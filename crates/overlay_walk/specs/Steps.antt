@@ -2,10 +2,10 @@
 use Rattle.std.specs.Prelude.{◌≡◌, ℕ, Bool, false, cond, ℤ, List, [], ◌∷◌, map, AllPairs, slice_get, Some}
 use Rattle.overlay_geom.specs.Plane.{Step, Edge, point_lt}
 use Rattle.overlay_geom.specs.Points.{plain_point, InRange}
+use Rattle.overlay_geom.specs.declared.options.ContourDirection.{ContourDirection}
+use Rattle.overlay_geom.specs.declared.options.ContourDirection.TheVariants.{CounterClockwise, Clockwise}
 use Rattle.overlay_plane.specs.SelectedSteps.{step_with_left}
 use Rattle.overlay_plane.specs.Turn.{Hand, left, right}
-use Rattle.overlay_arrange.specs.declared.options.ContourDirection.{ContourDirection}
-use Rattle.overlay_arrange.specs.declared.options.ContourDirection.TheVariants.{CounterClockwise, Clockwise}
 use Rattle.overlay_plane.specs.Contours.{outline_or_hole_hand}
 use Rattle.overlay_walk.specs.declared.hand.Hand.{Hand as HandTaken}
 use Rattle.overlay_walk.specs.declared.hand.Hand.TheVariants.{Left, Right}

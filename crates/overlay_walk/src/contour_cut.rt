@@ -12,8 +12,8 @@ use crate::filled_side::is_filled_above;
 use crate::hand::{Hand, HandRule};
 use crate::open_steps::OpenSteps;
 use crate::step::Step;
-use overlay_arrange::options::ContourDirection;
 use overlay_geom::number::IntNumber;
+use overlay_geom::options::ContourDirection;
 use std::alloc::{AllocError, Allocator};
 
 /// Cuts all steps left into walks. While steps are left, the next walk is the orbit of the step along the top edge at

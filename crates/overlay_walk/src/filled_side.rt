@@ -9,8 +9,8 @@ ghost use Rattle.overlay_walk.specs.WalkEdges.{numbered_entry};
 
 use crate::numbered_edge::NumberedEdge;
 use crate::step::{Step, is_forward};
-use overlay_arrange::options::ContourDirection;
 use overlay_geom::number::IntNumber;
+use overlay_geom::options::ContourDirection;
 
 /// Returns whether the filled side of the step is the upper side of its edge. It is the step's left side where the
 /// direction is counterclockwise, else its right side.

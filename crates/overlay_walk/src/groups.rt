@@ -22,8 +22,8 @@ use crate::hand::{Hand, HandRule};
 use crate::open_steps::OpenSteps;
 use crate::points_once::leave_each_point_once;
 use crate::step::Step;
-use overlay_arrange::options::ContourDirection;
 use overlay_geom::number::{IntNumber, UIntNumber, WideIntNumber};
+use overlay_geom::options::ContourDirection;
 use std::alloc::{AllocError, Allocator};
 
 /// Walks all steps left, in groups: orbits by the hand of the filled side. This is the left hand where the direction is

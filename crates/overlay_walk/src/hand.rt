@@ -1,6 +1,6 @@
 //! The two ways to turn at a node, and the rule by which walks turn.
 
-use overlay_arrange::options::ContourDirection;
+use overlay_geom::options::ContourDirection;
 
 /// The side of an arriving step through which a walk turns at its end. A ray that turns from the
 /// way back through the left side turns clockwise, through the right side counterclockwise.

@@ -5,7 +5,7 @@ ghost use Rattle.overlay_geom.specs.Edges.{all_ends};
 ghost use Rattle.overlay_plane.specs.Balance.{HasBalancedCounts};
 ghost use Rattle.overlay_plane.specs.BoundContours.{walks_in};
 ghost use Rattle.overlay_plane.specs.RoledContours.{contours_from};
-ghost use Rattle.overlay_arrange.specs.Graphs.{graph_edges};
+ghost use Rattle.overlay_graph.specs.Graphs.{graph_edges};
 ghost use Rattle.overlay_walk.specs.Asked.{asked};
 ghost use Rattle.overlay_walk.specs.GroupedContours.{plain_contours};
 ghost use Rattle.overlay_walk.specs.KeptResults.{AreKeptResults};
@@ -20,11 +20,11 @@ use crate::selected_walks::{
     selected_contours, selected_contours_of, selected_walks, selected_walks_of,
 };
 use crate::step::Step;
-use overlay_arrange::count::EdgeCount;
-use overlay_arrange::graph::Graph;
-use overlay_arrange::options::{ContourDirection, IntOverlayOptions};
-use overlay_arrange::overlay_rule::OverlayRule;
 use overlay_geom::number::{IntNumber, UIntNumber, WideIntNumber};
+use overlay_geom::options::{ContourDirection, IntOverlayOptions};
+use overlay_geom::overlay_rule::OverlayRule;
+use overlay_graph::graph::Graph;
+use overlay_order::count::EdgeCount;
 use std::alloc::{AllocError, Allocator};
 
 /// Returns the contours of a cut of the graph's selected steps: steps along edges with the region of the graph's rule

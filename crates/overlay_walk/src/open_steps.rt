@@ -15,12 +15,12 @@ use crate::leftmost::{first_open, places_top_first};
 use crate::next::place_of_next;
 use crate::onward::{noted, onward_places};
 use crate::step::Step;
-use overlay_arrange::edge::compare_points;
-use overlay_arrange::sort_points::{is_in_order, order_by_points};
-use overlay_arrange::sort_runs::sort_neighbours;
 use overlay_geom::edge_pair::is_same;
 use overlay_geom::flat::copied;
 use overlay_geom::number::IntNumber;
+use overlay_order::edge::compare_points;
+use overlay_order::sort_points::{is_in_order, order_by_points};
+use overlay_order::sort_runs::sort_neighbours;
 use std::alloc::{AllocError, Allocator};
 use std::marker::Model;
 

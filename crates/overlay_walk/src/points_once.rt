@@ -9,12 +9,12 @@ ghost use Rattle.overlay_walk.specs.PointsOnce.{all_next_differ};
 ghost use Rattle.overlay_walk.specs.Steps.{plain_steps};
 
 use crate::step::Step;
-use overlay_arrange::sort_points::order_by_points;
 use overlay_geom::edge::compare_points;
 use overlay_geom::edge_pair::is_same;
 use overlay_geom::flat::copied;
 use overlay_geom::number::IntNumber;
 use overlay_geom::point::IntPoint;
+use overlay_order::sort_points::order_by_points;
 use std::alloc::{AllocError, Allocator};
 
 // Greatest number of steps whose pairs are looked at.

@@ -4,17 +4,17 @@ ghost use Rattle.std.specs.Prelude.{◌≡◌, ◌++◌, map, flat_map, option_m
 ghost use Rattle.std.specs.Prelude.{List, slice_get, Some, All, IfSome, OnOk};
 ghost use Rattle.overlay_geom.specs.Plane.{Edge};
 ghost use Rattle.overlay_plane.specs.SelectedSteps.{step_with_left};
-ghost use Rattle.overlay_arrange.specs.Vectors.{plain_vector};
+ghost use Rattle.overlay_order.specs.Vectors.{plain_vector};
 ghost use Rattle.overlay_walk.specs.Steps.{filled_hand, plain_step, plain_steps, IsAlong, RunsAlong};
 ghost use Rattle.overlay_walk.specs.Selection.{ends, bits_hold_above, bits_hold_below, steps_by_bits};
 
 use crate::step::Step;
-use overlay_arrange::options::ContourDirection;
-use overlay_arrange::overlay_rule::OverlayRule;
-use overlay_arrange::vector::{
+use overlay_geom::number::IntNumber;
+use overlay_geom::options::ContourDirection;
+use overlay_geom::overlay_rule::OverlayRule;
+use overlay_order::vector::{
     CLIP_LEFT, CLIP_RIGHT, DataVectorEdge, SUBJ_LEFT, SUBJ_RIGHT, SideFill,
 };
-use overlay_geom::number::IntNumber;
 use std::alloc::{AllocError, Allocator};
 
 /// Adds the selected steps of the edges, in their order, each with the number of its edge. After a refusal, some of

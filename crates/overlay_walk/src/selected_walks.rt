@@ -3,14 +3,14 @@
 ghost use Rattle.std.specs.Prelude.{◌≡◌, [], All, IfOk};
 ghost use Rattle.std.specs.List.Sorted.{IsPermutation};
 ghost use Rattle.overlay_geom.specs.Edges.{all_ends, subj_of, clip_of};
+ghost use Rattle.overlay_geom.specs.Rules.{rules_hold};
 ghost use Rattle.overlay_plane.specs.Balance.{HasBalancedCounts};
 ghost use Rattle.overlay_plane.specs.Binding.{AreCutFrom};
 ghost use Rattle.overlay_plane.specs.Groups.{IsSimpleContour};
 ghost use Rattle.overlay_plane.specs.MinimumArea.{reaches};
 ghost use Rattle.overlay_plane.specs.RoledContours.{IsCutInGroups};
 ghost use Rattle.overlay_plane.specs.SelectedSteps.{selected_steps};
-ghost use Rattle.overlay_arrange.specs.Graphs.{graph_edges, IsArrangement};
-ghost use Rattle.overlay_arrange.specs.Rules.{rules_hold};
+ghost use Rattle.overlay_graph.specs.Graphs.{graph_edges, IsArrangement};
 ghost use Rattle.overlay_walk.specs.GroupedContours.{plain_contours};
 ghost use Rattle.overlay_walk.specs.Steps.{filled_hand, plain_steps, IsLong, RunsAlong};
 ghost use Rattle.overlay_walk.specs.Walks.{plain_walks};
@@ -23,11 +23,11 @@ use crate::hand::HandRule;
 use crate::open_steps::OpenSteps;
 use crate::selected_steps::push_selected;
 use crate::step::Step;
-use overlay_arrange::count::EdgeCount;
-use overlay_arrange::graph::Graph;
-use overlay_arrange::options::ContourDirection;
-use overlay_arrange::overlay_rule::OverlayRule;
 use overlay_geom::number::{IntNumber, UIntNumber, WideIntNumber};
+use overlay_geom::options::ContourDirection;
+use overlay_geom::overlay_rule::OverlayRule;
+use overlay_graph::graph::Graph;
+use overlay_order::count::EdgeCount;
 use std::alloc::{AllocError, Allocator};
 
 /// Returns the walks of a cut of the graph's selected steps: steps along edges with the region of the graph's rule and

@@ -9,11 +9,11 @@ ghost use Rattle.overlay_walk.specs.Places.{comes_top_first, is_place_top_first}
 ghost use Rattle.overlay_walk.specs.Steps.{plain_step, plain_steps, IsLong};
 
 use crate::step::{Step, stepped_edge};
-use overlay_arrange::sort_runs::sort_neighbours;
 use overlay_geom::edge::{IntEdge, is_before};
 use overlay_geom::edge_pair::is_same;
 use overlay_geom::number::{IntNumber, WideIntNumber};
 use overlay_geom::vector::cross_at;
+use overlay_order::sort_runs::sort_neighbours;
 use std::alloc::{AllocError, Allocator};
 use std::cmp::Ordering;
 

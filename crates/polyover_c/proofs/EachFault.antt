@@ -3,9 +3,9 @@ use Rattle.std.proofs.Common.{◌≡◌, ◌⊎◌, inl, inr, ℕ, ◌<◌, ◌�
 use Rattle.std.specs.Int.{Width}
 use Rattle.i_overlay.specs.OneShot.{MayRefusePaths}
 use Rattle.overlay_builder.specs.GivenPaths.{paths_for}
-use Rattle.overlay_arrange.specs.declared.options.ShapeType.TheVariants.{Subject}
-use Rattle.overlay_relate.specs.Prepared.{MayRefusePreparing}
+use Rattle.overlay_geom.specs.declared.options.ShapeType.TheVariants.{Subject}
 use Rattle.overlay_geom.specs.declared.error.OverlayError.{OverlayError}
+use Rattle.overlay_relate.specs.Prepared.{MayRefusePreparing}
 use Rattle.i_overlay.specs.Alone.{MayRefuseAlone}
 use Rattle.overlay_string.specs.OneShot.{MayRefusePaths as MayRefuseStrings}
 use Rattle.polyover_c.specs.Asked.{solver_of, AreKnown, IsUnknown}

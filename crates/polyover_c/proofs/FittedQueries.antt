@@ -2,11 +2,11 @@
 use Rattle.std.proofs.Common.{◌≡◌, ℕ, ℤ, List, map, sym, ap₂, subst, ◌∙◌}
 use Rattle.std.specs.Int.{Width, w64}
 use Rattle.std.specs.Prelude.{MatchResult, Result, Ok, Err}
-use Rattle.overlay_arrange.specs.declared.options.ContourDirection.TheVariants.{CounterClockwise}
-use Rattle.overlay_builder.specs.GivenPaths.{subject_and_clip}
-use Rattle.overlay_builder.specs.PathLists.{HoldsPaths}
+use Rattle.overlay_geom.specs.declared.options.ContourDirection.TheVariants.{CounterClockwise}
 use Rattle.overlay_geom.specs.Plane.{Point}
 use Rattle.overlay_geom.specs.declared.error.OverlayError.{OverlayError}
+use Rattle.overlay_builder.specs.GivenPaths.{subject_and_clip}
+use Rattle.overlay_builder.specs.PathLists.{HoldsPaths}
 use Rattle.overlay_string.specs.OneShot.{AreClippedOfPaths, shape_and_strings, MayRefusePaths as MayRefuseStrings}
 use Rattle.overlay_string.specs.StringSlices.{AreSlicedOfPaths}
 use Rattle.i_overlay.specs.OneShot.{AreEdgesOfPaths, MayRefusePaths}

@@ -1,12 +1,12 @@
 -- Simplifications that are computed at 32 bits, and their refusals.
 use Rattle.std.proofs.Common.{◌≡◌, false, Bool, ℕ, ℤ, List, [], ◌∷◌, map, refl, sym, subst}
 use Rattle.std.specs.Int.{Width, w64}
-use Rattle.overlay_arrange.specs.declared.options.ShapeType.TheVariants.{Subject}
-use Rattle.overlay_builder.specs.GivenPaths.{paths_for}
-use Rattle.overlay_extract.specs.Results.{Asked, asked}
+use Rattle.overlay_geom.specs.declared.options.ShapeType.TheVariants.{Subject}
 use Rattle.overlay_geom.specs.Edges.{CountedEdge}
 use Rattle.overlay_geom.specs.Plane.{Point}
 use Rattle.overlay_geom.specs.declared.error.OverlayError.{OverlayError}
+use Rattle.overlay_builder.specs.GivenPaths.{paths_for}
+use Rattle.overlay_extract.specs.Results.{Asked, asked}
 use Rattle.i_overlay.specs.Alone.{MayRefuseAlone}
 use Rattle.i_overlay.specs.Simplified.{IsLeft, IsSimplified, IsSimplifiedAlone}
 use Rattle.i_overlay.specs.declared.simplifying.outcome.Outcome.{Outcome}

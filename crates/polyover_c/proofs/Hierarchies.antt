@@ -3,13 +3,13 @@ use Rattle.std.proofs.Common.{◌≡◌, ℕ, ℤ, List, [], ◌∷◌, map, ref
 use Rattle.std.specs.Prelude.{Ok}
 use Rattle.std.specs.Int.{Width}
 use Rattle.overlay_arrange.specs.Arranged.{IsArranged}
-use Rattle.overlay_arrange.specs.declared.fill_rule.FillRule.{FillRule}
-use Rattle.overlay_arrange.specs.declared.overlay_rule.OverlayRule.{OverlayRule}
+use Rattle.overlay_geom.specs.declared.fill_rule.FillRule.{FillRule}
+use Rattle.overlay_geom.specs.declared.overlay_rule.OverlayRule.{OverlayRule}
+use Rattle.overlay_geom.specs.Plane.{Point}
 use Rattle.overlay_extract.specs.ChildLinks.{plain_link}
 use Rattle.overlay_extract.specs.PlacedResults.{IsHierarchy}
 use Rattle.overlay_extract.specs.Results.{asked}
 use Rattle.overlay_extract.specs.declared.child_link.ChildLink.{ChildLink as LinkTaken}
-use Rattle.overlay_geom.specs.Plane.{Point}
 use Rattle.i_overlay.specs.Builder.{Builder}
 use Rattle.i_overlay.specs.Queries.{BuilderExtracts}
 use Rattle.i_overlay.proofs.OneShots.{hierarchy_over_paths}

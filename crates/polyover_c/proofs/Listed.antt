@@ -3,15 +3,15 @@ use Rattle.std.proofs.Common.{◌≡◌, ◌<◌, ℕ, ◌+◌, ℤ, List, [], �
 use Rattle.std.proofs.Common.{ap, ap₂, subst, ◌∙◌}
 use Rattle.std.specs.List.{flat_map}
 use Rattle.std.proofs.lemmas.List.{map-append}
-use Rattle.overlay_arrange.specs.Vectors.{Vector, plain_vector}
-use Rattle.overlay_arrange.specs.declared.vector.DataVectorEdge.{DataVectorEdge}
-use Rattle.overlay_arrange.specs.declared.fill_rule.FillRule.{FillRule}
-use Rattle.overlay_builder.specs.GivenPaths.{subject_and_clip}
-use Rattle.overlay_geom.proofs.JoinedLists.{joined_push}
-use Rattle.overlay_geom.proofs.Mapped.{mapped_more}
+use Rattle.overlay_order.specs.Vectors.{Vector, plain_vector}
+use Rattle.overlay_order.specs.declared.vector.DataVectorEdge.{DataVectorEdge}
+use Rattle.overlay_geom.specs.declared.fill_rule.FillRule.{FillRule}
 use Rattle.overlay_geom.specs.Plane.{Point}
 use Rattle.overlay_geom.specs.declared.error.OverlayError.{OverlayError}
 use Rattle.overlay_geom.specs.declared.solver.Solver.{Solver}
+use Rattle.overlay_geom.proofs.JoinedLists.{joined_push}
+use Rattle.overlay_geom.proofs.Mapped.{mapped_more}
+use Rattle.overlay_builder.specs.GivenPaths.{subject_and_clip}
 use Rattle.i_overlay.specs.OneShot.{AreEdgesOfPaths, MayRefusePaths}
 use Rattle.polyover_c.specs.declared.fault.Fault.{Fault}
 use Rattle.polyover_c.proofs.Refusals.{unread, without_memory, unanswered}

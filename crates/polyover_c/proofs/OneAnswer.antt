@@ -8,7 +8,7 @@ use Rattle.overlay_geom.specs.declared.solver.Solver.{Solver}
 use Rattle.overlay_geom.specs.declared.solver.Solver.TheVariants.{Snapping}
 use Rattle.overlay_geom.proofs.Entries.{same_head, same_tail}
 use Rattle.overlay_plane.specs.Islands.{ChildLink}
-use Rattle.overlay_arrange.specs.Vectors.{Vector}
+use Rattle.overlay_order.specs.Vectors.{Vector}
 use Rattle.overlay_string.specs.OneShot.{AreClippedOfPaths}
 use Rattle.overlay_string.proofs.OneAnswer.{one_clip_of_strings, one_slicing_along_strings}
 use Rattle.i_overlay.specs.OneShot.{IsResultOfPaths, IsHierarchyOfPaths}

@@ -3,17 +3,17 @@ use Rattle.std.proofs.Common.{◌≡◌, ◌<◌, ℕ, ℤ, List, refl, ap, ap�
 use Rattle.std.specs.Prelude.{Ok, Err}
 use Rattle.std.specs.Int.{Width}
 use Rattle.overlay_arrange.specs.Arranged.{IsArranged}
-use Rattle.overlay_arrange.specs.declared.fill_rule.FillRule.{FillRule}
-use Rattle.overlay_arrange.specs.declared.options.IntOverlayOptions.{IntOverlayOptions}
-use Rattle.overlay_arrange.specs.declared.overlay_rule.OverlayRule.{OverlayRule}
-use Rattle.overlay_builder.specs.GivenPaths.{added_paths, subject_and_clip}
-use Rattle.overlay_builder.specs.PathLists.{HoldsPaths, MayRefuseBuilder}
-use Rattle.overlay_extract.specs.Results.{Asked, asked, IsResult}
+use Rattle.overlay_geom.specs.declared.fill_rule.FillRule.{FillRule}
+use Rattle.overlay_geom.specs.declared.options.IntOverlayOptions.{IntOverlayOptions}
+use Rattle.overlay_geom.specs.declared.overlay_rule.OverlayRule.{OverlayRule}
 use Rattle.overlay_geom.specs.Flat.{shapes_in}
 use Rattle.overlay_geom.specs.Plane.{Point}
 use Rattle.overlay_geom.specs.declared.error.OverlayError.{OverlayError}
 use Rattle.overlay_geom.specs.declared.flat.shapes.FlatShapesBuffer.{FlatShapesBuffer}
 use Rattle.overlay_geom.specs.declared.solver.Solver.{Solver}
+use Rattle.overlay_builder.specs.GivenPaths.{added_paths, subject_and_clip}
+use Rattle.overlay_builder.specs.PathLists.{HoldsPaths, MayRefuseBuilder}
+use Rattle.overlay_extract.specs.Results.{Asked, asked, IsResult}
 use Rattle.i_overlay.specs.Builder.{Builder, empty_builder, held_by}
 use Rattle.i_overlay.specs.OneShot.{MayRefusePaths}
 use Rattle.i_overlay.specs.Queries.{BuilderExtracts}

@@ -1,13 +1,13 @@
 -- How preparing ends, and why it is refused.
 use Rattle.std.proofs.Common.{◌≡◌, ◌<◌, ℕ, ℤ, List, [], map, inl, inr, refl, sym, ap, ◌∙◌, subst}
-use Rattle.overlay_arrange.specs.declared.fill_rule.FillRule.{FillRule}
-use Rattle.overlay_arrange.specs.declared.options.ShapeType.TheVariants.{Subject}
-use Rattle.overlay_builder.specs.GivenPaths.{paths_for}
+use Rattle.overlay_geom.specs.declared.fill_rule.FillRule.{FillRule}
+use Rattle.overlay_geom.specs.declared.options.ShapeType.TheVariants.{Subject}
 use Rattle.overlay_geom.specs.Plane.{Point, Edge}
 use Rattle.overlay_geom.specs.declared.edge.IntEdge.{IntEdge}
 use Rattle.overlay_geom.specs.declared.error.OverlayError.{OverlayError}
 use Rattle.overlay_geom.specs.declared.error.OverlayError.TheVariants as error
 use Rattle.overlay_geom.specs.declared.solver.Solver.{Solver}
+use Rattle.overlay_builder.specs.GivenPaths.{paths_for}
 use Rattle.overlay_relate.specs.Prepared.{IsPreparedOf, MayRefusePreparing}
 use Rattle.overlay_relate.specs.declared.blocks.Block.{Block}
 use Rattle.polyover_c.proofs.Asking.{bare_can_be_asked}

@@ -1,16 +1,16 @@
 -- What the answer of a simplification says of the arrays, and its refusals.
 use Rattle.std.proofs.Common.{◌≡◌, ◌<◌, ℕ, ℤ, List, false, lit<, sym, subst, ap}
 use Rattle.std.specs.Int.{Width}
-use Rattle.overlay_arrange.specs.declared.fill_rule.FillRule.{FillRule}
-use Rattle.overlay_arrange.specs.declared.options.IntOverlayOptions.{IntOverlayOptions}
-use Rattle.overlay_arrange.specs.declared.options.ShapeType.TheVariants.{Subject}
-use Rattle.overlay_arrange.specs.declared.overlay_rule.OverlayRule.TheVariants as rule
-use Rattle.overlay_builder.specs.GivenPaths.{paths_for}
-use Rattle.overlay_extract.specs.Results.{asked}
+use Rattle.overlay_geom.specs.declared.fill_rule.FillRule.{FillRule}
+use Rattle.overlay_geom.specs.declared.options.IntOverlayOptions.{IntOverlayOptions}
+use Rattle.overlay_geom.specs.declared.options.ShapeType.TheVariants.{Subject}
+use Rattle.overlay_geom.specs.declared.overlay_rule.OverlayRule.TheVariants as rule
 use Rattle.overlay_geom.specs.Plane.{Point}
 use Rattle.overlay_geom.specs.declared.error.OverlayError.{OverlayError}
 use Rattle.overlay_geom.specs.declared.error.OverlayError.TheVariants as error
 use Rattle.overlay_geom.specs.declared.solver.Solver.{Solver}
+use Rattle.overlay_builder.specs.GivenPaths.{paths_for}
+use Rattle.overlay_extract.specs.Results.{asked}
 use Rattle.i_overlay.specs.Alone.{MayRefuseAlone}
 use Rattle.i_overlay.specs.Simplified.{IsSimplifiedAlone}
 use Rattle.polyover_c.specs.Reading.{HaveFault}

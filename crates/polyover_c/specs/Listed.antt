@@ -1,7 +1,7 @@
 -- The edges of an arrangement in arrays of a caller.
 use Rattle.std.specs.Prelude.{◌≡◌, ◌≤◌, ℕ, ℤ, List, [], ◌∷◌, length, map}
 use Rattle.std.specs.List.{flat_map}
-use Rattle.overlay_arrange.specs.Vectors.{Vector}
+use Rattle.overlay_order.specs.Vectors.{Vector}
 use Rattle.i_overlay.specs.OneShot.{AreEdgesOfPaths, MayRefusePaths}
 use Rattle.polyover_c.specs.Arrays.{written_over}
 use Rattle.polyover_c.specs.Asked.{fill_of, solver_of}

@@ -1,12 +1,12 @@
 -- How an overlay of arrays ends.
 use Rattle.std.specs.Prelude.{◌≡◌, false, ℕ, ℤ, List}
 use Rattle.std.specs.Int.{Width}
-use Rattle.overlay_arrange.specs.declared.fill_rule.FillRule.{FillRule}
-use Rattle.overlay_arrange.specs.declared.overlay_rule.OverlayRule.{OverlayRule}
+use Rattle.overlay_geom.specs.declared.fill_rule.FillRule.{FillRule}
+use Rattle.overlay_geom.specs.declared.overlay_rule.OverlayRule.{OverlayRule}
+use Rattle.overlay_geom.specs.Plane.{Point}
 use Rattle.overlay_builder.specs.GivenPaths.{added_paths}
 use Rattle.overlay_builder.specs.PathLists.{HoldsPaths}
 use Rattle.overlay_extract.specs.Results.{asked}
-use Rattle.overlay_geom.specs.Plane.{Point}
 use Rattle.i_overlay.specs.Builder.{Builder}
 use Rattle.i_overlay.specs.OneShot.{IsResultOfPaths, MayRefusePaths}
 use Rattle.polyover_c.specs.Asked.{rule_of, fill_of, solver_of, options_of, AreKnown, IsUnknown}

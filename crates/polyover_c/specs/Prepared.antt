@@ -1,11 +1,11 @@
 -- Prepared shapes in arrays, what they are made of, and where points lie in them.
 use Rattle.std.specs.Prelude.{◌≡◌, ◌≤◌, ◌⊎◌, ℕ, ℤ, List, [], length, map}
-use Rattle.overlay_arrange.specs.declared.options.ShapeType.TheVariants.{Subject}
-use Rattle.overlay_builder.specs.GivenPaths.{paths_for}
+use Rattle.overlay_geom.specs.declared.options.ShapeType.TheVariants.{Subject}
 use Rattle.overlay_geom.specs.Plane.{Point, Edge}
 use Rattle.overlay_geom.specs.Points.{plain_points}
 use Rattle.overlay_geom.specs.Resolved.{plain_edges}
 use Rattle.overlay_geom.specs.declared.edge.IntEdge.{IntEdge}
+use Rattle.overlay_builder.specs.GivenPaths.{paths_for}
 use Rattle.overlay_relate.specs.Answers.{AnswersWhere}
 use Rattle.overlay_relate.specs.Blocks.{Block, AreBlocked, plain_blocks}
 use Rattle.overlay_relate.specs.Bounded.{LiesSo}

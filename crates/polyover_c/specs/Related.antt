@@ -1,6 +1,6 @@
 -- How a subject and a clip in arrays lie to each other, as bits.
 use Rattle.std.specs.Prelude.{◌≡◌, ◌+◌, ◌⊎◌, ℕ, ℤ}
-use Rattle.overlay_arrange.specs.Rules.{bit}
+use Rattle.overlay_geom.specs.Rules.{bit}
 use Rattle.overlay_relate.specs.declared.relations.Relations.{Relations}
 use Rattle.i_overlay.specs.OneShot.{MayRefusePaths}
 use Rattle.i_overlay.specs.Relations.{AreRelationsOfPaths}

@@ -1,10 +1,10 @@
 -- How the simplification of arrays ends.
 use Rattle.std.specs.Prelude.{ℕ, ℤ, List, false}
 use Rattle.std.specs.Int.{Width}
-use Rattle.overlay_arrange.specs.declared.options.ShapeType.TheVariants.{Subject}
+use Rattle.overlay_geom.specs.declared.options.ShapeType.TheVariants.{Subject}
+use Rattle.overlay_geom.specs.Plane.{Point}
 use Rattle.overlay_builder.specs.GivenPaths.{paths_for}
 use Rattle.overlay_extract.specs.Results.{asked}
-use Rattle.overlay_geom.specs.Plane.{Point}
 use Rattle.i_overlay.specs.Alone.{MayRefuseAlone}
 use Rattle.i_overlay.specs.Simplified.{IsSimplifiedAlone}
 use Rattle.polyover_c.specs.Asked.{rule_of, fill_of, solver_of, options_of, AreKnown, IsUnknown}

@@ -1,7 +1,7 @@
 //! The edges of the arrangement of contours in arrays.
 
 ghost use Rattle.std.specs.Prelude.{◌≡◌, All, IfOk, IfErr, IsOkUnless, MatchResult, map};
-ghost use Rattle.overlay_arrange.specs.Vectors.{plain_vector};
+ghost use Rattle.overlay_order.specs.Vectors.{plain_vector};
 ghost use Rattle.overlay_builder.specs.GivenPaths.{subject_and_clip};
 ghost use Rattle.overlay_geom.specs.Flat.{paths_in};
 ghost use Rattle.overlay_geom.specs.Points.{AllInRange};

@@ -1,10 +1,10 @@
 //! How a subject and a clip in arrays lie to each other.
 
 ghost use Rattle.std.specs.Prelude.{◌≡◌, ◌≤◌, All, MatchResult};
-ghost use Rattle.overlay_arrange.specs.Rules.{bit};
-ghost use Rattle.overlay_builder.specs.GivenPaths.{subject_and_clip};
+ghost use Rattle.overlay_geom.specs.Rules.{bit};
 ghost use Rattle.overlay_geom.specs.Flat.{paths_in};
 ghost use Rattle.overlay_geom.specs.Points.{AllInRange};
+ghost use Rattle.overlay_builder.specs.GivenPaths.{subject_and_clip};
 ghost use Rattle.i_overlay.specs.OneShot.{MayRefusePaths};
 ghost use Rattle.i_overlay.specs.Relations.{AreRelationsOfPaths};
 ghost use Rattle.polyover_c.specs.Given.{contours_of};

@@ -1,12 +1,12 @@
 //! The shapes that contours in arrays are simplified to.
 
 ghost use Rattle.std.specs.Prelude.{◌≡◌, All, IfOk, IfErr, MatchResult};
-ghost use Rattle.overlay_arrange.specs.declared.options.ShapeType.TheVariants.{Subject};
-ghost use Rattle.overlay_builder.specs.GivenPaths.{paths_for};
-ghost use Rattle.overlay_extract.specs.Results.{asked};
+ghost use Rattle.overlay_geom.specs.declared.options.ShapeType.TheVariants.{Subject};
 ghost use Rattle.overlay_geom.specs.Flat.{paths_in};
 ghost use Rattle.overlay_geom.specs.Paths.{plain_shapes};
 ghost use Rattle.overlay_geom.specs.Points.{AllInRange};
+ghost use Rattle.overlay_builder.specs.GivenPaths.{paths_for};
+ghost use Rattle.overlay_extract.specs.Results.{asked};
 ghost use Rattle.i_overlay.specs.Alone.{MayRefuseAlone};
 ghost use Rattle.i_overlay.specs.Simplified.{IsSimplifiedAlone};
 ghost use Rattle.polyover_c.specs.Given.{contours_of};

@@ -5,7 +5,7 @@ use Rattle.std.proofs.lemmas.List.{length-map, get_or-map, map-append, take_more
 use Rattle.overlay_geom.specs.Edges.{AddsContour, CountedEdge, weight}
 use Rattle.overlay_geom.specs.declared.error.OverlayError.{OverlayError}
 use Rattle.overlay_geom.specs.declared.error.OverlayError.TheVariants.{Memory, NotSettled, TooManyEdges, Failed}
-use Rattle.overlay_arrange.specs.Content.{edge_for}
+use Rattle.overlay_order.specs.Content.{edge_for}
 use Rattle.overlay_builder.specs.GivenPaths.{ContourWeighsTooMuch, GivenPath, added_path}
 use Rattle.overlay_builder.specs.GivenPaths.{added_paths}
 use Rattle.i_overlay.specs.Builder.{Builder, IsNewBuilder}

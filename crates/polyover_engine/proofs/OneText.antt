@@ -1,10 +1,10 @@
 -- Answers of one arrangement are one, and so is their text.
 use Rattle.std.proofs.Common.{◌≡◌, false, map, ◌++◌, sym, ap, ap₂, subst, ◌∙◌}
 use Rattle.std.specs.Int.{w128}
-use Rattle.overlay_arrange.specs.Rules.{is_filled}
-use Rattle.overlay_arrange.specs.Vectors.{vector_of}
-use Rattle.overlay_arrange.specs.declared.options.ContourDirection.TheVariants.{CounterClockwise}
+use Rattle.overlay_geom.specs.Rules.{is_filled}
+use Rattle.overlay_geom.specs.declared.options.ContourDirection.TheVariants.{CounterClockwise}
 use Rattle.overlay_geom.specs.declared.solver.Solver.TheVariants.{Rounds}
+use Rattle.overlay_order.specs.Vectors.{vector_of}
 use Rattle.overlay_extract.specs.Determined.{AreArrangedWithBalance}
 use Rattle.overlay_extract.specs.PlacedResults.{IsHierarchy}
 use Rattle.overlay_extract.specs.Results.{IsResult}

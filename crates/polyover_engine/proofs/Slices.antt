@@ -9,10 +9,10 @@ use Rattle.overlay_geom.specs.Points.{AllInRange}
 use Rattle.overlay_geom.specs.declared.error.OverlayError.{OverlayError}
 use Rattle.overlay_geom.specs.Numbers.{greatest_of_64_bits}
 use Rattle.overlay_geom.specs.declared.solver.Solver.TheVariants.{Rounds}
-use Rattle.overlay_arrange.specs.Paths.{GivenPath}
-use Rattle.overlay_arrange.specs.declared.fill_rule.FillRule.{FillRule}
-use Rattle.overlay_arrange.specs.declared.options.ShapeType.{ShapeType}
-use Rattle.overlay_arrange.specs.declared.options.ShapeType.TheVariants.{Subject, Clip}
+use Rattle.overlay_geom.specs.declared.fill_rule.FillRule.{FillRule}
+use Rattle.overlay_geom.specs.declared.options.ShapeType.{ShapeType}
+use Rattle.overlay_geom.specs.declared.options.ShapeType.TheVariants.{Subject, Clip}
+use Rattle.overlay_order.specs.Paths.{GivenPath}
 use Rattle.overlay_builder.specs.PathLists.{AddedPath}
 use Rattle.overlay_string.specs.OneShot.{MayRefusePaths}
 use Rattle.overlay_string.specs.StringSlices.{AreSlicedOfPaths}

@@ -8,7 +8,7 @@ use Rattle.overlay_geom.specs.Points.{AllInRange}
 use Rattle.overlay_geom.specs.Resolved.{IsResolved}
 use Rattle.overlay_geom.specs.declared.point.IntPoint.{IntPoint}
 use Rattle.overlay_geom.specs.Numbers.{greatest_of_64_bits}
-use Rattle.overlay_arrange.specs.declared.options.ShapeType.TheVariants.{Subject}
+use Rattle.overlay_geom.specs.declared.options.ShapeType.TheVariants.{Subject}
 use Rattle.polyover_text.specs.Points.{points_at}
 use Rattle.polyover_text.specs.Grammar.{GivenContour}
 use Rattle.polyover_engine.specs.declared.exit.Exit.{Exit}

@@ -8,14 +8,14 @@ use Rattle.overlay_geom.specs.Numbers.{greatest_of_64_bits}
 use Rattle.overlay_geom.specs.Resolved.{IsResolved}
 use Rattle.overlay_geom.specs.declared.error.OverlayError.{OverlayError}
 use Rattle.overlay_geom.specs.declared.error.OverlayError.TheVariants.{Memory}
+use Rattle.overlay_geom.specs.Plane.{Point}
+use Rattle.overlay_geom.specs.declared.solver.Solver.TheVariants.{Rounds}
 use Rattle.overlay_relate.specs.Answers.{AnswersWhere, AnswersWhether}
 use Rattle.overlay_relate.specs.Locations.{shapes_edges, is_in_shapes, IsLocatedAmong}
 use Rattle.overlay_relate.specs.Exchanged.{exchanged_paths}
 use Rattle.overlay_relate.specs.declared.location.PointLocation.{PointLocation}
 use Rattle.overlay_relate.specs.declared.relations.Relations.{Relations}
-use Rattle.overlay_geom.specs.Plane.{Point}
-use Rattle.overlay_geom.specs.declared.solver.Solver.TheVariants.{Rounds}
-use Rattle.overlay_arrange.specs.Vectors.{Vector}
+use Rattle.overlay_order.specs.Vectors.{Vector}
 use Rattle.i_overlay.specs.OneShot.{AreEdgesOfPaths, IsHierarchyOfPaths, IsResultOfPaths, MayRefusePaths}
 use Rattle.i_overlay.specs.Relations.{AreRelationsOfPaths}
 use Rattle.overlay_plane.specs.Islands.{ChildLink}

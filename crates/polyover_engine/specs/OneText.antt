@@ -1,7 +1,7 @@
 -- The text of an answer is determined by the arrangement that it is of. Rounds that round each point of the plane alike
 -- lead to one arrangement.
 use Rattle.std.specs.Prelude.{◌≡◌, ℕ, List, [], ◌∷◌, All}
-use Rattle.overlay_arrange.specs.declared.fill_rule.FillRule.{FillRule}
+use Rattle.overlay_geom.specs.declared.fill_rule.FillRule.{FillRule}
 use Rattle.overlay_geom.specs.Plane.{IsOff, in_plane}
 use Rattle.overlay_relate.specs.Locations.{shapes_edges}
 use Rattle.polyover_engine.specs.Answers.{Answers}

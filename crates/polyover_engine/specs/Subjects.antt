@@ -6,8 +6,8 @@ use Rattle.overlay_geom.specs.Plane.{Point}
 use Rattle.overlay_geom.specs.Points.{AllInRange}
 use Rattle.overlay_geom.specs.Resolved.{IsResolved}
 use Rattle.overlay_geom.specs.Numbers.{greatest_of_64_bits}
-use Rattle.overlay_arrange.specs.declared.options.ShapeType.{ShapeType}
-use Rattle.overlay_arrange.specs.declared.options.ShapeType.TheVariants.{Subject, Clip}
+use Rattle.overlay_geom.specs.declared.options.ShapeType.{ShapeType}
+use Rattle.overlay_geom.specs.declared.options.ShapeType.TheVariants.{Subject, Clip}
 use Rattle.polyover_text.specs.Grammar.{GivenContour}
 use Rattle.polyover_engine.specs.declared.exit.Exit.{Exit}
 use Rattle.polyover_engine.specs.declared.exit.Exit.TheVariants.{Answered, Refused, BadInput, Io}

@@ -2,7 +2,7 @@
 
 ghost use Rattle.std.specs.Prelude.{MatchResult, map, string_bytes};
 ghost use Rattle.overlay_geom.specs.declared.solver.Solver.TheVariants.{Rounds};
-ghost use Rattle.overlay_arrange.specs.Vectors.{plain_vector};
+ghost use Rattle.overlay_order.specs.Vectors.{plain_vector};
 ghost use Rattle.i_overlay.specs.OneShot.{AreEdgesOfPaths, MayRefusePaths};
 ghost use Rattle.polyover_engine.specs.Answers.{Answers, EndsUnanswered};
 ghost use Rattle.polyover_text.specs.Grammar.{paths_of};

@@ -1,9 +1,9 @@
 -- What a line says, by its first word.
 use Rattle.std.proofs.Common.{◌≡◌, ◌≢◌, List, ◌∷◌, codes, refl, sym, subst}
-use Rattle.overlay_arrange.specs.declared.options.ShapeType.{ShapeType}
-use Rattle.overlay_arrange.specs.declared.options.ShapeType.TheVariants.{Subject, Clip}
-use Rattle.overlay_arrange.specs.Paths.{GivenPath}
+use Rattle.overlay_geom.specs.declared.options.ShapeType.{ShapeType}
+use Rattle.overlay_geom.specs.declared.options.ShapeType.TheVariants.{Subject, Clip}
 use Rattle.overlay_geom.specs.Plane.{Point}
+use Rattle.overlay_order.specs.Paths.{GivenPath}
 use Rattle.polyover_text.specs.declared.query.Query.{Query}
 use Rattle.polyover_text.specs.Grammar.{Word, Line, shape_name, GivesContour, contour, GivesPoint, point, IsCommand}
 use Rattle.polyover_text.specs.Grammar.{GivesOpenPath, open_path}

@@ -5,7 +5,7 @@ use Rattle.std.proofs.Common.{length-append}
 use Rattle.std.proofs.Common.{get_or, refl, sym, ap, subst, ◌∙◌, ◌⊎◌, inl, inr, append_assoc, arith}
 use Rattle.std.proofs.lemmas.List.Elements.{All-nil, All-push}
 use Rattle.std.proofs.lemmas.List.{get_or_push, get_or-append-add, same_from_push}
-use Rattle.overlay_arrange.specs.Paths.{GivenPath}
+use Rattle.overlay_order.specs.Paths.{GivenPath}
 use Rattle.polyover_text.specs.declared.query.NumberedQuery.{NumberedQuery}
 use Rattle.polyover_text.specs.declared.query.Query.{Query}
 use Rattle.polyover_text.specs.Grammar.{Word, Line, shape_name, GivesContour, contour, GivesPoint, point, IsCommand}
@@ -13,8 +13,8 @@ use Rattle.polyover_text.specs.Grammar.{GivesOpenPath, open_path, clip_lines, sl
 use Rattle.polyover_text.specs.Grammar.{edges, overlay, hierarchy, relate, contains, locate, Asks, IsGoodSoFar}
 use Rattle.polyover_text.specs.Grammar.{GivenFigures, no_figures, before_contours, AreFigures, none, blank}
 use Rattle.overlay_geom.specs.Plane.{Point}
-use Rattle.overlay_arrange.specs.declared.options.ShapeType.{ShapeType}
-use Rattle.overlay_arrange.specs.declared.options.ShapeType.TheVariants.{Subject, Clip}
+use Rattle.overlay_geom.specs.declared.options.ShapeType.{ShapeType}
+use Rattle.overlay_geom.specs.declared.options.ShapeType.TheVariants.{Subject, Clip}
 use Rattle.polyover_text.specs.Inputs.{Give}
 use Rattle.polyover_text.specs.Statements.{SaysNothing}
 

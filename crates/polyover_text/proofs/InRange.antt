@@ -1,7 +1,7 @@
 -- The points of an input are in the coordinate range.
 use Rattle.std.proofs.Common.{ℕ, List}
 use Rattle.std.proofs.lemmas.List.Elements.{All-nil, All-cons}
-use Rattle.overlay_arrange.specs.Paths.{GivenPath}
+use Rattle.overlay_order.specs.Paths.{GivenPath}
 use Rattle.polyover_text.specs.declared.query.Query.{Query}
 use Rattle.overlay_geom.specs.Plane.{Point}
 use Rattle.overlay_geom.specs.Points.{InRange, AllInRange}

@@ -1,7 +1,7 @@
 -- An input has one command, which is no figure, and its figures are a function of the lines before it.
 use Rattle.std.proofs.Common.{◌≡◌, ℕ, ◌+◌, ◌==◌, cond, List, [], ◌∷◌, ◌++◌, drop, get_or, refl, sym, ap, ap₂}
 use Rattle.std.proofs.Common.{◌∙◌, subst}
-use Rattle.overlay_arrange.specs.declared.options.ShapeType.TheVariants.{Subject, Clip}
+use Rattle.overlay_geom.specs.declared.options.ShapeType.TheVariants.{Subject, Clip}
 use Rattle.polyover_text.specs.declared.query.Query.{Query}
 use Rattle.polyover_text.specs.Grammar.{Line, GivenFigures, no_figures, before_contours, before_lines}
 use Rattle.polyover_text.specs.Grammar.{before_points, AreFigures, none, blank, contour, open_path, point, IsCommand}

@@ -2,7 +2,7 @@
 use Rattle.std.proofs.Common.{◌≡◌, ◌≢◌, ◌↔◌, ℕ, pos, true, false, [], ◌∷◌, codes, refl, sym, subst, ◌∙◌}
 use Rattle.std.proofs.Common.{Option, Some, None, MatchOption, is_some}
 use Rattle.std.proofs.lemmas.Bool.{false≢true}
-use Rattle.overlay_arrange.specs.declared.options.ContourDirection.TheVariants.{CounterClockwise, Clockwise}
+use Rattle.overlay_geom.specs.declared.options.ContourDirection.TheVariants.{CounterClockwise, Clockwise}
 use Rattle.polyover_text.specs.declared.options.OutputOptions.{OutputOptions}
 use Rattle.polyover_text.specs.Grammar.{Word, Line, IsArea, default_output, SetOptions, none, clockwise, keep, ogc, min}
 use Rattle.polyover_text.specs.Options.{SetsOption, SetsNothing}

@@ -1,7 +1,7 @@
 -- What a line says, as the program holds it.
 use Rattle.std.specs.Prelude.{◌≡◌, ◌⊎◌, List, [], ◌∷◌, map, codes}
-use Rattle.overlay_arrange.specs.Paths.{GivenPath}
-use Rattle.overlay_arrange.specs.declared.options.ShapeType.{ShapeType}
+use Rattle.overlay_order.specs.Paths.{GivenPath}
+use Rattle.overlay_geom.specs.declared.options.ShapeType.{ShapeType}
 use Rattle.overlay_geom.specs.Plane.{Point as WholePoint}
 use Rattle.overlay_geom.specs.Points.{plain_point}
 use Rattle.polyover_text.specs.declared.query.Query.{Query}

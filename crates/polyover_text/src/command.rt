@@ -1,7 +1,7 @@
 //! Commands in words.
 
 ghost use Rattle.std.specs.Prelude.{◌≡◌, [], ◌∷◌, MatchOption, IfSome, codes};
-ghost use Rattle.overlay_arrange.specs.declared.fill_rule.FillRule.{FillRule};
+ghost use Rattle.overlay_geom.specs.declared.fill_rule.FillRule.{FillRule};
 ghost use Rattle.polyover_text.specs.declared.query.Query.{Query};
 ghost use Rattle.polyover_text.specs.declared.query.ClipQuery.{ClipQuery};
 ghost use Rattle.polyover_text.specs.declared.query.OverlayQuery.{OverlayQuery};
@@ -16,7 +16,7 @@ use crate::options::parse_options;
 use crate::query::{ClipQuery, OverlayQuery, Query, TilesQuery};
 use crate::rule::parse_overlay_rule;
 use crate::words::Words;
-use overlay_arrange::fill_rule::FillRule;
+use overlay_geom::fill_rule::FillRule;
 
 /// What the command asks for, after the word `run`.
 pub fn parse_command(mut words: Words<'_>) -> Option<Query>

@@ -1,6 +1,6 @@
 //! A contour of the input.
 
-use overlay_arrange::options::ShapeType;
+use overlay_geom::options::ShapeType;
 use overlay_geom::point::IntPoint;
 use std::alloc::Allocator;
 

@@ -1,10 +1,10 @@
 //! The text of an answer.
 
 ghost use Rattle.std.specs.Prelude.{◌≡◌, IfOk, OnOk, ◌++◌, map, string_bytes};
-ghost use Rattle.overlay_arrange.specs.Vectors.{plain_vector};
+ghost use Rattle.overlay_order.specs.Vectors.{plain_vector};
 ghost use Rattle.polyover_text.specs.Printed.{edge_line, edge_lines};
 
-use overlay_arrange::vector::DataVectorEdge;
+use overlay_order::vector::DataVectorEdge;
 use std::alloc::{AllocError, Allocator};
 use std::fmt::Write;
 

@@ -1,10 +1,10 @@
 //! Fill rules in words.
 
 ghost use Rattle.std.specs.Prelude.{◌≡◌, ◌≢◌, MatchOption};
-ghost use Rattle.overlay_arrange.specs.declared.fill_rule.FillRule.{FillRule};
+ghost use Rattle.overlay_geom.specs.declared.fill_rule.FillRule.{FillRule};
 ghost use Rattle.polyover_text.specs.Grammar.{fill_name};
 
-use overlay_arrange::fill_rule::FillRule;
+use overlay_geom::fill_rule::FillRule;
 
 /// The fill rule that a word names.
 pub fn parse_fill_rule(word: &[u8]) -> Option<FillRule>

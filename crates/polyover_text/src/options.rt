@@ -8,7 +8,7 @@ ghost use Rattle.polyover_text.specs.Words.{words_left};
 
 use crate::number::parse_area;
 use crate::words::Words;
-use overlay_arrange::options::ContourDirection;
+use overlay_geom::options::ContourDirection;
 
 /// How the output of an overlay is to look.
 #[derive(Clone, Copy)]

@@ -2,8 +2,8 @@
 
 use crate::clip_options::ClipOptions;
 use crate::options::OutputOptions;
-use overlay_arrange::fill_rule::FillRule;
-use overlay_arrange::overlay_rule::OverlayRule;
+use overlay_geom::fill_rule::FillRule;
+use overlay_geom::overlay_rule::OverlayRule;
 
 /// A query, and the number of the command's line.
 #[derive(Clone, Copy)]

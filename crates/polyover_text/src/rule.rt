@@ -1,10 +1,10 @@
 //! Overlay rules in words.
 
 ghost use Rattle.std.specs.Prelude.{◌≡◌, ◌≢◌, MatchOption};
-ghost use Rattle.overlay_arrange.specs.declared.overlay_rule.OverlayRule.{OverlayRule};
+ghost use Rattle.overlay_geom.specs.declared.overlay_rule.OverlayRule.{OverlayRule};
 ghost use Rattle.polyover_text.specs.Grammar.{rule_name};
 
-use overlay_arrange::overlay_rule::OverlayRule;
+use overlay_geom::overlay_rule::OverlayRule;
 
 /// The overlay rule that a word names.
 pub fn parse_overlay_rule(word: &[u8]) -> Option<OverlayRule>

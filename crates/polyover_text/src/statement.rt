@@ -11,7 +11,7 @@ use crate::line_error::LineError;
 use crate::points::{parse_point, parse_points};
 use crate::query::Query;
 use crate::words::Words;
-use overlay_arrange::options::ShapeType;
+use overlay_geom::options::ShapeType;
 use overlay_geom::point::IntPoint;
 use std::alloc::Allocator;
 

@@ -1,11 +1,11 @@
 //! Paths that take the place of what a builder held, as the subject's.
 
 ghost use Rattle.std.specs.Prelude.{◌≡◌, ◌∷◌, [], All, Some, IfOk, OnOk};
-ghost use Rattle.overlay_arrange.specs.declared.options.ShapeType.TheVariants.{Subject};
-ghost use Rattle.overlay_builder.specs.GivenPaths.{paths_for};
-ghost use Rattle.overlay_extract.specs.Results.{asked, IsResult};
+ghost use Rattle.overlay_geom.specs.declared.options.ShapeType.TheVariants.{Subject};
 ghost use Rattle.overlay_geom.specs.Paths.{plain_shapes};
 ghost use Rattle.overlay_geom.specs.Points.{plain_points, AllInRange};
+ghost use Rattle.overlay_builder.specs.GivenPaths.{paths_for};
+ghost use Rattle.overlay_extract.specs.Results.{asked, IsResult};
 ghost use Rattle.i_overlay.specs.Alone.{AnswersAlone};
 ghost use Rattle.i_overlay.specs.Outcome.{IsOutcome};
 ghost use Rattle.i_overlay.specs.Builder.{held_by};
@@ -14,10 +14,10 @@ use crate::overlay::Overlay;
 use crate::simplifying::arranged_alone::arrange_alone;
 use crate::simplifying::outcome::Outcome;
 use crate::simplifying::simple::outcome_of_contour;
-use overlay_arrange::fill_rule::FillRule;
-use overlay_arrange::overlay_rule::OverlayRule;
 use overlay_geom::error::OverlayError;
+use overlay_geom::fill_rule::FillRule;
 use overlay_geom::integer::OverlayInt;
+use overlay_geom::overlay_rule::OverlayRule;
 use overlay_geom::path::IntShapes;
 use overlay_geom::point::IntPoint;
 use overlay_geom::resource::IntShapeResource;

@@ -3,11 +3,11 @@
 //! `usize` can count.
 
 ghost use Rattle.std.specs.Prelude.{◌≡◌, ◌∷◌, [], All, false, Some, IfOk, IfErr, OnOk};
-ghost use Rattle.overlay_arrange.specs.declared.options.ShapeType.TheVariants.{Subject};
-ghost use Rattle.overlay_extract.specs.Results.{asked, IsResult};
+ghost use Rattle.overlay_geom.specs.declared.options.ShapeType.TheVariants.{Subject};
 ghost use Rattle.overlay_geom.specs.Flat.{paths_in};
 ghost use Rattle.overlay_geom.specs.Paths.{paths_of_shape, paths_of_shapes, counted_paths, plain_shapes};
 ghost use Rattle.overlay_geom.specs.Points.{plain_points, AllInRange};
+ghost use Rattle.overlay_extract.specs.Results.{asked, IsResult};
 ghost use Rattle.overlay_builder.specs.GivenPaths.{paths_for, subject_and_clip, added_paths};
 ghost use Rattle.overlay_builder.specs.PathLists.{HoldsPaths, MayRefuseBuilder};
 ghost use Rattle.i_overlay.specs.Adding.{BuilderAdds};
@@ -16,11 +16,11 @@ ghost use Rattle.i_overlay.specs.Builder.{empty_builder, held_by, IsNewBuilder};
 
 use crate::overlay::{IntOverlayOptions, Overlay, ShapeType};
 use crate::solver::Solver;
-use overlay_arrange::fill_rule::FillRule;
-use overlay_arrange::overlay_rule::OverlayRule;
 use overlay_geom::error::OverlayError;
+use overlay_geom::fill_rule::FillRule;
 use overlay_geom::flat::contours::FlatContoursBuffer;
 use overlay_geom::integer::OverlayInt;
+use overlay_geom::overlay_rule::OverlayRule;
 use overlay_geom::path::{IntContour, IntShape, IntShapes, PathRef};
 use overlay_geom::point::IntPoint;
 use overlay_geom::resource::borrowed::{BorrowedContours, BorrowedShapes};

@@ -1,7 +1,7 @@
 //! Overlays that use the builder up.
 
 ghost use Rattle.std.specs.Prelude.{◌≡◌, false, IfOk, IsOkUnless};
-ghost use Rattle.overlay_arrange.specs.Content.{IsAscending};
+ghost use Rattle.overlay_order.specs.Content.{IsAscending};
 ghost use Rattle.overlay_extract.specs.Results.{asked, IsResult};
 ghost use Rattle.overlay_geom.specs.Flat.{shapes_in};
 ghost use Rattle.overlay_geom.specs.FlatShapes.{AreShapesPacked};
@@ -9,12 +9,12 @@ ghost use Rattle.overlay_geom.specs.Settled.{IsSettled};
 ghost use Rattle.i_overlay.specs.UsedUp.{GivesFlatShapes};
 
 use crate::overlay::Overlay;
-use overlay_arrange::fill_rule::FillRule;
-use overlay_arrange::overlay_rule::OverlayRule;
 use overlay_extract::extract::extract_flat_shapes_of;
 use overlay_geom::error::OverlayError;
+use overlay_geom::fill_rule::FillRule;
 use overlay_geom::flat::shapes::FlatShapesBuffer;
 use overlay_geom::integer::OverlayInt;
+use overlay_geom::overlay_rule::OverlayRule;
 use overlay_walk::buffer::BooleanExtractionBuffer;
 use std::alloc::Allocator;
 

@@ -1,7 +1,7 @@
 //! Overlays that tell which shape lies in which hole.
 
 ghost use Rattle.std.specs.Prelude.{◌≡◌, false, map, Some, IfOk, OnOk, IsOkUnless};
-ghost use Rattle.overlay_arrange.specs.Content.{IsAscending};
+ghost use Rattle.overlay_order.specs.Content.{IsAscending};
 ghost use Rattle.overlay_extract.specs.ChildLinks.{plain_link};
 ghost use Rattle.overlay_extract.specs.GivenRegion.{WindsRoundGiven};
 ghost use Rattle.overlay_extract.specs.PlacedResults.{IsHierarchy};
@@ -13,11 +13,11 @@ ghost use Rattle.overlay_plane.specs.ShapeWindings.{steps_of_shapes};
 ghost use Rattle.i_overlay.specs.Queries.{BuilderExtracts};
 
 use crate::overlay::Overlay;
-use overlay_arrange::fill_rule::FillRule;
-use overlay_arrange::overlay_rule::OverlayRule;
 use overlay_extract::hierarchy::{FlatShapeHierarchy, extract_shape_hierarchy};
 use overlay_geom::error::OverlayError;
+use overlay_geom::fill_rule::FillRule;
 use overlay_geom::integer::OverlayInt;
+use overlay_geom::overlay_rule::OverlayRule;
 use overlay_walk::buffer::BooleanExtractionBuffer;
 use std::alloc::Allocator;
 

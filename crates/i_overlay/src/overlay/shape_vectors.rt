@@ -2,17 +2,17 @@
 
 ghost use Rattle.std.specs.Prelude.{◌≡◌, false, Some, IfOk, OnOk, IsOkUnless};
 ghost use Rattle.overlay_geom.specs.Settled.{IsSettled};
-ghost use Rattle.overlay_arrange.specs.Content.{IsAscending};
+ghost use Rattle.overlay_order.specs.Content.{IsAscending};
 ghost use Rattle.overlay_extract.specs.Results.{asked};
 ghost use Rattle.overlay_vector.specs.VectorShapes.{plain_vector_shapes};
 ghost use Rattle.i_overlay.specs.ShapeVectors.{AreShapeVectors};
 ghost use Rattle.i_overlay.specs.Queries.{BuilderExtracts};
 
 use crate::overlay::Overlay;
-use overlay_arrange::fill_rule::FillRule;
-use overlay_arrange::overlay_rule::OverlayRule;
 use overlay_geom::error::OverlayError;
+use overlay_geom::fill_rule::FillRule;
 use overlay_geom::integer::OverlayInt;
+use overlay_geom::overlay_rule::OverlayRule;
 use overlay_vector::path::VectorShape;
 use overlay_vector::vector_shapes::vector_shapes;
 use overlay_walk::buffer::BooleanExtractionBuffer;

@@ -1,14 +1,14 @@
 //! Contours in one list that are simplified where they stand.
 
 ghost use Rattle.std.specs.Prelude.{◌≡◌, ◌≢◌, [], All, length, false, Some, IfOk, OnOk, OnErr, IsOkUnless};
-ghost use Rattle.overlay_arrange.specs.Content.{IsAscending};
-ghost use Rattle.overlay_arrange.specs.declared.options.ShapeType.TheVariants.{Subject};
-ghost use Rattle.overlay_builder.specs.GivenPaths.{paths_for};
-ghost use Rattle.overlay_extract.specs.Results.{asked};
+ghost use Rattle.overlay_order.specs.Content.{IsAscending};
+ghost use Rattle.overlay_geom.specs.declared.options.ShapeType.TheVariants.{Subject};
 ghost use Rattle.overlay_geom.specs.Flat.{part_in, first_range, paths_in};
 ghost use Rattle.overlay_geom.specs.Packed.{IsPacked};
 ghost use Rattle.overlay_geom.specs.Points.{plain_points, AllInRange};
 ghost use Rattle.overlay_geom.specs.Settled.{IsSettled};
+ghost use Rattle.overlay_builder.specs.GivenPaths.{paths_for};
+ghost use Rattle.overlay_extract.specs.Results.{asked};
 ghost use Rattle.i_overlay.specs.Alone.{AnswersAlone};
 ghost use Rattle.i_overlay.specs.Builder.{held_by};
 ghost use Rattle.i_overlay.specs.Simplified.{AreCut, AreLeft, AreSimplified, IsOutcomeOfAll};
@@ -17,12 +17,12 @@ ghost use Rattle.i_overlay.specs.Simplified.{StayAsGiven, StayOrAreGone};
 use crate::overlay::Overlay;
 use crate::simplifying::flat::leave_contour;
 use crate::simplifying::outcome::Outcome;
-use overlay_arrange::fill_rule::FillRule;
-use overlay_arrange::overlay_rule::OverlayRule;
 use overlay_extract::extract::emptied;
 use overlay_geom::error::OverlayError;
+use overlay_geom::fill_rule::FillRule;
 use overlay_geom::flat::contours::FlatContoursBuffer;
 use overlay_geom::integer::OverlayInt;
+use overlay_geom::overlay_rule::OverlayRule;
 use std::alloc::Allocator;
 
 impl<I: OverlayInt, A: Allocator + Clone> Overlay<I, A> {

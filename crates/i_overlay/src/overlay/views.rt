@@ -14,10 +14,10 @@ ghost use Rattle.i_overlay.specs.Queries.{BuilderAnswers};
 use crate::graph::OverlayGraph;
 use crate::overlay::Overlay;
 use crate::viewed_graph::ViewedGraph;
-use overlay_arrange::data::CountWithData;
-use overlay_arrange::fill_rule::FillRule;
 use overlay_geom::error::OverlayError;
+use overlay_geom::fill_rule::FillRule;
 use overlay_geom::integer::OverlayInt;
+use overlay_order::data::CountWithData;
 use std::alloc::Allocator;
 
 impl<I: OverlayInt, A: Allocator + Clone> Overlay<I, A> {

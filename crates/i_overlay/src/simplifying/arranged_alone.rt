@@ -1,23 +1,23 @@
 //! Paths of a subject that a builder holds alone.
 
 ghost use Rattle.std.specs.Prelude.{◌≡◌, All, OnOk, IfErr};
-ghost use Rattle.overlay_arrange.specs.Content.{IsContent};
-ghost use Rattle.overlay_arrange.specs.declared.options.ShapeType.TheVariants.{Subject};
+ghost use Rattle.overlay_order.specs.Content.{IsContent};
+ghost use Rattle.overlay_geom.specs.declared.options.ShapeType.TheVariants.{Subject};
+ghost use Rattle.overlay_geom.specs.Points.{AllInRange};
 ghost use Rattle.overlay_builder.specs.GivenPaths.{paths_for};
 ghost use Rattle.overlay_builder.specs.Held.{nothing_held, plain_held};
-ghost use Rattle.overlay_geom.specs.Points.{AllInRange};
 ghost use Rattle.overlay_plane.specs.Carried.{edges_in};
 ghost use Rattle.i_overlay.specs.Alone.{AnswersAlone, IsArrangedAlone, MayRefuseAlone};
 
-use overlay_arrange::data::CountWithData;
-use overlay_arrange::options::ShapeType;
 use overlay_builder::boolean::passing_without_data;
 use overlay_builder::builder_core::BuilderCore;
 use overlay_builder::path::contour_kind;
 use overlay_geom::error::OverlayError;
 use overlay_geom::number::IntNumber;
+use overlay_geom::options::ShapeType;
 use overlay_geom::resource::IntShapeResource;
 use overlay_geom::solver::Solver;
+use overlay_order::data::CountWithData;
 use std::alloc::Allocator;
 
 /// Drops what the core holds and mends it, adds the paths of the resource as the subject's, and brings them

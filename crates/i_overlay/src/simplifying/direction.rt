@@ -7,9 +7,9 @@ ghost use Rattle.overlay_plane.specs.Turn.{no_step};
 ghost use Rattle.i_overlay.specs.Points.{IsLeast};
 ghost use Rattle.i_overlay.specs.Simple.{RunsIn};
 
-use overlay_arrange::options::ContourDirection;
 use overlay_geom::edge::compare_points;
 use overlay_geom::number::{IntNumber, WideIntNumber};
+use overlay_geom::options::ContourDirection;
 use overlay_geom::point::IntPoint;
 use overlay_geom::vector::cross_at;
 

@@ -3,8 +3,8 @@
 ghost use Rattle.std.specs.Prelude.{◌≡◌};
 ghost use Rattle.i_overlay.specs.Outcome.{outcome_of};
 
-use overlay_arrange::fill_rule::FillRule;
-use overlay_arrange::options::ContourDirection;
+use overlay_geom::fill_rule::FillRule;
+use overlay_geom::options::ContourDirection;
 
 /// The outcome of a contour.
 #[derive(Debug, Clone, Copy, PartialEq)]

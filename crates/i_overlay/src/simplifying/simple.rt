@@ -1,11 +1,11 @@
 //! Whether a contour is simple as it was added, and its outcome.
 
 ghost use Rattle.std.specs.Prelude.{◌≡◌, ◌≢◌, ◌↔◌, [], ◌∷◌, IsTrue, IfOk, OnOk, IfErr};
-ghost use Rattle.overlay_arrange.specs.Content.{IsContent};
-ghost use Rattle.overlay_arrange.specs.declared.options.ShapeType.TheVariants.{Subject};
+ghost use Rattle.overlay_order.specs.Content.{IsContent};
+ghost use Rattle.overlay_geom.specs.declared.options.ShapeType.TheVariants.{Subject};
+ghost use Rattle.overlay_geom.specs.Points.{plain_points, AllInRange};
 ghost use Rattle.overlay_builder.specs.GivenPaths.{paths_for};
 ghost use Rattle.overlay_builder.specs.Held.{nothing_held, plain_held};
-ghost use Rattle.overlay_geom.specs.Points.{plain_points, AllInRange};
 ghost use Rattle.overlay_plane.specs.Carried.{edges_in};
 ghost use Rattle.overlay_plane.specs.Groups.{HasEachPointOnce};
 ghost use Rattle.i_overlay.specs.Alone.{AnswersAlone, IsArrangedAlone, MayRefuseAlone};
@@ -13,16 +13,16 @@ ghost use Rattle.i_overlay.specs.Outcome.{IsOutcome};
 
 use crate::simplifying::direction::direction_of;
 use crate::simplifying::outcome::{Outcome, outcome_of};
-use overlay_arrange::data::CountWithData;
-use overlay_arrange::fill_rule::FillRule;
-use overlay_arrange::options::{ContourDirection, ShapeType};
 use overlay_builder::boolean::passing_without_data;
 use overlay_builder::builder_core::BuilderCore;
 use overlay_builder::path::contour_kind;
 use overlay_geom::error::OverlayError;
+use overlay_geom::fill_rule::FillRule;
 use overlay_geom::number::IntNumber;
+use overlay_geom::options::{ContourDirection, ShapeType};
 use overlay_geom::point::IntPoint;
 use overlay_geom::solver::Solver;
+use overlay_order::data::CountWithData;
 use overlay_walk::points_once::has_each_point_once;
 use std::alloc::{AllocError, Allocator};
 

@@ -7,9 +7,9 @@ ghost use Rattle.overlay_plane.specs.Anchors.{is_anchored_before};
 ghost use Rattle.overlay_scan.specs.Sweeps.{IsByStart};
 ghost use Rattle.overlay_walk.specs.WalkEdges.{numbered_entry, numbered_entries};
 
-use overlay_arrange::edge::compare_points;
 use overlay_geom::number::{IntNumber, WideIntNumber};
 use overlay_geom::vector::cross_at;
+use overlay_order::edge::compare_points;
 use overlay_walk::numbered_edge::NumberedEdge;
 use std::alloc::{AllocError, Allocator};
 use std::cmp::Ordering;

@@ -11,8 +11,8 @@ ghost use Rattle.overlay_extract.specs.WalkEntries.{filled_entries};
 ghost use Rattle.overlay_extract.specs.WalkEntries.{IsFilledEntry, AreFilledEntries};
 
 use crate::binding::by_start::sort_by_start;
-use overlay_arrange::options::ContourDirection;
 use overlay_geom::number::IntNumber;
+use overlay_geom::options::ContourDirection;
 use overlay_walk::contour::Contour;
 use overlay_walk::filled_side::{edge_along, is_filled_above};
 use overlay_walk::numbered_edge::NumberedEdge;

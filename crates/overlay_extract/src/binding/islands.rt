@@ -11,8 +11,8 @@ ghost use Rattle.overlay_walk.specs.Steps.{filled_hand, IsLong};
 
 use crate::binding::bind::find_shapes;
 use crate::binding::side::Side;
-use overlay_arrange::options::ContourDirection;
 use overlay_geom::number::IntNumber;
+use overlay_geom::options::ContourDirection;
 use overlay_scan::scan::Scan;
 use overlay_walk::contour::Contour;
 use std::alloc::{AllocError, Allocator};

@@ -18,8 +18,8 @@ ghost use Rattle.overlay_walk.specs.WalkEdges.{numbered_entry, numbered_entries}
 
 use crate::binding::anchor::hole_anchors;
 use crate::binding::filled_above_edges::filled_above_edges;
-use overlay_arrange::options::ContourDirection;
 use overlay_geom::number::IntNumber;
+use overlay_geom::options::ContourDirection;
 use overlay_scan::scan::Scan;
 use overlay_walk::contour::Contour;
 use overlay_walk::numbered_edge::NumberedEdge;

@@ -4,8 +4,8 @@ ghost use Rattle.std.specs.Prelude.{◌≡◌, map, reverse};
 ghost use Rattle.overlay_geom.specs.Paths.{plain_shapes, paths_of_shape};
 ghost use Rattle.overlay_extract.specs.Sliced.{in_direction};
 
-use overlay_arrange::options::ContourDirection;
 use overlay_geom::number::IntNumber;
+use overlay_geom::options::ContourDirection;
 use overlay_geom::path::{IntShape, IntShapes};
 use std::alloc::Allocator;
 

@@ -3,10 +3,10 @@
 ghost use Rattle.std.specs.Prelude.{◌≡◌, map, All, IfOk};
 ghost use Rattle.overlay_geom.specs.Edges.{subj_of};
 ghost use Rattle.overlay_geom.specs.Plane.{backward};
+ghost use Rattle.overlay_geom.specs.Rules.{is_filled};
 ghost use Rattle.overlay_plane.specs.Balance.{HasBalancedCounts};
 ghost use Rattle.overlay_plane.specs.Groups.{IsSimpleContour};
-ghost use Rattle.overlay_arrange.specs.Graphs.{graph_edges};
-ghost use Rattle.overlay_arrange.specs.Rules.{is_filled};
+ghost use Rattle.overlay_graph.specs.Graphs.{graph_edges};
 ghost use Rattle.overlay_extract.specs.ClosedWalks.{HasLength, IsClosedWalk, IsCutIntoLoops, turned_loop};
 ghost use Rattle.overlay_extract.specs.FilledSides.{filled_sides};
 ghost use Rattle.overlay_extract.specs.Loops.{AreLoops};
@@ -21,9 +21,9 @@ use crate::slicing::orbits::side_orbits;
 use crate::slicing::sides::step_back;
 use crate::slicing::tour_order::is_walked_along;
 use crate::slicing::tours::tours;
-use overlay_arrange::count::EdgeCount;
-use overlay_arrange::graph::Graph;
 use overlay_geom::number::IntNumber;
+use overlay_graph::graph::Graph;
+use overlay_order::count::EdgeCount;
 use overlay_walk::step::Step;
 use std::alloc::{AllocError, Allocator};
 

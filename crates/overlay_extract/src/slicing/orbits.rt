@@ -3,18 +3,18 @@
 ghost use Rattle.std.specs.Prelude.{IfOk};
 ghost use Rattle.std.specs.List.Sorted.{IsPermutation};
 ghost use Rattle.overlay_geom.specs.Edges.{subj_of};
+ghost use Rattle.overlay_geom.specs.Rules.{is_filled};
 ghost use Rattle.overlay_plane.specs.Balance.{HasBalancedCounts};
-ghost use Rattle.overlay_arrange.specs.Graphs.{graph_edges};
-ghost use Rattle.overlay_arrange.specs.Rules.{is_filled};
+ghost use Rattle.overlay_graph.specs.Graphs.{graph_edges};
 ghost use Rattle.overlay_extract.specs.FilledSides.{filled_sides};
 ghost use Rattle.overlay_extract.specs.Tours.{AreOrbits};
 ghost use Rattle.overlay_walk.specs.Steps.{plain_steps};
 ghost use Rattle.overlay_walk.specs.Walks.{plain_walks};
 
 use crate::slicing::sides::push_sides;
-use overlay_arrange::count::EdgeCount;
-use overlay_arrange::graph::Graph;
 use overlay_geom::number::IntNumber;
+use overlay_graph::graph::Graph;
+use overlay_order::count::EdgeCount;
 use overlay_walk::contour_cut::cut_into_contours;
 use overlay_walk::hand::{Hand, HandRule};
 use overlay_walk::open_steps::OpenSteps;

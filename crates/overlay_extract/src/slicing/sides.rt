@@ -3,12 +3,12 @@
 ghost use Rattle.std.specs.Prelude.{◌≡◌, ◌++◌, map, OnOk};
 ghost use Rattle.std.specs.List.{flat_map};
 ghost use Rattle.overlay_geom.specs.Plane.{reversed_step};
-ghost use Rattle.overlay_arrange.specs.Vectors.{plain_vector};
+ghost use Rattle.overlay_order.specs.Vectors.{plain_vector};
 ghost use Rattle.overlay_extract.specs.SidesByBits.{step_if, sides_by_bits};
 ghost use Rattle.overlay_walk.specs.Steps.{plain_step, plain_steps};
 
-use overlay_arrange::vector::{DataVectorEdge, SUBJ_LEFT, SUBJ_RIGHT};
 use overlay_geom::number::IntNumber;
+use overlay_order::vector::{DataVectorEdge, SUBJ_LEFT, SUBJ_RIGHT};
 use overlay_walk::step::Step;
 use std::alloc::{AllocError, Allocator};
 

@@ -3,18 +3,18 @@
 ghost use Rattle.std.specs.Prelude.{IfOk};
 ghost use Rattle.overlay_geom.specs.Paths.{plain_shapes};
 ghost use Rattle.overlay_plane.specs.Balance.{HasBalancedCounts};
-ghost use Rattle.overlay_arrange.specs.Graphs.{graph_edges};
+ghost use Rattle.overlay_graph.specs.Graphs.{graph_edges};
 ghost use Rattle.overlay_extract.specs.Sliced.{IsSliced};
 
 use crate::assemble::assembled;
 use crate::binding::places::shape_places;
 use crate::slicing::direction::bring_in_direction;
 use crate::slicing::slices::slice_contours;
-use overlay_arrange::count::EdgeCount;
-use overlay_arrange::graph::Graph;
-use overlay_arrange::options::ContourDirection;
 use overlay_geom::number::{IntNumber, UIntNumber, WideIntNumber};
+use overlay_geom::options::ContourDirection;
 use overlay_geom::path::IntShapes;
+use overlay_graph::graph::Graph;
+use overlay_order::count::EdgeCount;
 use std::alloc::{AllocError, Allocator};
 
 /// The shapes into which the region that the subject fills is sliced along the graph's edges: of each shape its

@@ -8,10 +8,10 @@ ghost use Rattle.overlay_builder.specs.PathLists.{HoldsPaths, MayRefuseBuilder};
 ghost use Rattle.overlay_relate.specs.PredicateBuilder.{empty_builder};
 
 use crate::predicate_overlay::PredicateOverlay;
-use overlay_arrange::fill_rule::FillRule;
 use overlay_builder::builder_core::BuilderCore;
 use overlay_builder::solver::Solver;
 use overlay_geom::error::OverlayError;
+use overlay_geom::fill_rule::FillRule;
 use overlay_geom::integer::OverlayInt;
 use overlay_geom::resource::IntShapeResource;
 use std::alloc::{AllocError, Allocator};

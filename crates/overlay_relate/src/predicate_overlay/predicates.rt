@@ -3,10 +3,10 @@
 ghost use Rattle.std.specs.Prelude.{◌≡◌, true, false, IfOk, IfSome, IsErrOf, is_err};
 ghost use Rattle.overlay_plane.specs.Predicates.{Intersects, InteriorsIntersect, Touches, PointIntersects};
 ghost use Rattle.overlay_plane.specs.Predicates.{IsWithin, Covers};
+ghost use Rattle.overlay_order.specs.Content.{IsContent};
+ghost use Rattle.overlay_graph.specs.FillTests.{some_fill_passes, IsFoundUnless};
+ghost use Rattle.overlay_graph.specs.Graphs.{graph_edges};
 ghost use Rattle.overlay_arrange.specs.Arranged.{WasArranged};
-ghost use Rattle.overlay_arrange.specs.Content.{IsContent};
-ghost use Rattle.overlay_arrange.specs.FillTests.{some_fill_passes, IsFoundUnless};
-ghost use Rattle.overlay_arrange.specs.Graphs.{graph_edges};
 ghost use Rattle.overlay_plane.specs.Balance.{HasBalancedCounts};
 ghost use Rattle.overlay_builder.specs.Held.{AnswersQuery};
 ghost use Rattle.overlay_relate.specs.EdgeTests.{bits_pass};
@@ -22,10 +22,10 @@ use crate::found::Found;
 use crate::predicate::Predicate;
 use crate::predicate_overlay::PredicateOverlay;
 use crate::relations::Relations;
-use overlay_arrange::count::ShapeCountBoolean;
-use overlay_arrange::graph::Graph;
 use overlay_geom::error::OverlayError;
 use overlay_geom::integer::OverlayInt;
+use overlay_graph::graph::Graph;
+use overlay_order::count::ShapeCountBoolean;
 use std::alloc::{AllocError, Allocator};
 
 impl<I: OverlayInt, A: Allocator + Clone> PredicateOverlay<I, A> {

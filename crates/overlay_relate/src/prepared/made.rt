@@ -1,10 +1,10 @@
 //! Prepared shapes, made from contours.
 
 ghost use Rattle.std.specs.Prelude.{◌≡◌, All, IfOk, IfErr};
-ghost use Rattle.overlay_arrange.specs.declared.options.ShapeType.TheVariants.{Subject};
-ghost use Rattle.overlay_builder.specs.GivenPaths.{paths_for};
+ghost use Rattle.overlay_geom.specs.declared.options.ShapeType.TheVariants.{Subject};
 ghost use Rattle.overlay_geom.specs.Points.{AllInRange};
 ghost use Rattle.overlay_geom.specs.Resolved.{plain_edges, IsLongEdge};
+ghost use Rattle.overlay_builder.specs.GivenPaths.{paths_for};
 ghost use Rattle.overlay_relate.specs.Prepared.{IsPreparedOf, MayRefusePreparing};
 
 use crate::blocks::blocks_over;
@@ -12,12 +12,12 @@ use crate::boundary::boundary_of;
 use crate::predicate_overlay::PredicateOverlay;
 use crate::prepared::PreparedShape;
 use crate::prepared::parts::{BLOCK, GROUP};
-use overlay_arrange::fill_rule::FillRule;
-use overlay_arrange::options::ShapeType;
 use overlay_builder::solver::Solver;
 use overlay_geom::edge::IntEdge;
 use overlay_geom::error::OverlayError;
+use overlay_geom::fill_rule::FillRule;
 use overlay_geom::integer::OverlayInt;
+use overlay_geom::options::ShapeType;
 use overlay_geom::resource::IntShapeResource;
 use std::alloc::{AllocError, Allocator};
 

@@ -5,8 +5,8 @@ ghost use Rattle.overlay_geom.specs.Flat.{paths_in};
 ghost use Rattle.overlay_geom.specs.Packed.{IsPacked};
 ghost use Rattle.overlay_geom.specs.Paths.{paths_of_shape};
 ghost use Rattle.overlay_geom.specs.declared.solver.Solver.TheVariants.{Rounds};
+ghost use Rattle.overlay_graph.specs.Graphs.{graph_edges};
 ghost use Rattle.overlay_arrange.specs.Arranged.{MayRefuseSplitting};
-ghost use Rattle.overlay_arrange.specs.Graphs.{graph_edges};
 ghost use Rattle.overlay_string.specs.ClipPaths.{ArePathsOf, AreClipped};
 ghost use Rattle.overlay_string.specs.ClipPieces.{clip_pieces};
 
@@ -15,10 +15,8 @@ use crate::joined_paths::joined_paths;
 use crate::kept_pieces::kept_pieces;
 use crate::open_pieces::OpenPieces;
 use crate::string_overlay::StringOverlay;
-use overlay_arrange::fill_rule::FillRule;
-use overlay_arrange::graph::Graph;
-use overlay_arrange::string_count::ShapeCountString;
 use overlay_geom::error::OverlayError;
+use overlay_geom::fill_rule::FillRule;
 use overlay_geom::flat::contours::FlatContoursBuffer;
 use overlay_geom::flat::copied;
 use overlay_geom::integer::OverlayInt;
@@ -26,6 +24,8 @@ use overlay_geom::number::IntNumber;
 use overlay_geom::path::IntPath;
 use overlay_geom::resource::IntShapeResource;
 use overlay_geom::solver::Solver;
+use overlay_graph::graph::Graph;
+use overlay_order::string_count::ShapeCountString;
 use std::alloc::{AllocError, Allocator};
 
 impl<I: OverlayInt, A: Allocator + Clone> StringOverlay<I, A> {

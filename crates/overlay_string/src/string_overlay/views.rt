@@ -5,8 +5,8 @@ ghost use Rattle.std.specs.Borrow.{sem};
 ghost use Rattle.std.specs.Io.BufRead.{Rests};
 ghost use Rattle.overlay_geom.specs.Paths.{plain_shapes};
 ghost use Rattle.overlay_geom.specs.declared.solver.Solver.TheVariants.{Rounds};
+ghost use Rattle.overlay_graph.specs.Graphs.{graph_edges};
 ghost use Rattle.overlay_arrange.specs.Arranged.{IsArranged, MayRefuseSplitting};
-ghost use Rattle.overlay_arrange.specs.Graphs.{graph_edges};
 ghost use Rattle.overlay_builder.specs.BuilderCalls.{EndsView};
 ghost use Rattle.overlay_builder.specs.Held.{AnswersQuery, shown_edges};
 ghost use Rattle.overlay_string.specs.StringBuilder.{held_by};
@@ -17,13 +17,13 @@ ghost use Rattle.overlay_string.specs.contracts.string_overlay.StringOverlay.{th
 use crate::string_graph::StringGraph;
 use crate::string_overlay::StringOverlay;
 use crate::string_rule::StringRule;
-use overlay_arrange::fill_rule::FillRule;
-use overlay_arrange::string_count::ShapeCountString;
 use overlay_builder::balanced_graph::BalancedGraph;
 use overlay_geom::error::OverlayError;
+use overlay_geom::fill_rule::FillRule;
 use overlay_geom::integer::OverlayInt;
 use overlay_geom::path::IntShapes;
 use overlay_geom::solver::Solver;
+use overlay_order::string_count::ShapeCountString;
 use std::alloc::Allocator;
 
 impl<I: OverlayInt, A: Allocator + Clone> StringOverlay<I, A> {

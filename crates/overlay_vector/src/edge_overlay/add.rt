@@ -16,10 +16,10 @@ ghost use Rattle.overlay_vector.specs.EdgeBuilder.{held_with_data};
 
 use crate::edge_overlay::{EdgeOverlay, ShapeType};
 use crate::input_edge::InputEdge;
-use overlay_arrange::data::{CountWithData, OverlayEdgeData};
 use overlay_builder::boolean::passing;
 use overlay_geom::error::OverlayError;
 use overlay_geom::integer::OverlayInt;
+use overlay_order::data::{CountWithData, OverlayEdgeData};
 use std::alloc::Allocator;
 
 impl<I: OverlayInt, D: OverlayEdgeData, A: Allocator> EdgeOverlay<I, D, A> {

@@ -9,8 +9,8 @@ ghost use Rattle.overlay_vector.specs.HeldEdges.{ends_of_held};
 use crate::balance::is_balanced;
 use crate::edge_overlay::EdgeOverlay;
 use crate::edges::Edges;
-use overlay_arrange::data::OverlayEdgeData;
 use overlay_geom::integer::OverlayInt;
+use overlay_order::data::OverlayEdgeData;
 use std::alloc::Allocator;
 
 impl<I: OverlayInt, D: OverlayEdgeData, A: Allocator> EdgeOverlay<I, D, A> {

@@ -4,7 +4,7 @@ ghost use Rattle.std.specs.Prelude.{◌≡◌, Some, IfOk, OnOk, IsErrOf, IsOkUn
 ghost use Rattle.overlay_geom.specs.Settled.{IsSettled};
 ghost use Rattle.overlay_plane.specs.Balance.{HasBalancedCounts};
 ghost use Rattle.overlay_plane.specs.Carried.{edges_in};
-ghost use Rattle.overlay_arrange.specs.Content.{IsAscending};
+ghost use Rattle.overlay_order.specs.Content.{IsAscending};
 ghost use Rattle.overlay_arrange.specs.Stores.{IsStoreReached};
 ghost use Rattle.overlay_builder.specs.GivenPaths.{IsBalancedUnlessFailed};
 ghost use Rattle.overlay_builder.specs.Held.{AnswersQuery};
@@ -15,11 +15,11 @@ ghost use Rattle.overlay_vector.specs.VectorShapes.{plain_vector_shapes, AreVect
 use crate::edge_overlay::EdgeOverlay;
 use crate::path::DataVectorShape;
 use crate::vector_shapes::vector_shapes;
-use overlay_arrange::data::OverlayEdgeData;
-use overlay_arrange::fill_rule::FillRule;
-use overlay_arrange::overlay_rule::OverlayRule;
 use overlay_geom::error::OverlayError;
+use overlay_geom::fill_rule::FillRule;
 use overlay_geom::integer::OverlayInt;
+use overlay_geom::overlay_rule::OverlayRule;
+use overlay_order::data::OverlayEdgeData;
 use overlay_walk::buffer::BooleanExtractionBuffer;
 use std::alloc::Allocator;
 

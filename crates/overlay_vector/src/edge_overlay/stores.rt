@@ -5,8 +5,8 @@ ghost use Rattle.std.specs.Borrow.{Lends, sem};
 ghost use Rattle.overlay_vector.specs.contracts.edge_overlay.EdgeOverlay.{the_row};
 
 use crate::edge_overlay::EdgeOverlay;
-use overlay_arrange::data::OverlayEdgeData;
 use overlay_geom::integer::OverlayInt;
+use overlay_order::data::OverlayEdgeData;
 use std::alloc::Allocator;
 
 impl<I: OverlayInt, D: OverlayEdgeData, A: Allocator> EdgeOverlay<I, D, A> {

@@ -3,7 +3,7 @@
 ghost use Rattle.std.specs.Prelude.{◌≡◌, IfOk, OnOk, IsErrOf};
 ghost use Rattle.overlay_geom.specs.Settled.{IsSettled};
 ghost use Rattle.overlay_plane.specs.Carried.{edges_in};
-ghost use Rattle.overlay_arrange.specs.Content.{IsAscending};
+ghost use Rattle.overlay_order.specs.Content.{IsAscending};
 ghost use Rattle.overlay_arrange.specs.Stores.{IsStoreReached};
 ghost use Rattle.overlay_builder.specs.Held.{AnswersQuery};
 ghost use Rattle.overlay_vector.specs.DataVectors.{plain_data_vectors, selected_vectors};
@@ -11,12 +11,12 @@ ghost use Rattle.overlay_vector.specs.EdgeBuilder.{held_by, IsArrangedWithData};
 
 use crate::edge_overlay::EdgeOverlay;
 use crate::selected_vectors::selected_vectors;
-use overlay_arrange::data::OverlayEdgeData;
-use overlay_arrange::fill_rule::FillRule;
-use overlay_arrange::overlay_rule::OverlayRule;
-use overlay_arrange::vector::DataVectorEdge;
 use overlay_geom::error::OverlayError;
+use overlay_geom::fill_rule::FillRule;
 use overlay_geom::integer::OverlayInt;
+use overlay_geom::overlay_rule::OverlayRule;
+use overlay_order::data::OverlayEdgeData;
+use overlay_order::vector::DataVectorEdge;
 use std::alloc::{AllocError, Allocator};
 
 impl<I: OverlayInt, D: OverlayEdgeData, A: Allocator + Clone> EdgeOverlay<I, D, A> {

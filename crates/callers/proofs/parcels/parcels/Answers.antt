@@ -4,9 +4,9 @@ use Rattle.std.proofs.lemmas.Result.{IfOk-weaker}
 use Rattle.overlay_geom.specs.Edges.{ends_of}
 use Rattle.overlay_geom.specs.Paths.{plain_shapes}
 use Rattle.overlay_geom.specs.Plane.{PlanePoint, IsOff}
+use Rattle.overlay_geom.specs.declared.overlay_rule.OverlayRule.TheVariants.{Subject}
 use Rattle.overlay_plane.specs.ShapesAlone.{EachWindsOnceOrNot}
-use Rattle.overlay_arrange.specs.Graphs.{graph_edges}
-use Rattle.overlay_arrange.specs.declared.overlay_rule.OverlayRule.TheVariants.{Subject}
+use Rattle.overlay_graph.specs.Graphs.{graph_edges}
 use Rattle.overlay_walk.specs.Steps.{filled_hand}
 use Rattle.overlay_extract.specs.Laws.{NoTwoWindRound}
 use Rattle.overlay_extract.specs.Results.{asked, IsResult}

@@ -1,5 +1,5 @@
 -- The boundary that is kept is that of an arrangement, in which the point lies so.
-use Rattle.overlay_arrange.specs.Rules.{is_filled}
+use Rattle.overlay_geom.specs.Rules.{is_filled}
 use Rattle.callers.proofs.prepared_location.locate_prepared.Goals as goal
 
 pub returns : goal.returns

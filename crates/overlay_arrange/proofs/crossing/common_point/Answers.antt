@@ -2,7 +2,7 @@
 use Rattle.std.proofs.Common.{sym}
 use Rattle.overlay_geom.specs.Edges.{ends_of}
 use Rattle.overlay_plane.proofs.SharedCrossings.{crossing_at_other_end, crossing_at_other_start}
-use Rattle.overlay_arrange.specs.Content.{plain_edge}
+use Rattle.overlay_order.specs.Content.{plain_edge}
 use Rattle.overlay_arrange.proofs.crossing.common_point.Goals as goal
 
 pub returns-then-is_on_line : goal.returns-then-is_on_line

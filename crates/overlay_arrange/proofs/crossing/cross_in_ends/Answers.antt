@@ -1,13 +1,13 @@
 -- Edges that share an end meet in ends alone; else the place of e by f's line decides.
 use Rattle.std.proofs.Common.{refl, sym, ◌∙◌}
 use Rattle.std.proofs.lemmas.Bool.{false≢true}
+use Rattle.overlay_geom.specs.Edges.{ends_of}
 use Rattle.overlay_geom.proofs.Beside.{beside_meet_in_ends}
 use Rattle.overlay_geom.proofs.Meeting.{across_decides}
 use Rattle.overlay_geom.proofs.OneLine.{meet_in_ends_exchanged}
 use Rattle.overlay_geom.proofs.Places.{across_where_not_beside}
 use Rattle.overlay_geom.proofs.PointOrder.{Decides-point_lt}
-use Rattle.overlay_geom.specs.Edges.{ends_of}
-use Rattle.overlay_arrange.specs.Content.{plain_edge}
+use Rattle.overlay_order.specs.Content.{plain_edge}
 use Rattle.overlay_arrange.proofs.SharedEnds.{settled_where_shared}
 use Rattle.overlay_arrange.proofs.crossing.cross_in_ends.Goals as goal
 

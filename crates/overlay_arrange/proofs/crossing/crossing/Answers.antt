@@ -2,11 +2,11 @@
 use Rattle.std.proofs.Common.{◌≡◌, ℤ, pos, sym, ◌∙◌, rules}
 use Rattle.overlay_geom.specs.Edges.{ends_of}
 use Rattle.overlay_geom.specs.Plane.{Edge, Point}
-use Rattle.overlay_plane.specs.CutPoints.{part_way, to_line, across, crossing}
 use Rattle.overlay_geom.proofs.Comparisons.{same_from_compared}
+use Rattle.overlay_plane.specs.CutPoints.{part_way, to_line, across, crossing}
 use Rattle.overlay_plane.proofs.CrossingPoints.{part_way_across}
 use Rattle.overlay_plane.proofs.SharedCrossings.{crossing_at_end, crossing_at_start}
-use Rattle.overlay_arrange.specs.Content.{plain_edge}
+use Rattle.overlay_order.specs.Content.{plain_edge}
 use Rattle.overlay_arrange.proofs.crossing.crossing.Goals as goal
 
 pub part_way-requires-clause-part : goal.part_way-requires-clause-part

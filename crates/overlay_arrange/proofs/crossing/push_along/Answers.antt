@@ -1,6 +1,6 @@
 -- Edges that meet in ends alone need no meetings.
 use Rattle.std.proofs.Common.{refl}
-use Rattle.overlay_arrange.specs.Content.{plain_edge}
+use Rattle.overlay_order.specs.Content.{plain_edge}
 use Rattle.overlay_arrange.specs.Meetings.{plain_meetings}
 use Rattle.overlay_arrange.proofs.LedToEnds.{none_where_settled}
 use Rattle.overlay_arrange.proofs.crossing.push_along.Goals as goal

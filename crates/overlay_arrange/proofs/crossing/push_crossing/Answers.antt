@@ -1,7 +1,7 @@
 -- The two edges cross, since each goes across the other's line.
 use Rattle.std.proofs.lemmas.Result.{on_ok_weaker}
 use Rattle.overlay_geom.specs.Points.{plain_point}
-use Rattle.overlay_arrange.specs.Content.{plain_edge}
+use Rattle.overlay_order.specs.Content.{plain_edge}
 use Rattle.overlay_arrange.proofs.PairMeetings.{crossing_added}
 use Rattle.overlay_arrange.proofs.crossing.push_crossing.Goals as goal
 

@@ -1,7 +1,7 @@
 -- The ends of each that lie on the other are all there is to add.
 use Rattle.std.proofs.lemmas.Result.{on_ok_weaker}
 use Rattle.overlay_geom.proofs.PointOrder.{Decides-point_lt}
-use Rattle.overlay_arrange.specs.Content.{plain_edge}
+use Rattle.overlay_order.specs.Content.{plain_edge}
 use Rattle.overlay_arrange.proofs.PairMeetings.{ends_added}
 use Rattle.overlay_arrange.proofs.crossing.push_ends.Goals as goal
 

@@ -3,7 +3,7 @@ use Rattle.std.proofs.lemmas.Result.{on_ok_weaker}
 use Rattle.overlay_geom.specs.Edges.{ends_of}
 use Rattle.overlay_geom.specs.Points.{plain_point}
 use Rattle.overlay_plane.specs.CutPoints.{is_between}
-use Rattle.overlay_arrange.specs.Content.{plain_edge}
+use Rattle.overlay_order.specs.Content.{plain_edge}
 use Rattle.overlay_arrange.proofs.PairMeetings.{two_added}
 use Rattle.overlay_arrange.proofs.crossing.push_ends_between.Goals as goal
 

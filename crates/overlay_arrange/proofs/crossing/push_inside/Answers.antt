@@ -1,9 +1,9 @@
 -- The point is pushed, or is an end of the edge.
 use Rattle.std.proofs.Common.{refl}
 use Rattle.overlay_geom.specs.Points.{plain_point}
-use Rattle.overlay_arrange.specs.Content.{plain_edge}
+use Rattle.overlay_order.specs.Content.{plain_edge}
+use Rattle.overlay_order.proofs.Appended.{mapped_pushed}
 use Rattle.overlay_arrange.specs.Meetings.{plain_meeting, plain_meetings}
-use Rattle.overlay_arrange.proofs.Appended.{mapped_pushed}
 use Rattle.overlay_arrange.proofs.PairMeetings.{end_left_out, point_pushed}
 use Rattle.overlay_arrange.proofs.crossing.push_inside.Goals as goal
 

@@ -3,7 +3,7 @@ use Rattle.std.proofs.Common.{refl}
 use Rattle.overlay_geom.specs.Edges.{ends_of}
 use Rattle.overlay_geom.proofs.Beside.{beside_meet_in_ends}
 use Rattle.overlay_geom.proofs.PointOrder.{Decides-point_lt}
-use Rattle.overlay_arrange.specs.Content.{plain_edge}
+use Rattle.overlay_order.specs.Content.{plain_edge}
 use Rattle.overlay_arrange.specs.Meetings.{plain_meetings}
 use Rattle.overlay_arrange.proofs.LedToEnds.{none_where_settled}
 use Rattle.overlay_arrange.proofs.crossing.push_meetings.Goals as goal

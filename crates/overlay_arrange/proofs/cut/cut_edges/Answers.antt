@@ -2,25 +2,25 @@
 use Rattle.std.proofs.Common.{◌≡◌, ℕ, ◌≤◌, ◌<◌, ◌+◌, ◌++◌, ℤ, List, All, length, map, get_or, drop, refl, sym, subst}
 use Rattle.std.proofs.Common.{ap, ◌∙◌, append-nil, arith, rules}
 use Rattle.std.proofs.lemmas.List.{at_drop_all}
-use Rattle.overlay_arrange.specs.declared.edge.CountedEdge.{CountedEdge}
+use Rattle.overlay_order.specs.declared.edge.CountedEdge.{CountedEdge}
 use Rattle.std.specs.List.{flat_map}
 use Rattle.overlay_geom.specs.Edges.{ends_of, weight}
 use Rattle.overlay_geom.specs.Points.{plain_points}
 use Rattle.overlay_geom.specs.declared.point.IntPoint.{IntPoint}
-use Rattle.overlay_geom.proofs.Mapped.{All-mapped_at, Contains-mapped, mapped_rest}
 use Rattle.overlay_geom.specs.Counts.{Counts}
+use Rattle.overlay_geom.proofs.Mapped.{All-mapped_at, Contains-mapped, mapped_rest}
 use Rattle.overlay_plane.specs.Carried.{Carried, edges_in}
 use Rattle.overlay_plane.specs.Cutting.{piece_along, pieces_through}
 use Rattle.overlay_plane.specs.DerivedData.{ArePieces}
-use Rattle.overlay_arrange.specs.Content.{carried_edge, carried_edges, plain_edge, plain_edges, IsHeld}
+use Rattle.overlay_order.specs.Content.{carried_edge, carried_edges, plain_edge, plain_edges, IsHeld}
+use Rattle.overlay_order.proofs.Appended.{next_appended}
+use Rattle.overlay_pairs.proofs.Entries.{placed_in_mapped}
 use Rattle.overlay_arrange.specs.Cut.{chain_by, AddsGiven, LeadingPoints}
 use Rattle.overlay_arrange.specs.Stores.IsStoreReached.{unwritten}
 use Rattle.overlay_arrange.specs.Meetings.{plain_meetings, AreLedAlong, ArePointsAt}
 use Rattle.overlay_arrange.specs.declared.meetings.Meeting.{Meeting}
-use Rattle.overlay_arrange.proofs.Appended.{next_appended}
 use Rattle.overlay_arrange.proofs.CarriedPieces.{adds_all, adds_both, adds_none, pieces_added}
 use Rattle.overlay_arrange.proofs.CutContents.{weight_of_entry}
-use Rattle.overlay_arrange.proofs.GatheredMeetings.{placed_in_mapped}
 use Rattle.overlay_arrange.proofs.LedThrough.{IsLedThrough, led_through, points_in_range}
 use Rattle.overlay_arrange.proofs.Pieces.{heavy_beginning}
 use Rattle.overlay_arrange.proofs.ReachedStores.{reached_on}

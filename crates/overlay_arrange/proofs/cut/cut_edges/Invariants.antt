@@ -4,7 +4,7 @@ use Rattle.std.specs.List.{flat_map}
 use Rattle.overlay_plane.specs.Carried.{Carried, edges_in}
 use Rattle.overlay_plane.specs.Cutting.{pieces_through}
 use Rattle.overlay_plane.specs.DerivedData.{ArePieces, AreCutAlong}
-use Rattle.overlay_arrange.specs.Content.{plain_edges, carried_edges}
+use Rattle.overlay_order.specs.Content.{plain_edges, carried_edges}
 use Rattle.overlay_arrange.specs.Cut.{chain_by, AddsGiven, LeadingPoints}
 use Rattle.overlay_arrange.specs.Meetings.{plain_meetings, AreLedAlong}
 use Rattle.overlay_arrange.specs.Stores.{IsStoreReached}

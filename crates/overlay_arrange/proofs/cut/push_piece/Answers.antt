@@ -1,7 +1,7 @@
 -- The piece lies between points in range, and weighs as much as its edge.
 use Rattle.std.proofs.Common.{arith}
 use Rattle.overlay_geom.specs.Points.{plain_point}
-use Rattle.overlay_arrange.specs.Content.{plain_edge}
+use Rattle.overlay_order.specs.Content.{plain_edge}
 use Rattle.overlay_arrange.proofs.Pieces.{step_held, step_weighs}
 use Rattle.overlay_arrange.proofs.cut.push_piece.Goals as goal
 

@@ -11,7 +11,7 @@ use Rattle.overlay_geom.proofs.Mapped.{mapped_rest, All-mapped_at}
 use Rattle.overlay_plane.specs.Carried.{edges_in}
 use Rattle.overlay_plane.specs.Cutting.{piece_along}
 use Rattle.overlay_plane.specs.DerivedData.{GivesPiece}
-use Rattle.overlay_arrange.specs.Content.{plain_edge, carried_edge}
+use Rattle.overlay_order.specs.Content.{plain_edge, carried_edge}
 use Rattle.overlay_arrange.specs.Cut.{AddsGiven, StaysWhole}
 use Rattle.overlay_arrange.specs.Stores.IsStoreReached.{unwritten}
 use Rattle.overlay_arrange.proofs.Adding.{push-next, push-last}

@@ -2,8 +2,8 @@
 use Rattle.std.proofs.Common.{map, refl, ap, ◌∙◌}
 use Rattle.overlay_geom.specs.Points.{plain_point}
 use Rattle.overlay_geom.proofs.Mapped.{mapped_whole}
+use Rattle.overlay_order.proofs.Appended.{next_mapped}
 use Rattle.overlay_arrange.specs.Meetings.{plain_meeting, Meeting}
-use Rattle.overlay_arrange.proofs.Appended.{next_mapped}
 use Rattle.overlay_arrange.proofs.cut.put_points.Goals as goal
 
 pub loop-m-preserved : goal.loop-m-preserved

@@ -3,7 +3,7 @@ use Rattle.std.proofs.Common.{map, ap, ◌∙◌}
 use Rattle.overlay_geom.specs.Edges.{ends_of}
 use Rattle.overlay_geom.specs.Points.{plain_points}
 use Rattle.overlay_geom.proofs.Mapped.{mapped_range}
-use Rattle.overlay_arrange.specs.Content.{plain_edge}
+use Rattle.overlay_order.specs.Content.{plain_edge}
 use Rattle.overlay_arrange.specs.Meetings.{plain_meeting, plain_meetings, Meeting}
 use Rattle.overlay_arrange.proofs.LedThrough.{points_of_run}
 use Rattle.overlay_arrange.proofs.cut.put_points_at.Goals as goal

@@ -3,7 +3,7 @@ use Rattle.std.proofs.Common.{◌≡◌, rules}
 use Rattle.std.specs.Ordering.{is_lt}
 use Rattle.std.proofs.lemmas.Fn.{always_returns_same}
 use Rattle.overlay_geom.specs.Edges.{ends_of}
-use Rattle.overlay_arrange.specs.Content.{plain_edge}
+use Rattle.overlay_order.specs.Content.{plain_edge}
 use Rattle.overlay_arrange.proofs.AlongEdges.{held_first, held_first-order, sorted_along}
 use Rattle.overlay_arrange.proofs.cut.sort_along.Goals as goal
 

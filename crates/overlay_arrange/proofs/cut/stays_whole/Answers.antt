@@ -2,7 +2,7 @@
 use Rattle.std.proofs.Common.{refl, subst, All}
 use Rattle.overlay_geom.specs.Points.{plain_point}
 use Rattle.overlay_geom.proofs.Mapped.{mapped_whole, All-mapped_at, All-mapped_more}
-use Rattle.overlay_arrange.specs.Content.{plain_edge}
+use Rattle.overlay_order.specs.Content.{plain_edge}
 use Rattle.overlay_arrange.specs.Cut.{IsEndOf}
 use Rattle.overlay_arrange.proofs.cut.stays_whole.Goals as goal
 

@@ -1,7 +1,7 @@
 -- The points so far are ends of the edge.
 use Rattle.std.proofs.Common.{take}
 use Rattle.overlay_geom.specs.Points.{plain_points}
-use Rattle.overlay_arrange.specs.Content.{plain_edge}
+use Rattle.overlay_order.specs.Content.{plain_edge}
 use Rattle.overlay_arrange.specs.Cut.{StaysWhole}
 use Rattle.overlay_arrange.proofs.cut.stays_whole.Given as goal
 

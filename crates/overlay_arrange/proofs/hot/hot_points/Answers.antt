@@ -3,7 +3,7 @@ use Rattle.std.proofs.Common.{◌≡◌, ◌++◌, List, map, ap, ◌∙◌, sub
 use Rattle.overlay_geom.specs.Plane.{Point}
 use Rattle.overlay_geom.specs.Edges.{CountedEdge}
 use Rattle.overlay_geom.specs.Points.{plain_points}
-use Rattle.overlay_arrange.specs.Content.{plain_edges}
+use Rattle.overlay_order.specs.Content.{plain_edges}
 use Rattle.overlay_arrange.specs.HotPoints.{HaveSameMembers}
 use Rattle.overlay_arrange.specs.Meetings.{plain_meetings, Meeting}
 use Rattle.overlay_arrange.proofs.HotLists.{are_hot_points, ends_and_met}

@@ -4,8 +4,8 @@ use Rattle.overlay_geom.specs.Plane.{Point}
 use Rattle.overlay_geom.specs.Points.{plain_point, plain_points}
 use Rattle.overlay_geom.proofs.Orders.{point_eq-same}
 use Rattle.overlay_plane.proofs.Entries.{Contains-map}
+use Rattle.overlay_order.proofs.Appended.{mapped_pushed}
 use Rattle.overlay_arrange.specs.HotPoints.{HaveSameMembers}
-use Rattle.overlay_arrange.proofs.Appended.{mapped_pushed}
 use Rattle.overlay_arrange.proofs.SameMembers.{same_members, same_members-repeated}
 use Rattle.overlay_arrange.proofs.hot.push_once.Goals as goal
 

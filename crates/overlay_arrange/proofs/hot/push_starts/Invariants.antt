@@ -2,7 +2,7 @@
 use Rattle.std.proofs.Common.{◌≡◌, ◌++◌, map, take}
 use Rattle.overlay_geom.specs.Points.{plain_points}
 use Rattle.overlay_geom.specs.Edges.{CountedEdge}
-use Rattle.overlay_arrange.specs.Content.{plain_edges}
+use Rattle.overlay_order.specs.Content.{plain_edges}
 use Rattle.overlay_arrange.proofs.hot.push_starts.Given as goal
 
 abbrev pub invariant-loop-i : goal.invariant-loop-i

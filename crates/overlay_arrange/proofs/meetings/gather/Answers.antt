@@ -2,9 +2,9 @@
 -- lead each other.
 use Rattle.std.proofs.Common.{◌≡◌, List, length, sym, subst, arith}
 use Rattle.std.proofs.lemmas.List.{length-map}
-use Rattle.overlay_arrange.specs.Content.{plain_edge, plain_edges}
+use Rattle.overlay_order.specs.Content.{plain_edge, plain_edges}
+use Rattle.overlay_pairs.specs.Near.{AreNear}
 use Rattle.overlay_arrange.specs.Meetings.{plain_meetings, AreGathered, HasBefore}
-use Rattle.overlay_arrange.specs.Near.{AreNear}
 use Rattle.overlay_arrange.specs.declared.meetings.Meeting.{Meeting}
 use Rattle.overlay_arrange.proofs.GatheredMeetings.{all_gathered, gathered_moved}
 use Rattle.overlay_arrange.proofs.OpenPairs.{all_open, front_closed}

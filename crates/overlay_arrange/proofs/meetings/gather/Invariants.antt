@@ -1,6 +1,6 @@
 -- The pairs with an earlier edge are gathered, and marked.
-use Rattle.overlay_arrange.specs.Changed.{AreOpenBefore}
-use Rattle.overlay_arrange.specs.Content.{plain_edges}
+use Rattle.overlay_order.specs.Content.{plain_edges}
+use Rattle.overlay_pairs.specs.Changed.{AreOpenBefore}
 use Rattle.overlay_arrange.specs.Meetings.{plain_meetings, AreGathered, HasBefore}
 use Rattle.overlay_arrange.proofs.meetings.gather.Given as goal
 

@@ -3,10 +3,11 @@
 use Rattle.std.proofs.Common.{◌<◌, length, get_or, inl, inr, take, sym, subst, arith}
 use Rattle.std.proofs.lemmas.List.{get_or_default, length-map, take_all, take_more}
 use Rattle.overlay_geom.proofs.Mapped.{All-mapped_at}
-use Rattle.overlay_arrange.specs.Content.{plain_edge, plain_edges, IsHeld}
+use Rattle.overlay_order.specs.Content.{plain_edge, plain_edges, IsHeld}
+use Rattle.overlay_pairs.proofs.Entries.{placed_in_mapped}
 use Rattle.overlay_arrange.specs.Meetings.{plain_meetings, AreGathered}
 use Rattle.overlay_arrange.proofs.GatheredMeetings.{begun, near_looked_at, pair_gathered}
-use Rattle.overlay_arrange.proofs.GatheredMeetings.{placed_in_mapped, IsLookedAt}
+use Rattle.overlay_arrange.proofs.GatheredMeetings.{IsLookedAt}
 use Rattle.overlay_arrange.proofs.OpenPairs.{none_open, open_still, open_with_more, open_with_near, open_with_still}
 use Rattle.overlay_arrange.proofs.OpenPairs.{AreOpenWith}
 use Rattle.overlay_arrange.proofs.meetings.gather_from.Goals as goal

@@ -1,7 +1,7 @@
 -- The pairs of the edge and those at the places so far are gathered, and marked.
 use Rattle.std.proofs.Common.{take}
-use Rattle.overlay_arrange.specs.Changed.{AreOpenBefore}
-use Rattle.overlay_arrange.specs.Content.{plain_edges}
+use Rattle.overlay_order.specs.Content.{plain_edges}
+use Rattle.overlay_pairs.specs.Changed.{AreOpenBefore}
 use Rattle.overlay_arrange.specs.Meetings.{plain_meetings, AreGathered}
 use Rattle.overlay_arrange.proofs.GatheredMeetings.{IsLookedAt}
 use Rattle.overlay_arrange.proofs.OpenPairs.{AreOpenWith}

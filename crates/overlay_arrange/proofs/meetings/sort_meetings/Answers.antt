@@ -1,6 +1,6 @@
 -- The meetings of the edges are in another order.
 use Rattle.std.proofs.lemmas.List.Sorted.{Contains-permutation, IsPermutation-map, IsPermutation-sym}
-use Rattle.overlay_arrange.specs.Content.{plain_edges}
+use Rattle.overlay_order.specs.Content.{plain_edges}
 use Rattle.overlay_arrange.specs.Meetings.{plain_meeting, plain_meetings}
 use Rattle.overlay_arrange.proofs.GatheredMeetings.{gathered_moved}
 use Rattle.overlay_arrange.proofs.meetings.sort_meetings.Goals as goal

@@ -2,7 +2,7 @@
 use Rattle.std.proofs.Common.{pos, ◌*ℤ◌, ap, sym, ◌∙◌}
 use Rattle.std.specs.Ordering.{int_cmp}
 use Rattle.overlay_geom.specs.Edges.{ends_of}
-use Rattle.overlay_arrange.specs.Content.{plain_edge}
+use Rattle.overlay_order.specs.Content.{plain_edge}
 use Rattle.overlay_arrange.proofs.PixelBounds.{high_where_falls, high_where_rises}
 use Rattle.overlay_arrange.proofs.pixel.order_to_high.Goals as goal
 

@@ -3,7 +3,7 @@ use Rattle.std.proofs.Common.{pos, ◌*ℤ◌, ap, sym, ◌∙◌}
 use Rattle.std.specs.Ordering.{int_cmp}
 use Rattle.overlay_geom.specs.Edges.{ends_of}
 use Rattle.overlay_geom.proofs.Widths.{Within-minus}
-use Rattle.overlay_arrange.specs.Content.{plain_edge}
+use Rattle.overlay_order.specs.Content.{plain_edge}
 use Rattle.overlay_arrange.proofs.PixelBounds.{low_where_falls, low_where_rises}
 use Rattle.overlay_arrange.proofs.pixel.order_to_low.Goals as goal
 

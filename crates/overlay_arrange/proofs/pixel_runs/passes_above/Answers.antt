@@ -4,7 +4,7 @@ use Rattle.overlay_geom.specs.Edges.{ends_of}
 use Rattle.overlay_geom.specs.Points.{plain_point}
 use Rattle.overlay_geom.proofs.PointOrder.{Decides-point_lt}
 use Rattle.overlay_plane.proofs.Tests.{lt_from_test}
-use Rattle.overlay_arrange.specs.Content.{plain_edge}
+use Rattle.overlay_order.specs.Content.{plain_edge}
 use Rattle.overlay_arrange.specs.PixelRuns.{is_far_below}
 use Rattle.overlay_arrange.proofs.PassedCorners.{passes_above_below_ends, passes_above_corner}
 use Rattle.overlay_arrange.proofs.pixel_runs.passes_above.Goals as goal

@@ -1,7 +1,7 @@
 -- Those from the upper place on are passed below.
 use Rattle.std.proofs.Common.{◌-◌, ◌≤◌}
 use Rattle.overlay_geom.specs.Points.{plain_points}
-use Rattle.overlay_arrange.specs.Content.{plain_edge}
+use Rattle.overlay_order.specs.Content.{plain_edge}
 use Rattle.overlay_arrange.specs.PixelRuns.{ArePassedBelow}
 use Rattle.overlay_arrange.proofs.pixel_runs.place_above.Given as goal
 

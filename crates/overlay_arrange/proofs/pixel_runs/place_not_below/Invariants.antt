@@ -1,7 +1,7 @@
 -- Those before the lower place are passed above.
 use Rattle.std.proofs.Common.{◌-◌, ◌≤◌}
 use Rattle.overlay_geom.specs.Points.{plain_points}
-use Rattle.overlay_arrange.specs.Content.{plain_edge}
+use Rattle.overlay_order.specs.Content.{plain_edge}
 use Rattle.overlay_arrange.specs.PixelRuns.{ArePassedAbove}
 use Rattle.overlay_arrange.proofs.pixel_runs.place_not_below.Given as goal
 

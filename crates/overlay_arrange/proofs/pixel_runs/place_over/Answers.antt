@@ -2,9 +2,9 @@
 use Rattle.std.proofs.Common.{◌<◌, length, sym, subst, arith}
 use Rattle.overlay_geom.specs.Points.{plain_point, plain_points}
 use Rattle.overlay_geom.specs.declared.point.IntPoint.{IntPoint}
-use Rattle.overlay_arrange.specs.Content.{plain_edge}
+use Rattle.overlay_order.specs.Content.{plain_edge}
+use Rattle.overlay_pairs.proofs.Entries.{placed_in_mapped}
 use Rattle.overlay_arrange.specs.PixelRuns.{PassesBelow}
-use Rattle.overlay_arrange.proofs.GatheredMeetings.{placed_in_mapped}
 use Rattle.overlay_arrange.proofs.HeightRuns.{below_from}
 use Rattle.overlay_arrange.proofs.pixel_runs.place_over.Goals as goal
 

@@ -3,8 +3,8 @@ use Rattle.std.proofs.Common.{◌≡◌, ◌+◌, ◌-◌, ◌<◌, ◌++◌, �
 use Rattle.std.proofs.lemmas.List.{map-append}
 use Rattle.overlay_geom.specs.Plane.{Point}
 use Rattle.overlay_geom.specs.Points.{plain_point, plain_points}
+use Rattle.overlay_pairs.proofs.Entries.{placed_in_mapped}
 use Rattle.overlay_arrange.specs.PixelRuns.{AddsPoints}
-use Rattle.overlay_arrange.proofs.GatheredMeetings.{placed_in_mapped}
 use Rattle.overlay_arrange.proofs.HeightRuns.{no_points, one_point_before}
 use Rattle.overlay_arrange.proofs.pixel_runs.push_downwards.Goals as goal
 

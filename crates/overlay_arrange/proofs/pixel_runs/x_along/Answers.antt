@@ -3,7 +3,7 @@ use Rattle.std.proofs.Common.{sym, ◌∙◌}
 use Rattle.overlay_geom.proofs.PointOrder.{Decides-point_lt}
 use Rattle.overlay_geom.proofs.Signs.{linear}
 use Rattle.overlay_plane.proofs.Tests.{ge_from_test, lt_from_test}
-use Rattle.overlay_arrange.specs.Content.{plain_edge}
+use Rattle.overlay_order.specs.Content.{plain_edge}
 use Rattle.overlay_arrange.proofs.SpanWithin.{amid_moved, between_falling, between_rising}
 use Rattle.overlay_arrange.proofs.pixel_runs.x_along.Goals as goal
 

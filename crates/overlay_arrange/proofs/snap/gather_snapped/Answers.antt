@@ -3,8 +3,8 @@ use Rattle.std.proofs.Common.{arith}
 use Rattle.std.proofs.lemmas.List.{length-map}
 use Rattle.overlay_geom.specs.Points.{plain_points}
 use Rattle.overlay_geom.proofs.Mapped.{All-mapped_at}
-use Rattle.overlay_arrange.specs.Content.{plain_edge, plain_edges, IsHeld}
-use Rattle.overlay_arrange.proofs.GatheredMeetings.{placed_in_mapped}
+use Rattle.overlay_order.specs.Content.{plain_edge, plain_edges, IsHeld}
+use Rattle.overlay_pairs.proofs.Entries.{placed_in_mapped}
 use Rattle.overlay_arrange.proofs.GatheredPixels.{all_snapped, by_place_more, one_snapped}
 use Rattle.overlay_arrange.proofs.snap.gather_snapped.Goals as goal
 

@@ -1,6 +1,6 @@
 -- The edges so far are snapped, their meetings stand by their places, and strips are those of the points.
 use Rattle.overlay_geom.specs.Points.{plain_points}
-use Rattle.overlay_arrange.specs.Content.{plain_edges}
+use Rattle.overlay_order.specs.Content.{plain_edges}
 use Rattle.overlay_arrange.specs.HotPoints.{AreSnappedBefore, AreStripsIfAny}
 use Rattle.overlay_arrange.specs.Meetings.{plain_meetings, AreByPlace}
 use Rattle.overlay_arrange.proofs.snap.gather_snapped.Given as goal

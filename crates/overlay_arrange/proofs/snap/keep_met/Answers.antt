@@ -3,7 +3,7 @@ use Rattle.std.proofs.Common.{◌≡◌, rules, of_calls, sym, subst}
 use Rattle.std.proofs.lemmas.Fn.{filter_same}
 use denote.Param.Always.{mut_by}
 use Rattle.overlay_geom.specs.Points.{plain_point}
-use Rattle.overlay_arrange.specs.Content.{plain_edge, IsHeld}
+use Rattle.overlay_order.specs.Content.{plain_edge, IsHeld}
 use Rattle.overlay_arrange.specs.HotPoints.{meets_inside}
 use Rattle.overlay_arrange.proofs.KeptMet.{met_left}
 use Rattle.overlay_arrange.proofs.snap.keep_met.Goals as goal

@@ -2,7 +2,7 @@
 use Rattle.std.proofs.Common.{◌++◌, ap, ◌∙◌}
 use Rattle.std.proofs.lemmas.Result.{on_ok_weaker}
 use Rattle.overlay_geom.specs.Points.{plain_points}
-use Rattle.overlay_arrange.specs.Content.{plain_edge}
+use Rattle.overlay_order.specs.Content.{plain_edge}
 use Rattle.overlay_arrange.specs.HotPoints.{meetings_at}
 use Rattle.overlay_arrange.specs.Meetings.{plain_meetings}
 use Rattle.overlay_arrange.proofs.KeptMet.{met_added}

@@ -7,7 +7,7 @@ use Rattle.overlay_geom.specs.Plane.{Point}
 use Rattle.overlay_geom.specs.Points.{plain_point, plain_points}
 use Rattle.overlay_geom.specs.declared.point.IntPoint.{IntPoint}
 use Rattle.overlay_geom.proofs.PointOrder.{Decides-point_lt}
-use Rattle.overlay_arrange.specs.Content.{plain_edge}
+use Rattle.overlay_order.specs.Content.{plain_edge}
 use Rattle.overlay_arrange.specs.PixelRuns.{AddsRun}
 use Rattle.overlay_arrange.proofs.HotRanks.{amid_points}
 use Rattle.overlay_arrange.proofs.StripSearches.{AreMetBefore, IsStripEnd, search_begun, search_done, strip_searched}

@@ -1,7 +1,7 @@
 -- The strips of the edge's span so far have been searched, and the place looked at comes nearer to its end.
 use Rattle.std.proofs.Common.{◌-◌, ◌≤◌, length}
 use Rattle.overlay_geom.specs.Points.{plain_points}
-use Rattle.overlay_arrange.specs.Content.{plain_edge}
+use Rattle.overlay_order.specs.Content.{plain_edge}
 use Rattle.overlay_arrange.proofs.StripSearches.{AreMetBefore, IsStripEnd}
 use Rattle.overlay_arrange.proofs.snap.take_by_strips.Given as goal
 

@@ -5,13 +5,13 @@ use Rattle.std.proofs.lemmas.List.Elements.{All-contains}
 use Rattle.overlay_geom.specs.Counts.{Counts}
 use Rattle.overlay_geom.specs.Points.{plain_point, InRange}
 use Rattle.overlay_geom.proofs.Mapped.{mapped_whole, All-mapped_at, All-mapped_more, Contains-mapped}
-use Rattle.overlay_arrange.specs.Content.{plain_edge, plain_edges, IsHeld}
+use Rattle.overlay_order.specs.Content.{plain_edge, plain_edges, IsHeld}
+use Rattle.overlay_order.specs.declared.edge.CountedEdge.{CountedEdge}
+use Rattle.overlay_pairs.proofs.Entries.{one_entry, placed_in_mapped}
 use Rattle.overlay_arrange.specs.Cut.{IsOnLineOf}
 use Rattle.overlay_arrange.specs.Meetings.{plain_meeting, plain_meetings, AreMeetings, IsOnItsLine}
 use Rattle.overlay_arrange.specs.Meetings.{Meeting as PlainMeeting}
-use Rattle.overlay_arrange.specs.declared.edge.CountedEdge.{CountedEdge}
 use Rattle.overlay_arrange.specs.declared.meetings.Meeting.{Meeting}
-use Rattle.overlay_arrange.proofs.GatheredMeetings.{one_entry, placed_in_mapped}
 use Rattle.overlay_arrange.proofs.LedThrough.{meetings_in_range}
 use Rattle.overlay_arrange.proofs.MeetingsOnLines.{whole_by_meetings}
 use Rattle.overlay_arrange.proofs.whole.are_whole.Goals as goal

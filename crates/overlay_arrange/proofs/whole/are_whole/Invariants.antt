@@ -1,6 +1,6 @@
 -- The meetings so far lie on the lines of their edges.
 use Rattle.std.proofs.Common.{All, take}
-use Rattle.overlay_arrange.specs.Content.{plain_edges}
+use Rattle.overlay_order.specs.Content.{plain_edges}
 use Rattle.overlay_arrange.specs.Meetings.{plain_meetings, IsOnItsLine}
 use Rattle.overlay_arrange.proofs.whole.are_whole.Given as goal
 

@@ -5,7 +5,7 @@ use Rattle.overlay_geom.specs.Edges.{weight}
 use Rattle.overlay_geom.specs.Points.{plain_point, plain_points, InRange}
 use Rattle.overlay_geom.proofs.ResolvedSteps.{first_mapped}
 use Rattle.overlay_plane.specs.Carried.{edges_in}
-use Rattle.overlay_arrange.specs.Content.{IsContent}
+use Rattle.overlay_order.specs.Content.{IsContent}
 use Rattle.overlay_builder.specs.Paths.{passed_edge}
 use Rattle.overlay_builder.proofs.Fronts.{on_refusal}
 use Rattle.overlay_builder.proofs.FirstPoints.{steps_from_the_first}

@@ -1,6 +1,6 @@
 -- The edge of a step between points in range may be added.
 use Rattle.overlay_geom.specs.Points.{plain_point}
-use Rattle.overlay_arrange.specs.Content.{carried_edge}
+use Rattle.overlay_order.specs.Content.{carried_edge}
 use Rattle.overlay_builder.proofs.PassedEdges.{may_add}
 use Rattle.overlay_builder.proofs.path.push_step.Goals as goal
 

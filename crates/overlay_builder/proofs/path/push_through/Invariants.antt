@@ -4,7 +4,7 @@ use Rattle.std.proofs.Common.{◌≡◌, ◌++◌, [], ◌∷◌, map, take, dro
 use Rattle.overlay_geom.specs.Plane.{steps_through}
 use Rattle.overlay_geom.specs.Points.{plain_point, plain_points, InRange}
 use Rattle.overlay_plane.specs.Carried.{edges_in}
-use Rattle.overlay_arrange.specs.Content.{IsContent}
+use Rattle.overlay_order.specs.Content.{IsContent}
 use Rattle.overlay_builder.specs.Paths.{passed_edge}
 use Rattle.overlay_builder.proofs.path.push_through.Given as goal
 

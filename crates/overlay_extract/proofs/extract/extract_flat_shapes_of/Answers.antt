@@ -6,7 +6,7 @@ use Rattle.overlay_geom.specs.Flat.{shapes_in}
 use Rattle.overlay_plane.specs.BoundContours.{walks_in}
 use Rattle.overlay_plane.specs.PlacedContours.{walks_at}
 use Rattle.overlay_plane.specs.ShapeWindings.{points_of_shapes, AreKeptOrThinned}
-use Rattle.overlay_arrange.specs.Graphs.{graph_edges}
+use Rattle.overlay_graph.specs.Graphs.{graph_edges}
 use Rattle.overlay_walk.specs.GroupedContours.{plain_contours}
 use Rattle.overlay_walk.specs.Steps.{IsLong}
 use Rattle.overlay_extract.specs.Places.{place_lists, AreInside}

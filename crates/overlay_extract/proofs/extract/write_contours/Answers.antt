@@ -5,7 +5,7 @@ use Rattle.std.proofs.lemmas.Result.{on_ok_weaker}
 use Rattle.overlay_geom.specs.Flat.{paths_in}
 use Rattle.overlay_geom.specs.Plane.{points_of}
 use Rattle.overlay_geom.specs.Thinned.{IsKeptOrThinned}
-use Rattle.overlay_arrange.specs.Graphs.{graph_edges}
+use Rattle.overlay_graph.specs.Graphs.{graph_edges}
 use Rattle.overlay_walk.specs.Walks.{plain_walks}
 use Rattle.overlay_extract.specs.Results.{asked}
 use Rattle.overlay_extract.proofs.Results.{contours_shown}

@@ -7,7 +7,7 @@ use Rattle.overlay_plane.specs.KeptContours.{CanBeBound}
 use Rattle.overlay_plane.specs.PlacedContours.{walks_at}
 use Rattle.overlay_plane.specs.RoledContours.{group_contours_from}
 use Rattle.overlay_plane.specs.ShapeWindings.{points_of_shapes, AreKeptOrThinned}
-use Rattle.overlay_arrange.specs.Graphs.{graph_edges}
+use Rattle.overlay_graph.specs.Graphs.{graph_edges}
 use Rattle.overlay_walk.specs.GroupedContours.{plain_contours}
 use Rattle.overlay_walk.specs.Steps.{filled_hand, IsLong}
 use Rattle.overlay_extract.specs.ChildLinks.{plain_link}

@@ -1,8 +1,8 @@
 -- Both wind round the region that is asked for.
 use Rattle.std.proofs.Common.{Bool, ℤ, sym, ap₂, ◌∙◌}
 use Rattle.overlay_geom.specs.Edges.{subj_of, clip_of}
+use Rattle.overlay_geom.specs.Rules.{rules_hold}
 use Rattle.overlay_plane.specs.ContourWindings.{wanted_winding}
-use Rattle.overlay_arrange.specs.Rules.{rules_hold}
 use Rattle.overlay_walk.specs.Steps.{filled_hand}
 use Rattle.overlay_extract.proofs.laws.same_region_same_windings.Goals as goal
 

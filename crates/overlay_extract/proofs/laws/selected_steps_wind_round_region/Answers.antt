@@ -1,8 +1,8 @@
 -- An arrangement is a ruled list under each of the rules.
 use Rattle.overlay_geom.specs.Edges.{subj_of, clip_of}
+use Rattle.overlay_geom.specs.Rules.{rules_hold}
 use Rattle.overlay_plane.proofs.SelectedWindings.{selected_steps_wind}
-use Rattle.overlay_arrange.specs.Rules.{rules_hold}
-use Rattle.overlay_arrange.proofs.RuledContents.{ruled_content}
+use Rattle.overlay_order.proofs.RuledContents.{ruled_content}
 use Rattle.overlay_walk.specs.Steps.{filled_hand}
 use Rattle.overlay_extract.proofs.laws.selected_steps_wind_round_region.Goals as goal
 

@@ -2,8 +2,8 @@
 use Rattle.std.proofs.Common.{sym, ap, ◌∙◌, subst}
 use Rattle.std.specs.List.{All, flat_map}
 use Rattle.overlay_geom.specs.Resolved.{plain_edges, IsLongEdge}
-use Rattle.overlay_arrange.specs.Graphs.{graph_edges}
-use Rattle.overlay_arrange.specs.Rules.{is_filled}
+use Rattle.overlay_geom.specs.Rules.{is_filled}
+use Rattle.overlay_graph.specs.Graphs.{graph_edges}
 use Rattle.overlay_relate.specs.Boundaries.{bounding}
 use Rattle.overlay_relate.proofs.BoundingBits.{bounds_by_edges, long_edges}
 use Rattle.overlay_relate.proofs.boundary.boundary_of.Goals as goal

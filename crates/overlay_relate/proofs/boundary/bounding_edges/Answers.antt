@@ -2,8 +2,8 @@
 use Rattle.std.proofs.Common.{◌+◌, map, drop}
 use Rattle.overlay_geom.specs.Resolved.{plain_edges}
 use Rattle.overlay_geom.proofs.Mapped.{mapped_rest}
-use Rattle.overlay_arrange.specs.Vectors.{plain_vector}
-use Rattle.overlay_arrange.proofs.Appended.{next_appended}
+use Rattle.overlay_order.specs.Vectors.{plain_vector}
+use Rattle.overlay_order.proofs.Appended.{next_appended}
 use Rattle.overlay_relate.specs.Boundaries.{bounding}
 use Rattle.overlay_relate.proofs.boundary.bounding_edges.Goals as goal
 

@@ -2,7 +2,7 @@
 use Rattle.std.proofs.Common.{◌≡◌, ◌++◌, map, drop}
 use Rattle.std.specs.List.{flat_map}
 use Rattle.overlay_geom.specs.Resolved.{plain_edges}
-use Rattle.overlay_arrange.specs.Vectors.{plain_vector}
+use Rattle.overlay_order.specs.Vectors.{plain_vector}
 use Rattle.overlay_relate.specs.Boundaries.{bounding}
 use Rattle.overlay_relate.proofs.boundary.bounding_edges.Given as goal
 

@@ -1,6 +1,6 @@
 -- The masks test the bits of the two sides.
 use Rattle.std.proofs.Common.{ap₂, ◌∙◌}
-use Rattle.overlay_arrange.proofs.DirectionBits.{has_bit-masked}
+use Rattle.overlay_order.proofs.DirectionBits.{has_bit-masked}
 use Rattle.overlay_relate.specs.Locations.{differ}
 use Rattle.overlay_relate.proofs.boundary.fills_one_side.Goals as goal
 

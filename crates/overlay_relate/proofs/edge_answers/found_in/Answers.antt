@@ -2,8 +2,8 @@
 use Rattle.std.proofs.Common.{◌≡◌, Bool, map, subst}
 use Rattle.std.specs.List.{list_any}
 use Rattle.std.specs.Prelude.{◌↔◌, IsTrue}
-use Rattle.overlay_arrange.specs.Graphs.{graph_edges}
-use Rattle.overlay_arrange.specs.Rules.{is_filled}
+use Rattle.overlay_graph.specs.Graphs.{graph_edges}
+use Rattle.overlay_geom.specs.Rules.{is_filled}
 use Rattle.overlay_plane.specs.EdgePredicates.{SomeEdge}
 use Rattle.overlay_relate.specs.EdgeTests.{bits_pass, edge_passes}
 use Rattle.overlay_relate.specs.Found.{IsFoundUnder}

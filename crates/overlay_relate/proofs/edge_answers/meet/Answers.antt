@@ -3,8 +3,8 @@ use Rattle.std.proofs.Common.{◌≡◌, ◌⊎◌, false, ⊎_elim, inl, inr, r
 use Rattle.std.proofs.lemmas.Bool.{false≢true}
 use Rattle.std.proofs.lemmas.Result.{IfOk-weaker}
 use Rattle.std.specs.Prelude.{◌↔◌, IsTrue}
-use Rattle.overlay_arrange.specs.Graphs.{graph_edges}
-use Rattle.overlay_arrange.specs.Rules.{is_filled}
+use Rattle.overlay_graph.specs.Graphs.{graph_edges}
+use Rattle.overlay_geom.specs.Rules.{is_filled}
 use Rattle.overlay_plane.specs.EdgePredicates.{SomeEdge, HasSharedEnd, has_both}
 use Rattle.overlay_relate.specs.declared.edge_test.EdgeTest.TheVariants.{BothShapes}
 use Rattle.overlay_relate.proofs.BitsTell.{told_by_vectors}

@@ -1,5 +1,5 @@
 -- Where no edge passes the telling test, sides alone answer these three.
-use Rattle.overlay_arrange.specs.Graphs.{graph_edges}
+use Rattle.overlay_graph.specs.Graphs.{graph_edges}
 use Rattle.overlay_relate.specs.declared.edge_test.EdgeTest.TheVariants.{SubjectSide, ClipSide}
 use Rattle.overlay_relate.proofs.BitsTell.{told_by_vectors}
 use Rattle.overlay_relate.proofs.ToldByEdges.{fillable_arrangement}

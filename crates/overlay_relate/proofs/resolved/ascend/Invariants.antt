@@ -1,6 +1,6 @@
 -- The edges so far ascend.
 use Rattle.std.proofs.Common.{take}
-use Rattle.overlay_arrange.specs.Content.{IsAscending}
+use Rattle.overlay_order.specs.Content.{IsAscending}
 use Rattle.overlay_relate.specs.Resolved.{edges_once}
 use Rattle.overlay_relate.proofs.resolved.ascend.Given as goal
 

@@ -4,8 +4,8 @@ use Rattle.std.proofs.lemmas.List.{map-append}
 use Rattle.overlay_geom.specs.Edges.{ends_of}
 use Rattle.overlay_geom.specs.Resolved.{plain_edge as plain_ends}
 use Rattle.overlay_geom.proofs.Mapped.{mapped_more, mapped_whole}
-use Rattle.overlay_arrange.specs.Content.{plain_edge}
-use Rattle.overlay_arrange.specs.Counts.{boolean_counts}
+use Rattle.overlay_order.specs.Content.{plain_edge}
+use Rattle.overlay_order.specs.Counts.{boolean_counts}
 use Rattle.overlay_relate.specs.Resolved.{edges_once, ends_once}
 use Rattle.overlay_relate.proofs.resolved.counted_once.Goals as goal
 

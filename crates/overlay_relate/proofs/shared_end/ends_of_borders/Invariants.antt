@@ -1,7 +1,7 @@
 -- The ends so far and those of the edges to come make the whole.
 use Rattle.std.proofs.Common.{◌≡◌, ◌++◌, map, drop}
 use Rattle.std.specs.List.{flat_map}
-use Rattle.overlay_arrange.specs.Vectors.{plain_vector}
+use Rattle.overlay_order.specs.Vectors.{plain_vector}
 use Rattle.overlay_relate.specs.EdgeTests.{plain_ends, border_ends}
 use Rattle.overlay_relate.proofs.shared_end.ends_of_borders.Given as goal
 

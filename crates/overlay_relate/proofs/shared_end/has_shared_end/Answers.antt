@@ -7,8 +7,8 @@ use Rattle.std.proofs.lemmas.List.Sorted.{answers_always, IsPermutation-map, Con
 use Rattle.overlay_geom.specs.Points.{plain_point}
 use Rattle.overlay_geom.specs.Resolved.{point_cmp}
 use Rattle.overlay_geom.proofs.PointComparisons.{point_cmp-is_less}
-use Rattle.overlay_arrange.specs.Graphs.{graph_edges}
-use Rattle.overlay_arrange.specs.Vectors.{vector_of}
+use Rattle.overlay_order.specs.Vectors.{vector_of}
+use Rattle.overlay_graph.specs.Graphs.{graph_edges}
 use Rattle.overlay_relate.specs.EdgeTests.{plain_end, plain_ends, border_ends, some_next_differ}
 use Rattle.overlay_relate.proofs.NextEnds.{InOrder, share_from_next, next_from_share, held_before, held_before-order}
 use Rattle.overlay_relate.proofs.NextEnds.{in_order-from_sorted}

@@ -1,5 +1,5 @@
 -- The mask tests the bit of the right side.
-use Rattle.overlay_arrange.proofs.DirectionBits.{has_bit-masked}
+use Rattle.overlay_order.proofs.DirectionBits.{has_bit-masked}
 use Rattle.overlay_string.proofs.kept_pieces.is_filled_right.Goals as goal
 
 pub returns : goal.returns

@@ -4,7 +4,7 @@ use Rattle.std.proofs.lemmas.List.{take_all}
 use Rattle.std.specs.List.{flat_map}
 use Rattle.overlay_geom.proofs.JoinedLists.{joined_more}
 use Rattle.overlay_plane.specs.Carried.{edges_in}
-use Rattle.overlay_arrange.specs.Graphs.{graph_edges}
+use Rattle.overlay_graph.specs.Graphs.{graph_edges}
 use Rattle.overlay_string.specs.Pieces.{plain_pieces, pieces_by_bits}
 use Rattle.overlay_string.proofs.KeptPieces.{pieces_kept}
 use Rattle.overlay_string.proofs.kept_pieces.kept_pieces.Goals as goal

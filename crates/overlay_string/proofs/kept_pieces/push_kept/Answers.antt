@@ -1,7 +1,7 @@
 -- The pieces along a kept edge are added in turn, one each way.
 use Rattle.std.proofs.Common.{◌≡◌, ◌++◌, ◌∷◌, [], Bool, true, cond, List, ap, sym, ◌∙◌, append_assoc}
 use Rattle.std.proofs.lemmas.Result.{on_ok_weaker}
-use Rattle.overlay_arrange.specs.Counts.{has_bit, string_counts}
+use Rattle.overlay_order.specs.Counts.{has_bit, string_counts}
 use Rattle.overlay_geom.specs.Plane.{Step}
 use Rattle.overlay_geom.specs.Points.{plain_point}
 use Rattle.overlay_string.specs.ClipPieces.{keeps_sides}

@@ -11,8 +11,7 @@ pub loop-index-preserved : goal.loop-index-preserved
 loop-index-preserved g c =
     let whole = g.I.IntNumber.whole in
     let paths = g.R0.IntShapeResource.paths c.args.resource.now in
-    let i = c.loop-index.index in
-    (
+    let i = c.loop-index.index in (
       subst (λ ps. IsBoxFound whole ps c.widened-bounds.result)
           (sym (flat_map-take_read paths i (plain_points whole c.path_at.result.now) c.path_at.ensures.path (λ p. p)))
           (c.widened-bounds.ensures (points_of_paths (take i paths)) c.loop-index.invariant.0),

@@ -6,7 +6,7 @@ use Rattle.std.proofs.lemmas.List.Elements.{All-contains}
 use Rattle.overlay_geom.specs.Edges.{CountedEdge, subj_of, clip_of}
 use Rattle.overlay_geom.specs.Points.{plain_point}
 use Rattle.overlay_geom.proofs.Mapped.{All-mapped_more, mapped_whole}
-use Rattle.overlay_arrange.specs.Content.{plain_edge, plain_edges}
+use Rattle.overlay_order.specs.Content.{plain_edge, plain_edges}
 use Rattle.overlay_vector.specs.Entering.{IsBalancedAt}
 use Rattle.overlay_vector.proofs.EnteringSums.{entering_none, balanced_by_ends}
 use Rattle.overlay_vector.proofs.balance.is_balanced.Goals as goal

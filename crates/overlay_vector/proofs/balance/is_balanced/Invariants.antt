@@ -1,6 +1,6 @@
 -- The ends of the edges so far are balanced.
 use Rattle.std.proofs.Common.{take, All}
-use Rattle.overlay_arrange.specs.Content.{plain_edges}
+use Rattle.overlay_order.specs.Content.{plain_edges}
 use Rattle.overlay_vector.specs.Entering.{IsBalancedAt}
 use Rattle.overlay_vector.proofs.balance.is_balanced.Given as goal
 

@@ -2,7 +2,7 @@
 use Rattle.overlay_geom.specs.Edges.{subj_of, clip_of}
 use Rattle.overlay_geom.specs.Points.{plain_point}
 use Rattle.overlay_geom.proofs.WindingSums.{subj_weighed, clip_weighed}
-use Rattle.overlay_arrange.specs.Content.{plain_edge}
+use Rattle.overlay_order.specs.Content.{plain_edge}
 use Rattle.overlay_vector.proofs.EnteringSums.{entering_front, entering_more}
 use Rattle.overlay_vector.proofs.balance.sums_at.Goals as goal
 

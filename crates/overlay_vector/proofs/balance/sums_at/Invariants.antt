@@ -2,7 +2,7 @@
 use Rattle.std.proofs.Common.{◌≡◌, take}
 use Rattle.overlay_geom.specs.Edges.{subj_of, clip_of}
 use Rattle.overlay_geom.specs.Points.{plain_point}
-use Rattle.overlay_arrange.specs.Content.{plain_edges}
+use Rattle.overlay_order.specs.Content.{plain_edges}
 use Rattle.overlay_vector.specs.Entering.{entering}
 use Rattle.overlay_vector.proofs.balance.sums_at.Given as goal
 

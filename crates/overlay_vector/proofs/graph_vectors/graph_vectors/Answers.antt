@@ -1,8 +1,8 @@
 -- What is listed of the graph's edges are all of them.
 use Rattle.std.proofs.Common.{◌≡◌, map, ◌∙◌}
 use Rattle.std.proofs.lemmas.Result.{IfOk-weaker}
-use Rattle.overlay_arrange.specs.Counts.{boolean_counts}
-use Rattle.overlay_arrange.specs.Graphs.{graph_edges}
+use Rattle.overlay_order.specs.Counts.{boolean_counts}
+use Rattle.overlay_graph.specs.Graphs.{graph_edges}
 use Rattle.overlay_vector.specs.DataVectors.{plain_data_vectors, graph_vectors}
 use Rattle.overlay_vector.specs.ListedVectors.{uncounted}
 use Rattle.overlay_vector.proofs.ListedVectors.{listed_all}

@@ -1,7 +1,7 @@
 -- The masks test the bits of the sides above and below.
 use Rattle.std.proofs.Common.{◌≡◌, Bool, true, false, cond, not, refl, ap₂, ◌∙◌}
-use Rattle.overlay_arrange.specs.Rules.{rule_holds}
-use Rattle.overlay_arrange.proofs.DirectionBits.{has_bit-masked}
+use Rattle.overlay_geom.specs.Rules.{rule_holds}
+use Rattle.overlay_order.proofs.DirectionBits.{has_bit-masked}
 use Rattle.overlay_vector.proofs.selected_vectors.is_selected.Goals as goal
 
 differ : (a b : Bool) → not (mathlib.Core.Bool.beq a b) ≡ cond a (not b) b

@@ -2,8 +2,8 @@
 use Rattle.std.proofs.Common.{◌≡◌, ◌∙◌}
 use Rattle.std.specs.List.{flat_map}
 use Rattle.std.proofs.lemmas.Result.{IfOk-weaker}
-use Rattle.overlay_arrange.specs.Counts.{boolean_counts}
-use Rattle.overlay_arrange.specs.Graphs.{graph_edges}
+use Rattle.overlay_order.specs.Counts.{boolean_counts}
+use Rattle.overlay_graph.specs.Graphs.{graph_edges}
 use Rattle.overlay_vector.specs.DataVectors.{plain_data_vectors, selected_vectors}
 use Rattle.overlay_vector.specs.ListedVectors.{vectors_by_bits}
 use Rattle.overlay_vector.proofs.ListedVectors.{listed_selected}

@@ -6,7 +6,7 @@ use Rattle.std.proofs.lemmas.List.{length-map, map-append, take_all}
 use Rattle.overlay_geom.specs.Edges.{all_ends}
 use Rattle.overlay_geom.proofs.Mapped.{AllZip-more, read_mapped}
 use Rattle.overlay_plane.specs.PlacedContours.{walk_at}
-use Rattle.overlay_arrange.specs.Graphs.{graph_edges}
+use Rattle.overlay_graph.specs.Graphs.{graph_edges}
 use Rattle.overlay_arrange.proofs.ReachedStores.{never_written, reached_on}
 use Rattle.overlay_walk.specs.GroupedContours.{plain_contour, plain_contours}
 use Rattle.overlay_walk.specs.Steps.{plain_steps, RunsAlong}

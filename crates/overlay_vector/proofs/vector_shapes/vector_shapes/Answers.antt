@@ -5,7 +5,7 @@ use Rattle.overlay_geom.specs.Edges.{all_ends}
 use Rattle.overlay_plane.specs.BoundContours.{walks_in, AreShapesFound}
 use Rattle.overlay_plane.specs.KeptContours.{CanBeBound}
 use Rattle.overlay_plane.specs.PlacedContours.{walks_at, CanBePlaced}
-use Rattle.overlay_arrange.specs.Graphs.{graph_edges}
+use Rattle.overlay_graph.specs.Graphs.{graph_edges}
 use Rattle.overlay_walk.specs.Asked.{asked, is_kept, selected_of}
 use Rattle.overlay_walk.specs.GroupedContours.{plain_contours}
 use Rattle.overlay_walk.specs.Steps.{filled_hand, IsLong, RunsAlong}

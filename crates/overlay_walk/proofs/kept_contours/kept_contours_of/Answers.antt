@@ -2,8 +2,8 @@
 use Rattle.std.proofs.Common.{All}
 use Rattle.std.proofs.lemmas.Result.{IfOk-weaker}
 use Rattle.overlay_plane.specs.BoundContours.{walks_in}
-use Rattle.overlay_arrange.specs.Graphs.{graph_edges}
-use Rattle.overlay_arrange.proofs.RuledContents.{ruled_content}
+use Rattle.overlay_order.proofs.RuledContents.{ruled_content}
+use Rattle.overlay_graph.specs.Graphs.{graph_edges}
 use Rattle.overlay_walk.specs.Asked.{Asked, asked}
 use Rattle.overlay_walk.specs.GroupedContours.{plain_contours}
 use Rattle.overlay_walk.specs.KeptResults.{AreKeptResults}

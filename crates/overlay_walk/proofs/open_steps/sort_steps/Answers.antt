@@ -3,7 +3,7 @@ use Rattle.std.proofs.Common.{◌≡◌, ap, ◌∙◌, rules}
 use Rattle.std.specs.Ordering.{is_lt}
 use Rattle.std.proofs.lemmas.List.Sorted.{answers_always, IsPermutation-trans}
 use Rattle.overlay_geom.specs.Points.{plain_point}
-use Rattle.overlay_arrange.specs.Content.{point_cmp}
+use Rattle.overlay_order.specs.Content.{point_cmp}
 use Rattle.overlay_walk.specs.Steps.{plain_step}
 use Rattle.overlay_walk.proofs.Runs.{point_cmp-is_less, leaves_smaller, leaves_smaller-order, IsByFrom-from_sorted}
 use Rattle.overlay_walk.proofs.open_steps.sort_steps.Goals as goal

@@ -1,7 +1,7 @@
 -- The masks test the bits of the sides above.
 use Rattle.std.proofs.Common.{ap₂, ◌∙◌}
-use Rattle.overlay_arrange.specs.Rules.{rule_holds}
-use Rattle.overlay_arrange.proofs.DirectionBits.{has_bit-masked}
+use Rattle.overlay_geom.specs.Rules.{rule_holds}
+use Rattle.overlay_order.proofs.DirectionBits.{has_bit-masked}
 use Rattle.overlay_walk.proofs.selected_steps.holds_above.Goals as goal
 
 pub returns : goal.returns

@@ -4,8 +4,8 @@ use Rattle.std.specs.List.{slice_get}
 use Rattle.std.specs.Option.{option_map}
 use Rattle.std.proofs.lemmas.Option.{slice_get-map, slice_get_read}
 use Rattle.overlay_geom.proofs.Mapped.{mapped_rest}
-use Rattle.overlay_arrange.specs.Vectors.{plain_vector}
-use Rattle.overlay_arrange.proofs.Appended.{next_appended}
+use Rattle.overlay_order.specs.Vectors.{plain_vector}
+use Rattle.overlay_order.proofs.Appended.{next_appended}
 use Rattle.overlay_walk.specs.Steps.{filled_hand, plain_steps}
 use Rattle.overlay_walk.specs.Selection.{ends, steps_by_bits}
 use Rattle.overlay_walk.proofs.selected_steps.push_selected.Goals as goal

@@ -1,7 +1,7 @@
 -- The steps so far and those of the edges to come make the whole. Each runs along its edge if the first steps do.
 use Rattle.std.proofs.Common.{◌≡◌, ◌++◌, map, drop, All}
 use Rattle.std.specs.List.{flat_map}
-use Rattle.overlay_arrange.specs.Vectors.{plain_vector}
+use Rattle.overlay_order.specs.Vectors.{plain_vector}
 use Rattle.overlay_walk.specs.Steps.{filled_hand, plain_steps, RunsAlong}
 use Rattle.overlay_walk.specs.Selection.{ends, steps_by_bits}
 use Rattle.overlay_walk.proofs.selected_steps.push_selected.Given as goal

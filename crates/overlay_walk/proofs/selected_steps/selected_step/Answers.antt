@@ -3,7 +3,7 @@
 use Rattle.std.proofs.Common.{◌≡◌, cond, sym, ap, ◌∙◌}
 use Rattle.overlay_plane.specs.SelectedSteps.{step_with_left}
 use Rattle.overlay_plane.specs.Turn.{is_left_hand}
-use Rattle.overlay_arrange.specs.Vectors.{plain_vector}
+use Rattle.overlay_order.specs.Vectors.{plain_vector}
 use Rattle.overlay_walk.specs.Steps.{filled_hand}
 use Rattle.overlay_walk.specs.Selection.{ends}
 use Rattle.overlay_walk.proofs.OneSide.{no_step, one_step}

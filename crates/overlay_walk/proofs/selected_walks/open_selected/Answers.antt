@@ -8,9 +8,9 @@ use Rattle.std.proofs.lemmas.Result.{IfOk-weaker}
 use Rattle.std.proofs.lemmas.Simd.{map-map}
 use Rattle.overlay_geom.specs.Edges.{all_ends, subj_of, clip_of}
 use Rattle.overlay_geom.specs.Plane.{Edge}
-use Rattle.overlay_arrange.specs.Graphs.{graph_edges}
-use Rattle.overlay_arrange.specs.Rules.{rules_hold}
-use Rattle.overlay_arrange.specs.Vectors.{plain_vector, vector_of}
+use Rattle.overlay_geom.specs.Rules.{rules_hold}
+use Rattle.overlay_order.specs.Vectors.{plain_vector, vector_of}
+use Rattle.overlay_graph.specs.Graphs.{graph_edges}
 use Rattle.overlay_walk.specs.Steps.{filled_hand, plain_step, plain_steps, IsLong, RunsAlong}
 use Rattle.overlay_walk.proofs.SelectedLong.{selected_are_long}
 use Rattle.overlay_walk.specs.Selection.{ends}

@@ -4,8 +4,8 @@ use Rattle.std.specs.List.Sorted.{IsPermutation}
 use Rattle.std.proofs.lemmas.List.Sorted.{IsPermutation-map}
 use Rattle.std.proofs.lemmas.Result.{IfOk-weaker}
 use Rattle.overlay_geom.specs.Edges.{subj_of, clip_of}
-use Rattle.overlay_arrange.specs.Graphs.{graph_edges}
-use Rattle.overlay_arrange.specs.Rules.{rules_hold}
+use Rattle.overlay_geom.specs.Rules.{rules_hold}
+use Rattle.overlay_graph.specs.Graphs.{graph_edges}
 use Rattle.overlay_walk.specs.Steps.{filled_hand, plain_step, plain_steps, IsLong}
 use Rattle.overlay_walk.proofs.SelectedLong.{selected_are_long}
 use Rattle.overlay_walk.proofs.SelectedByBits.{selected_in_room}

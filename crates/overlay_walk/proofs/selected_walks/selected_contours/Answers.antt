@@ -2,7 +2,7 @@
 use Rattle.std.proofs.Common.{Bool, List}
 use Rattle.overlay_geom.specs.Plane.{Step}
 use Rattle.overlay_plane.specs.MinimumArea.{reaches}
-use Rattle.overlay_arrange.specs.Graphs.{graph_edges}
+use Rattle.overlay_graph.specs.Graphs.{graph_edges}
 use Rattle.overlay_walk.specs.GroupedContours.{plain_contours}
 use Rattle.overlay_walk.specs.Steps.{filled_hand, plain_steps}
 use Rattle.overlay_walk.proofs.SelectedGroups.{open_alternate, open_once, open_long, cut_of_selected, cut_is_simple}

@@ -2,11 +2,11 @@
 use Rattle.std.proofs.Common.{All, Contains}
 use Rattle.std.proofs.lemmas.List.Elements.{All-contains, All-weaker}
 use Rattle.overlay_geom.specs.Edges.{all_ends, subj_of, clip_of}
+use Rattle.overlay_geom.specs.Rules.{rules_hold}
 use Rattle.overlay_plane.specs.Contours.{alternating}
 use Rattle.overlay_plane.proofs.ShuffledCuts.{shuffled_alternate, shuffled_once, shuffled_cut}
-use Rattle.overlay_arrange.specs.Graphs.{graph_edges}
-use Rattle.overlay_arrange.specs.Rules.{rules_hold}
-use Rattle.overlay_arrange.proofs.RuledContents.{ruled_content}
+use Rattle.overlay_order.proofs.RuledContents.{ruled_content}
+use Rattle.overlay_graph.specs.Graphs.{graph_edges}
 use Rattle.overlay_walk.specs.Steps.{filled_hand, plain_steps, RunsAlong}
 use Rattle.overlay_walk.specs.Walks.{plain_walks}
 use Rattle.overlay_walk.proofs.SelectedLong.{walks_are_long}

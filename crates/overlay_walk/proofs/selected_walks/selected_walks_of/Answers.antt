@@ -1,10 +1,10 @@
 -- The steps that are cut are a permutation of the selected steps.
 use Rattle.overlay_geom.specs.Edges.{subj_of, clip_of}
+use Rattle.overlay_geom.specs.Rules.{rules_hold}
 use Rattle.overlay_plane.specs.Contours.{alternating}
 use Rattle.overlay_plane.proofs.ShuffledCuts.{shuffled_alternate, shuffled_once, shuffled_cut}
-use Rattle.overlay_arrange.specs.Graphs.{graph_edges}
-use Rattle.overlay_arrange.specs.Rules.{rules_hold}
-use Rattle.overlay_arrange.proofs.RuledContents.{ruled_content}
+use Rattle.overlay_order.proofs.RuledContents.{ruled_content}
+use Rattle.overlay_graph.specs.Graphs.{graph_edges}
 use Rattle.overlay_walk.specs.Steps.{filled_hand, plain_steps}
 use Rattle.overlay_walk.specs.Walks.{plain_walks}
 use Rattle.overlay_walk.proofs.SelectedLong.{walks_are_long}

@@ -1,6 +1,6 @@
 -- The new builder answers of the paths that were added to it.
 use Rattle.std.proofs.Common.{ap, map, subst}
-use Rattle.overlay_arrange.specs.Vectors.{plain_vector}
+use Rattle.overlay_order.specs.Vectors.{plain_vector}
 use Rattle.overlay_builder.specs.GivenPaths.{added_paths, subject_and_clip}
 use Rattle.overlay_builder.specs.PathLists.{HoldsPaths}
 use Rattle.overlay_geom.specs.Flat.{paths_in}

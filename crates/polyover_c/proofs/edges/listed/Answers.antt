@@ -1,6 +1,6 @@
 -- One edge more stands in the arrays, and all of them.
 use Rattle.std.proofs.Common.{◌++◌, ◌∷◌, [], ap, ◌∙◌, subst}
-use Rattle.overlay_arrange.specs.Vectors.{plain_vector}
+use Rattle.overlay_order.specs.Vectors.{plain_vector}
 use Rattle.overlay_geom.proofs.Mapped.{mapped_whole}
 use Rattle.polyover_c.specs.Listed.{AreListed}
 use Rattle.polyover_c.proofs.Listed.{one_edge_more}

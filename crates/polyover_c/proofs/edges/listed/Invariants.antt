@@ -1,6 +1,6 @@
 -- The edges so far stand in the arrays.
 use Rattle.std.proofs.Common.{map, take}
-use Rattle.overlay_arrange.specs.Vectors.{plain_vector}
+use Rattle.overlay_order.specs.Vectors.{plain_vector}
 use Rattle.polyover_c.specs.Listed.{AreListed}
 use Rattle.polyover_c.proofs.edges.listed.Given as goal
 

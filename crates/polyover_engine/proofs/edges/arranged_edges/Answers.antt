@@ -1,6 +1,6 @@
 use Rattle.std.proofs.Common.{false, map, subst}
 use Rattle.std.proofs.lemmas.Result.{err_from_is_err_and}
-use Rattle.overlay_arrange.specs.Vectors.{plain_vector}
+use Rattle.overlay_order.specs.Vectors.{plain_vector}
 use Rattle.overlay_builder.specs.GivenPaths.{added_paths}
 use Rattle.overlay_builder.specs.PathLists.{MayRefuseBuilder}
 use Rattle.polyover_text.specs.Grammar.{contour_paths, paths_of}

@@ -6,7 +6,7 @@ use Rattle.overlay_geom.specs.Edges.{AddsContour}
 use Rattle.overlay_geom.specs.Points.{AllInRange}
 use Rattle.overlay_geom.specs.Numbers.{greatest_of_64_bits}
 use Rattle.overlay_geom.specs.declared.solver.Solver.TheVariants.{Rounds}
-use Rattle.overlay_arrange.specs.Content.{edge_for}
+use Rattle.overlay_order.specs.Content.{edge_for}
 use Rattle.overlay_builder.specs.GivenPaths.{ContourWeighsTooMuch}
 use Rattle.polyover_text.specs.Grammar.{contour_paths}
 use Rattle.polyover_text.specs.Points.{points_at}

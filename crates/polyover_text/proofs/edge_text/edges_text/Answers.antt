@@ -1,5 +1,5 @@
 use Rattle.std.proofs.Common.{[], string_bytes}
-use Rattle.overlay_arrange.specs.Vectors.{plain_vector}
+use Rattle.overlay_order.specs.Vectors.{plain_vector}
 use Rattle.polyover_text.specs.Printed.{edge_line}
 use Rattle.polyover_text.proofs.Printing.{all_items}
 use Rattle.polyover_text.proofs.edge_text.edges_text.Goals as goal

@@ -1,5 +1,5 @@
 use Rattle.std.proofs.Common.{◌≡◌, map, take, string_bytes}
-use Rattle.overlay_arrange.specs.Vectors.{plain_vector}
+use Rattle.overlay_order.specs.Vectors.{plain_vector}
 use Rattle.polyover_text.specs.Printed.{edge_lines}
 use Rattle.polyover_text.proofs.edge_text.edges_text.Given as goal
 

@@ -3,7 +3,7 @@ use Rattle.std.proofs.Common.{Ok, Err, sym, subst, ◌∙◌}
 use Rattle.std.proofs.lemmas.Result.{err_from_is_err_and}
 use Rattle.overlay_geom.specs.Points.{plain_points}
 use Rattle.overlay_plane.specs.Carried.{edges_in}
-use Rattle.overlay_arrange.specs.Counts.{boolean_counts}
+use Rattle.overlay_order.specs.Counts.{boolean_counts}
 use Rattle.overlay_builder.specs.BuilderCalls.{AddsContourAsAsked}
 use Rattle.overlay_builder.specs.Held.{plain_held}
 use Rattle.overlay_builder.proofs.AddedContours.{dataless_pass_once, contour_added}

@@ -5,7 +5,7 @@ use Rattle.overlay_builder.specs.Held.{plain_held}
 use Rattle.overlay_builder.specs.PathLists.{AddsAsAsked}
 use Rattle.i_overlay.specs.Builder.{held_by}
 use Rattle.overlay_builder.specs.GivenPaths.{added_paths, paths_for}
-use Rattle.overlay_arrange.specs.Counts.{boolean_counts}
+use Rattle.overlay_order.specs.Counts.{boolean_counts}
 use Rattle.overlay_builder.proofs.AddedContours.{dataless_pass_once, contours_added}
 use Rattle.overlay_builder.proofs.Balanced.{adding_keeps_balance}
 use Rattle.i_overlay.proofs.Builders.{only_edges_new}

@@ -3,7 +3,7 @@ use Rattle.std.proofs.Common.{◌≡◌, false, sym, subst}
 use Rattle.overlay_geom.specs.Settled.{IsSettled}
 use Rattle.overlay_plane.specs.Balance.{HasBalancedCounts}
 use Rattle.overlay_plane.specs.Carried.{edges_in}
-use Rattle.overlay_arrange.specs.Content.{IsAscending}
+use Rattle.overlay_order.specs.Content.{IsAscending}
 use Rattle.i_overlay.proofs.overlay.Overlay.graph_filled_by.Goals as goal
 
 pub graph_of_balanced-requires-clause-ascending : goal.graph_of_balanced-requires-clause-ascending

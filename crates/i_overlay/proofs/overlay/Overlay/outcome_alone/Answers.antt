@@ -1,7 +1,7 @@
 -- The contour alone has balanced counts.
 use Rattle.std.proofs.Common.{[], ◌∷◌}
 use Rattle.overlay_geom.specs.Points.{plain_points}
-use Rattle.overlay_arrange.specs.declared.options.ShapeType.TheVariants.{Subject}
+use Rattle.overlay_geom.specs.declared.options.ShapeType.TheVariants.{Subject}
 use Rattle.overlay_builder.specs.GivenPaths.{paths_for}
 use Rattle.overlay_builder.specs.Held.{plain_held}
 use Rattle.i_overlay.proofs.HeldAlone.{balanced_alone}

@@ -4,7 +4,7 @@ use Rattle.std.proofs.lemmas.Bool.{eqb-true, eq-eqb, false≢true}
 use Rattle.std.proofs.lemmas.List.Elements.{All-head}
 use Rattle.overlay_geom.specs.Flat.{part_in, first_range}
 use Rattle.overlay_geom.specs.Points.{plain_points, AllInRange}
-use Rattle.overlay_arrange.specs.declared.overlay_rule.OverlayRule.TheVariants.{Subject as OfSubject}
+use Rattle.overlay_geom.specs.declared.overlay_rule.OverlayRule.TheVariants.{Subject as OfSubject}
 use Rattle.overlay_extract.specs.Results.{asked}
 use Rattle.i_overlay.proofs.SimplifiedPaths.{the_mapped, many_cut}
 use Rattle.i_overlay.proofs.overlay.Overlay.outcome_of_contours.Goals as goal

@@ -1,6 +1,6 @@
 -- The paths are added to the cleared builder.
 use Rattle.std.proofs.Common.{subst}
-use Rattle.overlay_arrange.specs.declared.options.ShapeType.TheVariants.{Subject}
+use Rattle.overlay_geom.specs.declared.options.ShapeType.TheVariants.{Subject}
 use Rattle.i_overlay.specs.Adding.{BuilderAdds}
 use Rattle.overlay_builder.specs.GivenPaths.{paths_for}
 use Rattle.i_overlay.proofs.overlay.Overlay.reinit_with_subj.Goals as goal

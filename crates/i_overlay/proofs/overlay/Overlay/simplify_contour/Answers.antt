@@ -4,9 +4,9 @@ use Rattle.std.proofs.lemmas.Result.{IfOk-weaker}
 use Rattle.std.specs.Prelude.{◌↔◌, None, IfOk, option_map}
 use Rattle.overlay_geom.specs.Paths.{plain_shapes}
 use Rattle.overlay_geom.specs.Points.{plain_points}
+use Rattle.overlay_geom.specs.declared.options.ShapeType.TheVariants.{Subject}
+use Rattle.overlay_geom.specs.declared.overlay_rule.OverlayRule.TheVariants.{Subject as OfSubject}
 use Rattle.overlay_plane.specs.Carried.{edges_in}
-use Rattle.overlay_arrange.specs.declared.options.ShapeType.TheVariants.{Subject}
-use Rattle.overlay_arrange.specs.declared.overlay_rule.OverlayRule.TheVariants.{Subject as OfSubject}
 use Rattle.overlay_builder.specs.GivenPaths.{paths_for}
 use Rattle.overlay_builder.specs.Held.{plain_held}
 use Rattle.overlay_extract.specs.Results.{asked}

@@ -4,8 +4,8 @@ use Rattle.std.proofs.lemmas.Result.{on_ok_weaker}
 use Rattle.std.specs.Prelude.{OnOk}
 use Rattle.overlay_geom.specs.Flat.{part_in, first_range, paths_in}
 use Rattle.overlay_geom.specs.Points.{plain_points}
+use Rattle.overlay_geom.specs.declared.overlay_rule.OverlayRule.TheVariants.{Subject as OfSubject}
 use Rattle.overlay_plane.specs.Carried.{edges_in}
-use Rattle.overlay_arrange.specs.declared.overlay_rule.OverlayRule.TheVariants.{Subject as OfSubject}
 use Rattle.overlay_extract.specs.Results.{asked}
 use Rattle.i_overlay.specs.Simplified.{AreLeft, AreSimplified, StayAsGiven}
 use Rattle.i_overlay.proofs.SimplifiedPaths.{all_simplified, stay_told}

@@ -6,7 +6,7 @@ use Rattle.std.proofs.lemmas.Option.{none-some}
 use Rattle.std.specs.Prelude.{◌↔◌, None, IfOk}
 use Rattle.overlay_geom.specs.Paths.{paths_of_shape, plain_shapes}
 use Rattle.overlay_geom.specs.Points.{plain_points, AllInRange}
-use Rattle.overlay_arrange.specs.declared.overlay_rule.OverlayRule.TheVariants.{Subject as OfSubject}
+use Rattle.overlay_geom.specs.declared.overlay_rule.OverlayRule.TheVariants.{Subject as OfSubject}
 use Rattle.overlay_extract.specs.Results.{asked}
 use Rattle.i_overlay.specs.Simplified.{StayAsGiven}
 use Rattle.i_overlay.proofs.SimplifiedPaths.{the_shown, many_simplified, none_stay}

@@ -1,7 +1,7 @@
 -- The one path is all that is added.
 use Rattle.std.proofs.Common.{sym, subst}
 use Rattle.overlay_geom.specs.Points.{plain_points}
-use Rattle.overlay_arrange.specs.declared.options.ShapeType.TheVariants.{Subject}
+use Rattle.overlay_geom.specs.declared.options.ShapeType.TheVariants.{Subject}
 use Rattle.overlay_builder.specs.GivenPaths.{paths_for}
 use Rattle.i_overlay.specs.Alone.{AnswersAlone}
 use Rattle.i_overlay.specs.Builder.{held_by}

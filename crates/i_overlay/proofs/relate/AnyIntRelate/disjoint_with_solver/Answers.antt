@@ -1,5 +1,5 @@
 -- Two resources are disjoint where they do not intersect.
-use Rattle.overlay_arrange.specs.declared.fill_rule.FillRule.TheVariants.{EvenOdd}
+use Rattle.overlay_geom.specs.declared.fill_rule.FillRule.TheVariants.{EvenOdd}
 use Rattle.i_overlay.proofs.Relations.{disjoint_of_paths}
 use Rattle.i_overlay.proofs.relate.AnyIntRelate.disjoint_with_solver.Goals as goal
 

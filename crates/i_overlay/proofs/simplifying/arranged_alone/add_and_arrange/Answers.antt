@@ -1,6 +1,6 @@
 -- The paths are all that is held, and then arranged; or one of the two is refused.
 use Rattle.std.proofs.lemmas.Result.{err_from_is_err_and}
-use Rattle.overlay_arrange.specs.declared.options.ShapeType.TheVariants.{Subject}
+use Rattle.overlay_geom.specs.declared.options.ShapeType.TheVariants.{Subject}
 use Rattle.overlay_builder.specs.GivenPaths.{paths_for}
 use Rattle.overlay_builder.specs.Held.{plain_held}
 use Rattle.overlay_plane.specs.Carried.{edges_in}

@@ -1,6 +1,6 @@
 -- The core remembers whether the paths were refused.
 use Rattle.std.proofs.Common.{ap, ◌∙◌}
-use Rattle.overlay_arrange.specs.declared.options.ShapeType.TheVariants.{Subject}
+use Rattle.overlay_geom.specs.declared.options.ShapeType.TheVariants.{Subject}
 use Rattle.overlay_builder.specs.GivenPaths.{paths_for}
 use Rattle.overlay_builder.specs.Held.{plain_held}
 use Rattle.overlay_plane.specs.Carried.{edges_in}

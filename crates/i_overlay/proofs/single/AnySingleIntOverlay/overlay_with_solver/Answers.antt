@@ -2,11 +2,11 @@
 use Rattle.std.proofs.Common.{◌≡◌, sym, ap, subst}
 use Rattle.std.proofs.lemmas.Result.{err_from_is_err_and}
 use Rattle.std.specs.Prelude.{IfOk, false}
-use Rattle.overlay_arrange.specs.Options.{AreOptions}
+use Rattle.overlay_geom.specs.Options.{AreOptions}
+use Rattle.overlay_geom.specs.Paths.{plain_shapes}
 use Rattle.overlay_builder.specs.GivenPaths.{subject_and_clip, added_paths}
 use Rattle.overlay_builder.specs.PathLists.{HoldsPaths, MayRefuseBuilder}
 use Rattle.overlay_extract.specs.Results.{IsResult}
-use Rattle.overlay_geom.specs.Paths.{plain_shapes}
 use Rattle.i_overlay.specs.Builder.{held_by}
 use Rattle.i_overlay.specs.OneShot.{asked_by_default}
 use Rattle.i_overlay.proofs.OneShots.{asked_of_default, result_of_paths, query_refused, adding_refused}

@@ -2,12 +2,12 @@
 -- that are left.
 use Rattle.std.proofs.Common.{◌≡◌, ℕ, ◌-◌, ◌↔◌, List, Option, Some, None, refl, sym, ◌∙◌, subst, arith}
 use Rattle.std.proofs.lemmas.Result.{err_from_is_err_and}
+use Rattle.overlay_order.specs.Content.{IsContent}
 use Rattle.overlay_arrange.proofs.ArrangedLists.{forward_content, carried_at_once, carried_on}
 use Rattle.overlay_arrange.proofs.RoundsTaken.{split_at_once, unsettled_at_once, split_on, unsettled_on, heavy_on}
 use Rattle.overlay_arrange.proofs.RoundsTaken.{heavy_at_once, uncut_where_settled, cut_where_unsettled, Leaves}
 use Rattle.overlay_arrange.proofs.ReachedStores.{reached_on}
 use Rattle.overlay_arrange.proofs.SolverRounds.{cut_in_rounds, leaves_of_taken}
-use Rattle.overlay_arrange.proofs.WholeMeetings.{settled_where_whole}
 use Rattle.overlay_geom.specs.Edges.{CountedEdge}
 use Rattle.overlay_geom.specs.Merged.{IsMerged}
 use Rattle.overlay_geom.specs.Settled.{IsSettled}
@@ -15,7 +15,7 @@ use Rattle.overlay_geom.specs.declared.solver.Solver.TheVariants.{Rounds}
 use Rattle.overlay_plane.specs.Carried.{edges_in}
 use Rattle.overlay_plane.specs.CutPoints.{cut_edges}
 use Rattle.overlay_plane.specs.DerivedData.{computed_chain}
-use Rattle.overlay_arrange.specs.Content.{IsContent}
+use Rattle.overlay_arrange.proofs.WholeMeetings.{settled_where_whole}
 use Rattle.overlay_arrange.proofs.content.Content.+split_since.Goals as goal
 
 -- edges whose meetings are found are not settled

@@ -7,7 +7,7 @@ use Rattle.overlay_plane.specs.Carried.{edges_in}
 use Rattle.overlay_plane.specs.CutPoints.{cut_points}
 use Rattle.overlay_plane.specs.Cutting.{pieces_through}
 use Rattle.overlay_plane.specs.DerivedData.{AreCutAlong, computed_chain}
-use Rattle.overlay_arrange.specs.Content.{plain_edges}
+use Rattle.overlay_order.specs.Content.{plain_edges}
 use Rattle.overlay_arrange.specs.Meetings.{plain_meetings, AreLedAlong}
 use Rattle.overlay_arrange.proofs.LedThrough.{meetings_in_range, meetings_lead_along}
 use Rattle.overlay_arrange.proofs.content.Content.cut_through.Goals as goal

@@ -1,7 +1,7 @@
 -- The counted edges of the content are those of the list that is given out.
 use Rattle.std.proofs.Common.{ap, ◌∙◌}
-use Rattle.overlay_arrange.specs.Content.{plain_edges}
-use Rattle.overlay_arrange.proofs.CarriedEdges.{plain_edges-seen}
+use Rattle.overlay_order.specs.Content.{plain_edges}
+use Rattle.overlay_order.proofs.CarriedEdges.{plain_edges-seen}
 use Rattle.overlay_arrange.proofs.content.Content.edges.Goals as goal
 
 pub returns-clause-plain : goal.returns-clause-plain

@@ -1,5 +1,5 @@
 -- The edges of the graph are the content as contracts see it.
-use Rattle.overlay_arrange.proofs.CarriedEdges.{plain_edges-seen}
+use Rattle.overlay_order.proofs.CarriedEdges.{plain_edges-seen}
 use Rattle.overlay_arrange.proofs.content.Content.graph.Goals as goal
 
 pub new-requires-clause-ascending : goal.new-requires-clause-ascending

@@ -1,5 +1,5 @@
 -- The edges of the graph are the content as contracts see it, and so are they balanced.
-use Rattle.overlay_arrange.proofs.CarriedEdges.{plain_edges-seen}
+use Rattle.overlay_order.proofs.CarriedEdges.{plain_edges-seen}
 use Rattle.overlay_arrange.proofs.content.Content.graph_of_balanced.Goals as goal
 
 pub of_balanced-requires-clause-ascending : goal.of_balanced-requires-clause-ascending

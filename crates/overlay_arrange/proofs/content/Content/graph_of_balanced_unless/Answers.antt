@@ -1,8 +1,8 @@
 -- The edges of the graph, and those that are tested, are the content as contracts see it.
 use Rattle.std.proofs.Common.{◌≡◌, IfOk, ap, ◌∙◌, subst}
-use Rattle.overlay_arrange.specs.Content.{plain_edges, carried_edges}
-use Rattle.overlay_arrange.specs.FillTests.{some_fill_passes, IsFoundUnless}
-use Rattle.overlay_arrange.proofs.CarriedEdges.{plain_edges-seen}
+use Rattle.overlay_order.specs.Content.{plain_edges, carried_edges}
+use Rattle.overlay_order.proofs.CarriedEdges.{plain_edges-seen}
+use Rattle.overlay_graph.specs.FillTests.{some_fill_passes, IsFoundUnless}
 use Rattle.overlay_arrange.proofs.content.Content.graph_of_balanced_unless.Goals as goal
 
 pub of_balanced_unless-requires-clause-ascending : goal.of_balanced_unless-requires-clause-ascending

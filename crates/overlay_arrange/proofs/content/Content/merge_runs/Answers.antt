@@ -1,5 +1,5 @@
 -- The merged edges are the content as contracts see it.
-use Rattle.overlay_arrange.proofs.CarriedEdges.{edges_in-carried, plain_edges-seen}
+use Rattle.overlay_order.proofs.CarriedEdges.{edges_in-carried, plain_edges-seen}
 use Rattle.overlay_arrange.proofs.content.Content.merge_runs.Goals as goal
 
 pub returns-clause-ok : goal.returns-clause-ok

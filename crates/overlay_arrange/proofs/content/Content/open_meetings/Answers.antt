@@ -2,8 +2,8 @@
 use Rattle.std.proofs.Common.{length, refl, subst}
 use Rattle.std.proofs.lemmas.List.{length-map}
 use Rattle.overlay_geom.specs.Settled.{IsSettled}
-use Rattle.overlay_arrange.specs.Content.{plain_edge, plain_edges}
-use Rattle.overlay_arrange.proofs.SettledLists.{settled_where_counted}
+use Rattle.overlay_order.specs.Content.{plain_edge, plain_edges}
+use Rattle.overlay_pairs.proofs.SettledLists.{settled_where_counted}
 use Rattle.overlay_arrange.proofs.content.Content.open_meetings.Goals as goal
 
 pub count_settled-requires-clause-held : goal.count_settled-requires-clause-held

@@ -2,7 +2,7 @@
 use Rattle.std.proofs.Common.{refl}
 use Rattle.std.proofs.Math.Nat.{lt_of_not-le}
 use Rattle.std.proofs.lemmas.Bool.{false≢true}
-use Rattle.overlay_arrange.proofs.CarriedEdges.{edges_in-carried, plain_edges-seen}
+use Rattle.overlay_order.proofs.CarriedEdges.{edges_in-carried, plain_edges-seen}
 use Rattle.overlay_arrange.proofs.PushedReversed.{pushed}
 use Rattle.overlay_arrange.proofs.content.Content.push.Goals as goal
 

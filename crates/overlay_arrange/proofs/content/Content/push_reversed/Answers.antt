@@ -1,7 +1,7 @@
 -- The edge is added with its counts reversed, which weigh the same.
 use Rattle.std.proofs.Math.Nat.{lt_of_not-le}
 use Rattle.std.proofs.lemmas.Bool.{false≢true}
-use Rattle.overlay_arrange.proofs.CarriedEdges.{edges_in-carried, plain_edges-seen}
+use Rattle.overlay_order.proofs.CarriedEdges.{edges_in-carried, plain_edges-seen}
 use Rattle.overlay_arrange.proofs.PushedReversed.{pushed_reversed}
 use Rattle.overlay_arrange.proofs.content.Content.push_reversed.Goals as goal
 

@@ -3,7 +3,7 @@ use Rattle.std.proofs.Common.{◌≡◌, ◌↔◌, Option, Some, None, sym, sub
 use Rattle.std.proofs.lemmas.Result.{err_from_is_err_and}
 use Rattle.overlay_geom.specs.Settled.{IsSettled}
 use Rattle.overlay_plane.specs.Carried.{edges_in}
-use Rattle.overlay_arrange.specs.Content.{IsContent}
+use Rattle.overlay_order.specs.Content.{IsContent}
 use Rattle.overlay_arrange.proofs.ArrangedLists.{carried_at_once}
 use Rattle.overlay_arrange.proofs.ReachedStores.{reached_on}
 use Rattle.overlay_arrange.proofs.RoundsTaken.{cut_where_unsettled, split_at_once}

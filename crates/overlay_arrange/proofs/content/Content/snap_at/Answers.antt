@@ -7,7 +7,7 @@ use Rattle.overlay_plane.specs.Carried.{edges_in}
 use Rattle.overlay_plane.specs.SnapPoints.{snap_points}
 use Rattle.overlay_plane.specs.Cutting.{pieces_through}
 use Rattle.overlay_plane.specs.DerivedData.{AreCutAlong}
-use Rattle.overlay_arrange.specs.Content.{plain_edges}
+use Rattle.overlay_order.specs.Content.{plain_edges}
 use Rattle.overlay_arrange.specs.Cut.{chain_by}
 use Rattle.overlay_arrange.specs.Meetings.{plain_meetings, AreLedAlong}
 use Rattle.overlay_arrange.proofs.SnappedThrough.{snaps_in_range, snaps_lead_along}

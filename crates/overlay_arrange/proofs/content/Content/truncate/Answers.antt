@@ -1,7 +1,7 @@
 -- The first edges are left, which are a content.
 use Rattle.std.proofs.Common.{take, sym, ap, ◌∙◌}
 use Rattle.std.proofs.lemmas.List.{take-map}
-use Rattle.overlay_arrange.specs.Content.{plain_edge, carried_edge, carried_edges}
+use Rattle.overlay_order.specs.Content.{plain_edge, carried_edge, carried_edges}
 use Rattle.overlay_arrange.proofs.FirstEdges.{first_seen}
 use Rattle.overlay_arrange.proofs.content.Content.truncate.Goals as goal
 

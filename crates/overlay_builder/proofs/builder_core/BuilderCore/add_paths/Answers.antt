@@ -10,8 +10,7 @@ use Rattle.overlay_builder.proofs.builder_core.BuilderCore.add_paths.Goals as go
 
 pub loop-index-init : goal.loop-index-init
 loop-index-init g c =
-    let ready : c.args.self.now.failed ≡ false = search rules in
-    (
+    let ready : c.args.self.now.failed ≡ false = search rules in (
       none_added_first carried_weight c.args.kind (passed_edge g.C.EdgeCount.counts c.args.passing)
           (g.R0.IntShapeResource.paths c.args.resource.now) c.args.self.now ready
           c.check_usable.ensures.content.light,
@@ -25,15 +24,14 @@ add_path-requires-clause-points g c =
     c.path_at.ensures.path (AllInRange g.I.IntNumber.limit) c.requires.points
 
 pub loop-index-preserved : goal.loop-index-preserved
-loop-index-preserved g c =
-    (
-      next_added carried_weight c.args.kind (passed_edge g.C.EdgeCount.counts c.args.passing)
-          (g.R0.IntShapeResource.paths c.args.resource.now) c.loop-index.index
-          (plain_points g.I.IntNumber.whole c.path_at.result.now) c.path_at.ensures.path
-          c.args.self.now c.loop-index.self c.loop-index.invariant.0 c.add_path.new.self c.in_ok-add_path.field-0
-          c.in_ok-add_path.ensures.added,
-      c.path_at.ensures.next,
-    )
+loop-index-preserved g c = (
+  next_added carried_weight c.args.kind (passed_edge g.C.EdgeCount.counts c.args.passing)
+      (g.R0.IntShapeResource.paths c.args.resource.now) c.loop-index.index
+      (plain_points g.I.IntNumber.whole c.path_at.result.now) c.path_at.ensures.path
+      c.args.self.now c.loop-index.self c.loop-index.invariant.0 c.add_path.new.self c.in_ok-add_path.field-0
+      c.in_ok-add_path.ensures.added,
+  c.path_at.ensures.next,
+)
 
 pub returns-in_err-add_path : goal.returns-in_err-add_path
 returns-in_err-add_path g c =

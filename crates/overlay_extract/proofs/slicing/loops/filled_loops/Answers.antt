@@ -1,8 +1,8 @@
 -- The orbits are split into tours, and the tours cut into loops.
 use Rattle.std.proofs.lemmas.Result.{IfOk-weaker}
 use Rattle.overlay_geom.specs.Edges.{subj_of}
-use Rattle.overlay_arrange.specs.Graphs.{graph_edges}
-use Rattle.overlay_arrange.specs.Rules.{is_filled}
+use Rattle.overlay_geom.specs.Rules.{is_filled}
+use Rattle.overlay_graph.specs.Graphs.{graph_edges}
 use Rattle.overlay_extract.specs.FilledSides.{filled_sides}
 use Rattle.overlay_extract.proofs.FoundLoops.{loops_found}
 use Rattle.overlay_extract.proofs.LoopsFound.{orbits_closed, tours_long}

@@ -3,7 +3,7 @@ use Rattle.std.proofs.Common.{All, sym, ◌∙◌, subst}
 use Rattle.std.specs.List.Sorted.{IsPermutation}
 use Rattle.std.proofs.lemmas.List.Sorted.{IsPermutation-map}
 use Rattle.std.proofs.lemmas.Result.{IfOk-weaker}
-use Rattle.overlay_arrange.specs.Graphs.{graph_edges}
+use Rattle.overlay_graph.specs.Graphs.{graph_edges}
 use Rattle.overlay_extract.proofs.SidesByBits.{sides_from_vectors, sides_are_long}
 use Rattle.overlay_walk.specs.Steps.{plain_step, plain_steps, IsLong}
 use Rattle.overlay_extract.proofs.slicing.orbits.open_sides.Goals as goal

@@ -1,7 +1,7 @@
 -- The sides, in another order, are cut by the left hand.
 use Rattle.overlay_geom.specs.Edges.{subj_of}
-use Rattle.overlay_arrange.specs.Graphs.{graph_edges}
-use Rattle.overlay_arrange.specs.Rules.{is_filled}
+use Rattle.overlay_geom.specs.Rules.{is_filled}
+use Rattle.overlay_graph.specs.Graphs.{graph_edges}
 use Rattle.overlay_extract.proofs.SideOrbits.{steps_once, steps_cuttable, orbits_cut}
 use Rattle.overlay_extract.proofs.SidesByBits.{balanced_arrangement}
 use Rattle.overlay_walk.specs.Steps.{plain_steps}

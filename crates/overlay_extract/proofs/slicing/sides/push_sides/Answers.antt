@@ -1,8 +1,8 @@
 -- The next edge moves from what is to come to what stands.
 use Rattle.std.proofs.Common.{◌+◌, map, drop}
 use Rattle.overlay_geom.proofs.Mapped.{mapped_rest}
-use Rattle.overlay_arrange.specs.Vectors.{plain_vector}
-use Rattle.overlay_arrange.proofs.Appended.{next_appended}
+use Rattle.overlay_order.specs.Vectors.{plain_vector}
+use Rattle.overlay_order.proofs.Appended.{next_appended}
 use Rattle.overlay_extract.specs.SidesByBits.{sides_by_bits}
 use Rattle.overlay_walk.specs.Steps.{plain_steps}
 use Rattle.overlay_extract.proofs.slicing.sides.push_sides.Goals as goal

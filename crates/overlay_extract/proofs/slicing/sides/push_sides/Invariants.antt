@@ -1,7 +1,7 @@
 -- The steps so far and those of the edges to come make the whole.
 use Rattle.std.proofs.Common.{◌≡◌, ◌++◌, map, drop}
 use Rattle.std.specs.List.{flat_map}
-use Rattle.overlay_arrange.specs.Vectors.{plain_vector}
+use Rattle.overlay_order.specs.Vectors.{plain_vector}
 use Rattle.overlay_extract.specs.SidesByBits.{sides_by_bits}
 use Rattle.overlay_walk.specs.Steps.{plain_steps}
 use Rattle.overlay_extract.proofs.slicing.sides.push_sides.Given as goal

@@ -2,8 +2,8 @@
 use Rattle.std.proofs.Common.{true, ◌++◌, ap, ap₂, ◌∙◌}
 use Rattle.std.proofs.lemmas.List.{append_assoc}
 use Rattle.overlay_plane.specs.SelectedSteps.{step_with_left}
-use Rattle.overlay_arrange.specs.Vectors.{plain_vector}
-use Rattle.overlay_arrange.proofs.DirectionBits.{has_bit-masked}
+use Rattle.overlay_order.specs.Vectors.{plain_vector}
+use Rattle.overlay_order.proofs.DirectionBits.{has_bit-masked}
 use Rattle.overlay_extract.specs.SidesByBits.{step_if}
 use Rattle.overlay_walk.specs.Selection.{ends}
 use Rattle.overlay_walk.specs.Steps.{plain_steps}

@@ -5,7 +5,7 @@ use Rattle.overlay_geom.specs.Plane.{Step}
 use Rattle.overlay_geom.proofs.Mapped.{map-filter}
 use Rattle.overlay_plane.specs.Groups.{IsSimpleContour}
 use Rattle.overlay_plane.specs.MinimumArea.{reaches}
-use Rattle.overlay_arrange.specs.Graphs.{graph_edges}
+use Rattle.overlay_graph.specs.Graphs.{graph_edges}
 use Rattle.overlay_extract.proofs.KeptLoops.{loops_long}
 use Rattle.overlay_walk.specs.Steps.{plain_steps, IsLong}
 use Rattle.overlay_walk.specs.Walks.{plain_walks}

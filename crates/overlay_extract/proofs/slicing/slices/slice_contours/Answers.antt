@@ -1,5 +1,5 @@
 -- The kept loops can be bound.
-use Rattle.overlay_arrange.specs.Graphs.{graph_edges}
+use Rattle.overlay_graph.specs.Graphs.{graph_edges}
 use Rattle.overlay_extract.proofs.KeptLoops.{slices_can_be_bound}
 use Rattle.overlay_walk.specs.GroupedContours.{plain_contours}
 use Rattle.overlay_extract.proofs.slicing.slices.slice_contours.Goals as goal

@@ -1,6 +1,6 @@
 -- The masks test the bits of the four sides.
 use Rattle.std.proofs.Common.{◌∙◌}
-use Rattle.overlay_arrange.proofs.DirectionBits.{has_bit-masked}
+use Rattle.overlay_order.proofs.DirectionBits.{has_bit-masked}
 use Rattle.overlay_relate.specs.EdgeTests.{sides_pass}
 use Rattle.overlay_relate.proofs.edge_test.EdgeTestFillTest.passes.Goals as goal
 

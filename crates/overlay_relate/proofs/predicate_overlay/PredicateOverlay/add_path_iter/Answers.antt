@@ -1,6 +1,6 @@
 -- What is added is what the iterator gives.
 use Rattle.std.proofs.Common.{subst, false}
-use Rattle.overlay_arrange.specs.Content.{edge_for}
+use Rattle.overlay_order.specs.Content.{edge_for}
 use Rattle.overlay_geom.specs.Edges.{AddsContour, weight}
 use Rattle.overlay_geom.specs.Points.{plain_points}
 use Rattle.overlay_builder.specs.BuilderCalls.{AddsContourAsAsked}

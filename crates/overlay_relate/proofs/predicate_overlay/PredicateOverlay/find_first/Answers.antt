@@ -1,6 +1,6 @@
 -- An edge that passes the telling test answers the predicate.
 use Rattle.std.proofs.Common.{◌≡◌, true, sym, ap, subst}
-use Rattle.overlay_arrange.specs.FillTests.{some_fill_passes}
+use Rattle.overlay_graph.specs.FillTests.{some_fill_passes}
 use Rattle.overlay_relate.specs.EdgeTests.{bits_pass}
 use Rattle.overlay_relate.specs.Findings.{Tells, telling_test}
 use Rattle.overlay_relate.proofs.ToldEarly.{told_of_arranged}

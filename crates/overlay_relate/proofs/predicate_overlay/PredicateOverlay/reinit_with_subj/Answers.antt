@@ -1,6 +1,6 @@
 -- The paths are added to the cleared builder.
 use Rattle.std.proofs.Common.{subst}
-use Rattle.overlay_arrange.specs.declared.options.ShapeType.TheVariants.{Subject}
+use Rattle.overlay_geom.specs.declared.options.ShapeType.TheVariants.{Subject}
 use Rattle.overlay_relate.specs.PredicateBuilder.{PredicateBuilderAdds}
 use Rattle.overlay_builder.specs.GivenPaths.{paths_for}
 use Rattle.overlay_relate.proofs.predicate_overlay.PredicateOverlay.reinit_with_subj.Goals as goal

@@ -1,6 +1,6 @@
 -- The paths of the clip are added after those of the subject.
 use Rattle.std.proofs.lemmas.Result.{err_from_is_err_and}
-use Rattle.overlay_arrange.specs.declared.options.ShapeType.TheVariants.{Subject, Clip}
+use Rattle.overlay_geom.specs.declared.options.ShapeType.TheVariants.{Subject, Clip}
 use Rattle.overlay_builder.specs.GivenPaths.{paths_for}
 use Rattle.overlay_relate.proofs.PredicateBuilders.{first_source_refused, both_sources}
 use Rattle.overlay_relate.proofs.predicate_overlay.PredicateOverlay.reinit_with_subj_and_clip.Goals as goal

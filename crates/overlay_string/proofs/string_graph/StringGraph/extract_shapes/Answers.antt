@@ -2,8 +2,8 @@
 use Rattle.std.proofs.Common.{subst}
 use Rattle.std.proofs.lemmas.Result.{IfOk-weaker}
 use Rattle.overlay_geom.specs.Paths.{plain_shapes}
-use Rattle.overlay_arrange.specs.Graphs.{graph_edges}
-use Rattle.overlay_arrange.specs.declared.options.ContourDirection.TheVariants.{CounterClockwise}
+use Rattle.overlay_geom.specs.declared.options.ContourDirection.TheVariants.{CounterClockwise}
+use Rattle.overlay_graph.specs.Graphs.{graph_edges}
 use Rattle.overlay_extract.specs.Sliced.{IsSliced}
 use Rattle.overlay_string.proofs.string_graph.StringGraph.extract_shapes.Goals as goal
 

@@ -2,8 +2,8 @@
 use Rattle.std.proofs.Common.{◌^◌, ◌<◌, OnOk, sym, subst}
 use Rattle.overlay_geom.specs.Counts.{weight_of_counts}
 use Rattle.overlay_geom.specs.Points.{plain_point}
-use Rattle.overlay_arrange.specs.Counts.{boolean_counts}
-use Rattle.overlay_arrange.specs.EdgeData.{IsReversed}
+use Rattle.overlay_order.specs.Counts.{boolean_counts}
+use Rattle.overlay_order.specs.EdgeData.{IsReversed}
 use Rattle.overlay_builder.specs.AddedSteps.{AddsStep, LeavesStore, StepWeighsTooMuch}
 use Rattle.overlay_builder.specs.BuilderCalls.{AddsOneAsAsked}
 use Rattle.overlay_builder.specs.PathLists.{carried_weight}

@@ -2,8 +2,8 @@
 use Rattle.std.proofs.Common.{map, sym, ap, ◌∙◌}
 use Rattle.std.proofs.lemmas.Simd.{map-map}
 use Rattle.overlay_geom.specs.Points.{plain_points}
-use Rattle.overlay_arrange.specs.Content.{carried_edge}
-use Rattle.overlay_arrange.specs.Counts.{boolean_counts}
+use Rattle.overlay_order.specs.Content.{carried_edge}
+use Rattle.overlay_order.specs.Counts.{boolean_counts}
 use Rattle.overlay_vector.specs.HeldEdges.{ends_held, ends_of_held}
 use Rattle.overlay_vector.proofs.edge_overlay.EdgeOverlay.edges.Goals as goal
 

@@ -2,7 +2,7 @@
 use Rattle.std.proofs.Common.{sym, subst}
 use Rattle.overlay_geom.specs.Settled.{IsSettled}
 use Rattle.overlay_plane.specs.Carried.{edges_in}
-use Rattle.overlay_arrange.specs.Content.{IsAscending}
+use Rattle.overlay_order.specs.Content.{IsAscending}
 use Rattle.overlay_vector.proofs.edge_overlay.EdgeOverlay.list.Goals as goal
 
 pub graph-requires-clause-ascending : goal.graph-requires-clause-ascending

@@ -1,7 +1,7 @@
 -- The masks test the bits of the four sides.
 use Rattle.std.proofs.Common.{◌+◌, ap, ap₂, ◌∙◌}
-use Rattle.overlay_arrange.specs.Rules.{bit}
-use Rattle.overlay_arrange.proofs.DirectionBits.{has_bit-masked}
+use Rattle.overlay_geom.specs.Rules.{bit}
+use Rattle.overlay_order.proofs.DirectionBits.{has_bit-masked}
 use Rattle.overlay_vector.proofs.side_fill.SideFillReverse.reverse.Goals as goal
 
 pub returns : goal.returns

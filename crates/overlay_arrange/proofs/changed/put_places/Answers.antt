@@ -1,6 +1,0 @@
--- One more number is put.
-use Rattle.overlay_arrange.proofs.PutPlaces.{none_put}
-use Rattle.overlay_arrange.proofs.changed.put_places.Goals as goal
-
-pub loop-n-init : goal.loop-n-init
-loop-n-init g c = none_put c.args.places.now c.args.near.now.items

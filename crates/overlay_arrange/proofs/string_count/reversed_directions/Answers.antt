@@ -1,6 +1,0 @@
--- The two bits change places.
-use Rattle.overlay_arrange.proofs.DirectionBits.{reversed-by_shifts}
-use Rattle.overlay_arrange.proofs.string_count.reversed_directions.Goals as goal
-
-pub returns : goal.returns
-returns c = reversed-by_shifts c.args.directions

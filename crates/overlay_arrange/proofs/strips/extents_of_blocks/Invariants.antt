@@ -1,8 +1,0 @@
--- The blocks so far cover the boxes so far.
-use Rattle.overlay_arrange.specs.Extents.{plain_extents}
-use Rattle.overlay_arrange.proofs.ExtentBlocks.{AreBlocksUpTo}
-use Rattle.overlay_arrange.proofs.strips.extents_of_blocks.Given as goal
-
-abbrev pub invariant-loop-i : goal.invariant-loop-i
-invariant-loop-i g l = AreBlocksUpTo (plain_extents g.I.IntNumber.whole l.extents)
-    (plain_extents g.I.IntNumber.whole l.blocks.items) l.i

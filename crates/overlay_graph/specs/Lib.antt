@@ -1,0 +1,4 @@
+pub mod Ends
+pub mod FillTests
+pub mod Graphs
+pub mod Starts

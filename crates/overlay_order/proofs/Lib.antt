@@ -1,0 +1,6 @@
+pub mod Appended
+pub mod CarriedEdges
+pub mod DirectionBits
+pub mod MovedBack
+pub mod RuledContents
+pub mod TakenItems

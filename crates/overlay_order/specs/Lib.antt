@@ -1,0 +1,7 @@
+pub mod Content
+pub mod Counts
+pub mod EdgeData
+pub mod Gathered
+pub mod Neighbours
+pub mod Paths
+pub mod Vectors

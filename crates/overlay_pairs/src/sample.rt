@@ -1,0 +1,73 @@
+//! A sample of edges, which tells whether bundles serve the search for the edges that an edge may meet.
+
+ghost use Rattle.std.specs.Prelude.{◌<◌, All, length};
+ghost use Rattle.overlay_order.specs.Content.{plain_edge, plain_edges, IsAscending, IsHeld};
+ghost use Rattle.overlay_pairs.specs.Strips.{AreHeldStripsOf};
+
+use crate::near::find_by_strips;
+use crate::settle::meet_in_ends;
+use crate::strips::Strips;
+use overlay_geom::number::IntNumber;
+use overlay_order::count::EdgeCount;
+use overlay_order::edge::CountedEdge;
+use std::alloc::{AllocError, Allocator};
+
+// Number of edges from which on bundles may be made, of edges in a sample, and of those that are many for such an edge.
+const MANY: usize = 4096;
+
+const SAMPLE: usize = 16;
+
+const FOUND: usize = 64;
+// The edges of a sample lie 1 more than a multiple of this apart. So edges of all kinds are in it where each few edges
+// repeat the kinds.
+const PERIOD: usize = 30;
+
+/// Returns whether a quarter of the edges of a sample, or more, find many edges by their boxes and meet few of them
+/// elsewhere than in ends. It only serves as an estimate. Short lists are not tried.
+pub(crate) fn misses_many<I: IntNumber, C: EdgeCount, A: Allocator>(
+    alloc: A,
+    edges: &[CountedEdge<I, C>],
+    strips: &Strips<I, A>,
+) -> Result<bool, AllocError>
+    requires held { All (IsHeld I.limit) (plain_edges I.whole C.counts edges.now) }
+    requires ascending { IsAscending (plain_edges I.whole C.counts edges.now) }
+    requires strips { AreHeldStripsOf I.whole I.limit (plain_edges I.whole C.counts edges.now) strips.now }
+{
+    if edges.len() < MANY {
+        return Ok(false);
+    }
+    let distance = edges.len() / SAMPLE / PERIOD * PERIOD + 1;
+    let mut near = Vec::new(alloc);
+    let mut count: usize = 0;
+    for k in 0..SAMPLE {
+        let i = k.saturating_mul(distance);
+        if i < edges.len() {
+            let e = &edges[i];
+            near.clear();
+            find_by_strips(&mut near, edges, strips, e, i + 1)?;
+            if near.len() >= FOUND && count_met(edges, e, &near) < near.len() / 4 {
+                count = count.saturating_add(1);
+            }
+        }
+    }
+    Ok(count >= SAMPLE / 4)
+}
+
+/// Returns how many of the edges at the places e meets elsewhere than in ends.
+fn count_met<I: IntNumber, C: EdgeCount>(
+    edges: &[CountedEdge<I, C>],
+    e: &CountedEdge<I, C>,
+    places: &[usize],
+) -> usize
+    requires held { All (IsHeld I.limit) (plain_edges I.whole C.counts edges.now) }
+    requires one { IsHeld I.limit (plain_edge I.whole C.counts e.now) }
+    requires within { All (λ j. j < length edges.now) places.now }
+{
+    let mut count: usize = 0;
+    for place in places {
+        if !meet_in_ends(e, &edges[*place]) {
+            count = count.saturating_add(1);
+        }
+    }
+    count
+}
