@@ -30,10 +30,17 @@ def environment(is_unbuffered):
     return {**os.environ, "PYTHONPATH": MODULE, "PYTHONUNBUFFERED": is_unbuffered}
 
 
-def begun(words, is_unbuffered="", **how):
-    """A command that has begun."""
+def begun(words, is_unbuffered="", preexec_fn=None, **how):
+    """A command that has begun. It heeds Ctrl-C, which a shell keeps from what runs in its background."""
+
+    def prepare():
+        signal.signal(signal.SIGINT, signal.SIG_DFL)
+        if preexec_fn:
+            preexec_fn()
+
     words = [sys.executable, "-m", "polyover", *map(str, words)]
-    return subprocess.Popen(words, env=environment(is_unbuffered), stderr=subprocess.PIPE, **how)
+    how = {"stderr": subprocess.PIPE, **how}
+    return subprocess.Popen(words, env=environment(is_unbuffered), preexec_fn=prepare, **how)
 
 
 def ended(command, given=None):

@@ -51,7 +51,7 @@ use overlay_walk::contour_cut::cut_into_contours;
 use overlay_walk::groups::cut_in_groups;
 use overlay_walk::hand::HandRule;
 use overlay_walk::kept_contours::{kept_contours, kept_contours_of};
-use overlay_walk::open_steps::OpenSteps;
+use overlay_walk::open_steps::{OpenSteps, sort_steps};
 use overlay_walk::points_once::has_each_point_once;
 use overlay_walk::selected_steps::push_selected;
 use overlay_walk::selected_walks::{
@@ -129,6 +129,18 @@ fn steps<'m, I: Width>(graph: &Plain<'m, I>) -> Answer<Vec<Step<I>, Memory<'m>>>
     let mut steps = Vec::new(*graph.allocator());
     push_selected(&mut steps, graph.edges(), SUBJECT, DIRECTION)?;
     Ok(steps)
+}
+
+// All selected steps, 40 times one behind the other.
+fn many_steps<'m, I: Width>(graph: &Plain<'m, I>) -> Answer<Vec<Step<I>, Memory<'m>>> {
+    let all = steps(graph)?;
+    let mut many = Vec::new(*graph.allocator());
+    for _ in 0..40 {
+        for step in &all {
+            many.push(*step)?;
+        }
+    }
+    Ok(many)
 }
 
 // How many walks, or contours, of all selected steps a function gives.
@@ -209,6 +221,12 @@ fn check_walks<I: Width>(trial: &Trial<'_, impl Abort>) -> Result<(), Fail> {
     })?;
     assert!(trial.rt; walks.len() == 4);
     check_groups::<I>(trial, &graph)?;
+    trial.refuse_each(
+        "overlay_walk::sort_steps",
+        || many_steps(&graph),
+        |it| sort_steps(it),
+        |it| Ok(it.len() == 640),
+    )?;
     let new = || {
         let mut buffer = BooleanExtractionBuffer::default(memory);
         Ok(Some(selected_walks(&graph, SUBJECT, DIRECTION, &mut buffer)?))

@@ -14,7 +14,7 @@ pub fn one_adding()
     ensures { OneAdding }
 {}
 
-/// Paths that snap rounding arranges in one call are refused in another only where memory is: no path weighs too much,
+/// Paths that snap rounding arranges in one call are refused in another only where memory is. No path weighs too much,
 /// and neither do their pieces.
 pub fn memory_alone_refuses()
     ensures { ArrangedPathsAreRefusedByMemoryAlone }

@@ -2,8 +2,8 @@
 
 ghost use Rattle.overlay_relate.specs.Laws.{InsideOffEdges};
 
-/// On none of the edges a point is inside exactly where its location is `Inside`: of a shape, so of
-/// a contour, and of several shapes.
+/// A point on none of the edges is inside exactly where its location is `Inside`. This holds of a contour, of a shape,
+/// and of several shapes.
 pub fn inside_off_edges()
     ensures { InsideOffEdges }
 {}

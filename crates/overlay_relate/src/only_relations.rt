@@ -4,8 +4,8 @@ ghost use Rattle.overlay_relate.specs.Determined.{OneLocationBy, OneLocationIn, 
 ghost use Rattle.overlay_relate.specs.Determined.{OneAnswerOfRelations, OneAnswerOfPredicate, OneAnswerOfDisjoint};
 ghost use Rattle.overlay_relate.specs.Determined.{OneListOfInsides};
 
-/// Two lists of locations of the same points, in one shape or among the same shapes, are equal; so are two locations
-/// of a point in the shape of one arrangement, and two by the same edges.
+/// Two lists of locations of the same points, in one shape or among the same shapes, are equal. So are two locations of
+/// a point in the shape of one arrangement, and two by the same edges.
 pub fn one_location()
     ensures shape { OneLocationIn }
     ensures shapes { OneLocationAmong }

@@ -40,14 +40,14 @@ pub fn covers_is_within_exchanged()
     ensures { CoversIsWithinExchanged }
 {}
 
-/// What holds of subject and clip in an arrangement of what paths give holds of clip and subject in one of what the
-/// exchanged paths give, in any order of the two.
+/// An arrangement of the edges of paths, with subject and clip exchanged in each count, is one of the paths with the
+/// two exchanged. An arrangement is also one of the paths in another order.
 pub fn exchanging_keeps_arrangements()
     ensures { ExchangingKeepsArrangements }
 {}
 
-/// The interiors intersect exactly where the region of `Intersect` has a point off the edges, and the
-/// subject lies within the clip exactly where that of `Subject` has one and that of `Difference` none.
+/// The interiors intersect exactly where the region of `Intersect` has a point off the edges. The subject lies within
+/// the clip exactly where the region of `Subject` has such a point and that of `Difference` has none.
 pub fn regions_tell_predicates()
     ensures { RegionsTellPredicates }
 {}

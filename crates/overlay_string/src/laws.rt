@@ -7,8 +7,8 @@ pub fn paths_take_each_piece_once()
     ensures { PathsTakeEachPieceOnce }
 {}
 
-/// The paths of a clip inside the shape, those of an inverted clip outside it, both without the boundary, and the
-/// pieces on the boundary take together each piece of the strings once.
+/// Take the paths of a clip inside the shape, those of an inverted clip, both without the boundary, and the pieces on
+/// it. Together they have each piece of the strings once.
 pub fn each_piece_is_clipped_once()
     ensures { EachPieceIsClippedOnce }
 {}

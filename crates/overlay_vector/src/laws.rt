@@ -7,8 +7,8 @@ ghost use Rattle.overlay_vector.specs.SideFills.{TurningTwiceKeepsFills};
 
 use overlay_order::data::OverlayEdgeData;
 
-/// Each joined edge leads as a run of neighbours does, whose filled sides are its own, and whose data equals its own;
-/// the runs, one behind another, are the whole contour.
+/// Each joined edge leads as a run of neighbours does, and has the filled sides of each. Its data equals that of each.
+/// The runs, one behind another, are the whole contour.
 pub fn joined_edges_stand_for_theirs<D: OverlayEdgeData>()
     ensures { JoinedEdgesStandForTheirs D.eq }
 {}
@@ -18,8 +18,8 @@ pub fn reversed_twice_keeps_four_bits()
     ensures { TurningTwiceKeepsFills }
 {}
 
-/// Over the edges of an arrangement two answers as shapes of edges with data, asked for alike, show one list of shapes,
-/// each step with its filled sides and data; and where edges stay, and data has one way back, they are equal.
+/// Two answers as shapes of edges with data, asked for alike over one arrangement, show one list of shapes. Each step
+/// has its filled sides and data. Where edges stay, and data has one way back, the answers are equal.
 pub fn one_list_of_vector_shapes<D: OverlayEdgeData>()
     ensures shown { VectorShapesShowOneList D.reverses D.eq }
     ensures kept { OneListOfVectorShapes D.reverses D.eq }

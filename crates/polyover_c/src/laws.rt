@@ -5,13 +5,14 @@ ghost use Rattle.polyover_c.specs.PreparedLaws.{AskingsAreOne, BareCanBeAsked};
 
 use overlay_geom::number::IntNumber;
 
-/// No call that splits edges by snap rounding, with the number 0 for its solver, ends with `NotSettled`, the code 8.
+/// No call that splits edges by snap rounding, with the number 0 for its solver, ends with `NotSettled`, the code 8. No
+/// other status has that code.
 pub fn snapped_never_unsettled()
     ensures { SnappedNeverUnsettled }
 {}
 
-/// Two answers where the same points lie in a prepared shape are equal, and so are their statuses: of equal edges, or
-/// of edges that bound the shape of one arrangement.
+/// Two answers of `polyover_prepared_locate` for equal points and places are equal, and so are their statuses. So it is
+/// of one prepared shape, and of two whose edges bound the shape of one arrangement.
 pub fn one_asking<I: IntNumber>()
     ensures { AskingsAreOne I.whole I.limit }
 {}

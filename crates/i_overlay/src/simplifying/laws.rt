@@ -3,8 +3,8 @@
 ghost use Rattle.i_overlay.specs.Laws.{SimpleContoursWindOnce};
 ghost use Rattle.i_overlay.specs.OneOutcome.{OneOutcome};
 
-/// What is left of a simple contour winds exactly once, in the output direction, round each point that the
-/// fill rule fills, and zero times round any other: it meets the overlay theorem for the subject.
+/// What is left of a simple contour meets the overlay theorem for the subject. It winds exactly once, in the output
+/// direction, round each point that the fill rule fills. Round any other it winds zero times.
 pub fn simple_contours_wind_once()
     ensures { SimpleContoursWindOnce }
 {}
