@@ -9,7 +9,7 @@ use std::alloc::Global;
 use std::process::Abort;
 use std::test::Fail;
 
-// Number of edges beside each other. From 4,096 on bundles may be made.
+// Number of edges beside each other. From 480 on bundles may be made.
 const COUNT: i32 = 5000;
 
 // The edges from (0, 4k) to (0, 4k + 1) and to (20, 4k + 4000), and one from (10, 0) to (10, 4 COUNT + 4000), which

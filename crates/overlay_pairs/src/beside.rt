@@ -21,6 +21,8 @@ use std::alloc::{AllocError, Allocator};
 
 // Number of boxes that are tested one by one at a time.
 const BLOCK: usize = 8;
+// Size of bundles from which on the box of each is tested. Of smaller bundles only large boxes are tested.
+const BOXED: usize = 64;
 
 /// Finds the places of the edges whose boxes do not lie apart from `of`, without those in bundles that the edge e
 /// misses.
@@ -120,13 +122,14 @@ fn begins_beside<I: IntNumber, C: EdgeCount>(
     ensures { IsTrue result → BeginsBeside (plain_bundles I.whole bundles.now) size
         (plain_edge I.whole C.counts e.now) (plain_extent I.whole of) at }
 {
-    at % size == 0 && lies_beside(&bundles[at / size], e, of)
+    at % size == 0 && lies_beside(&bundles[at / size], size, e, of)
 }
 
-/// Returns whether the bundle lies apart from `of`, both ends of e lie beyond one of its lines, or its box lies beside
-/// the line of e.
+/// Returns whether the bundle of `size` edges lies apart from `of`, both ends of e lie beyond one of its lines, or its
+/// box lies beside the line of e.
 fn lies_beside<I: IntNumber, C: EdgeCount>(
     bundle: &Bundle<I>,
+    size: usize,
     e: &CountedEdge<I, C>,
     of: Extent<I>,
 ) -> bool
@@ -137,7 +140,7 @@ fn lies_beside<I: IntNumber, C: EdgeCount>(
 {
     is_apart(of, bundle.extent)
         || is_beyond_line(bundle, e)
-        || bundle.is_large && is_box_beside(bundle, e)
+        || (bundle.is_large || BOXED <= size) && is_box_beside(bundle, e)
 }
 
 /// Returns whether both ends of e lie beyond one of the bundle's lines.

@@ -33,7 +33,7 @@ pub struct Bundle<I> {
     pub east: I,
     /// The size of the longest edge, in x or in y.
     pub longest: u64,
-    /// Whether the box is much larger than the longest edge. A search tests such boxes too.
+    /// Whether the box is much larger than the longest edge. A search tests such boxes in bundles of each size.
     pub is_large: bool,
     /// An edge in the direction of both lines.
     pub along: IntEdge<I>,

@@ -7,23 +7,24 @@ ghost use Rattle.overlay_pairs.specs.Strips.{AreHeldStripsOf};
 use crate::near::find_by_strips;
 use crate::settle::meet_in_ends;
 use crate::strips::Strips;
+use overlay_geom::edge_pair::is_same;
 use overlay_geom::number::IntNumber;
 use overlay_order::count::EdgeCount;
 use overlay_order::edge::CountedEdge;
 use std::alloc::{AllocError, Allocator};
 
 // Number of edges from which on bundles may be made, of edges in a sample, and of those that are many for such an edge.
-const MANY: usize = 4096;
+const MANY: usize = 480;
 
 const SAMPLE: usize = 16;
 
-const FOUND: usize = 64;
+const FOUND: usize = 128;
 // The edges of a sample lie 1 more than a multiple of this apart. So edges of all kinds are in it where each few edges
 // repeat the kinds.
 const PERIOD: usize = 30;
 
-/// Returns whether a quarter of the edges of a sample, or more, find many edges by their boxes and meet few of them
-/// elsewhere than in ends. It only serves as an estimate. Short lists are not tried.
+/// Returns whether a quarter of the edges of a sample, or more, find many edges by their boxes and meet few of them.
+/// It only serves as an estimate. Short lists are not tried.
 pub(crate) fn misses_many<I: IntNumber, C: EdgeCount, A: Allocator>(
     alloc: A,
     edges: &[CountedEdge<I, C>],
@@ -53,7 +54,7 @@ pub(crate) fn misses_many<I: IntNumber, C: EdgeCount, A: Allocator>(
     Ok(count >= SAMPLE / 4)
 }
 
-/// Returns how many of the edges at the places e meets elsewhere than in ends.
+/// Returns how many of the edges at the places e meets. Bundles with such edges do not lie beside e.
 fn count_met<I: IntNumber, C: EdgeCount>(
     edges: &[CountedEdge<I, C>],
     e: &CountedEdge<I, C>,
@@ -65,9 +66,15 @@ fn count_met<I: IntNumber, C: EdgeCount>(
 {
     let mut count: usize = 0;
     for place in places {
-        if !meet_in_ends(e, &edges[*place]) {
+        let f = &edges[*place];
+        if shares_end(e, f) || !meet_in_ends(e, f) {
             count = count.saturating_add(1);
         }
     }
     count
+}
+
+// Returns whether the two edges share an end.
+fn shares_end<I: IntNumber, C: EdgeCount>(e: &CountedEdge<I, C>, f: &CountedEdge<I, C>) -> bool {
+    is_same(e.a, f.a) || is_same(e.a, f.b) || is_same(e.b, f.a) || is_same(e.b, f.b)
 }

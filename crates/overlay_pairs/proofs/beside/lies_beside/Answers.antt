@@ -1,0 +1,6 @@
+-- The bundle's box lies beside the line of the edge.
+use Rattle.std.proofs.Common.{inr}
+use Rattle.overlay_pairs.proofs.beside.lies_beside.Goals as goal
+
+pub returns-then-size-ge-BOXED : goal.returns-then-size-ge-BOXED
+returns-then-size-ge-BOXED g c = λ yes. inr (inr (c.is_box_beside.ensures yes))
