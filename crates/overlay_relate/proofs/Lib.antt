@@ -10,6 +10,8 @@ pub mod BoundingBits
 pub mod ByEdge
 pub mod ByStart
 pub mod ClearEdges
+pub mod ClosedRegions
+pub mod Closures
 pub mod CountedBelow
 pub mod CoversByEdges
 pub mod ExchangedMeetings
@@ -19,13 +21,17 @@ pub mod ExchangedRounds
 pub mod ExchangedShapes
 pub mod ExchangedSnaps
 pub mod Forms
+pub mod GivenClosures
 pub mod GivenRelations
 pub mod Highest
+pub mod InsideNear
 pub mod Insides
 pub mod JoinedParts
 pub mod JoinedRuns
 pub mod KeptFindings
+pub mod LeftWalls
 pub mod Located
+pub mod NearPoints
 pub mod NextEdge
 pub mod NextEnds
 pub mod OnEdges
@@ -33,6 +39,7 @@ pub mod OneLocation
 pub mod OneTruth
 pub mod OnWalls
 pub mod Parities
+pub mod PathClosures
 pub mod PathRelations
 pub mod PredicateBuilders
 pub mod PredicatesTogether
@@ -42,6 +49,7 @@ pub mod QueryAtHand
 pub mod RunsOver
 pub mod SharedBorders
 pub mod SortedEdges
+pub mod SteepPoints
 pub mod Swept
 pub mod SweptPoints
 pub mod Told

@@ -21,15 +21,16 @@ use Rattle.overlay_builder.proofs.PathWindings.{contents_wind_as_paths, far_from
 use Rattle.overlay_relate.specs.GivenRelations.{TellsOfGivenInteriors, TellsOfGivenWithin}
 use Rattle.overlay_relate.specs.PathRelations.{PathInteriorsIntersect, PathLiesWithin, TellsOfPathInteriors}
 use Rattle.overlay_relate.specs.PathRelations.{TellsOfPathWithin, ArrangementsTellOfPaths}
-use Rattle.overlay_relate.proofs.GivenRelations.{answer_of, tells_of_given_interiors, tells_of_given_within}
+use Rattle.overlay_relate.proofs.GivenClosures.{answer_of}
+use Rattle.overlay_relate.proofs.GivenRelations.{tells_of_given_interiors, tells_of_given_within}
 use Rattle.overlay_relate.proofs.GivenRelations.{tells_of_given_covers}
 
 -- ---- the edges of all steps of the paths
 
-abbrev path_edges : GivenPath → List CountedEdge
+abbrev pub path_edges : GivenPath → List CountedEdge
 path_edges path = map subject_edge (steps_of path.points)
 
-abbrev edges_of_paths : List GivenPath → List CountedEdge
+abbrev pub edges_of_paths : List GivenPath → List CountedEdge
 edges_of_paths paths = flat_map path_edges paths
 
 -- a point of a step is on its edge
@@ -41,7 +42,7 @@ on_edge_of s q on = by (is_forward s)
     by false = on_turned (record { a = s.from; b = s.to }) q on
 
 -- a point off these edges is off the paths
-off_paths : (paths : List GivenPath) (p : PlanePoint) → IsOff (all_ends (edges_of_paths paths)) p →
+pub off_paths : (paths : List GivenPath) (p : PlanePoint) → IsOff (all_ends (edges_of_paths paths)) p →
     IsFarFromPaths 0 paths p
 off_paths paths p off = all_of_entries (IsFarFromPath 0 p) paths (λ path c.
     all_of_entries (λ s. (q : PlanePoint) → IsOnStep s q → ¬ (AreWithinHalves 0 q p)) (steps_of path.points)
@@ -55,13 +56,13 @@ off_paths paths p off = all_of_entries (IsFarFromPath 0 p) paths (λ path c.
 
 module _ (keep : Bool) (paths : List GivenPath) (content : List CountedEdge)
     (holds : HoldsPaths (added_paths keep paths) content) (filled : ℤ → Bool) where
-  winds : (p : PlanePoint) → HeldPathsWind paths content p
+  pub winds : (p : PlanePoint) → HeldPathsWind paths content p
   winds p = contents_wind_as_paths keep paths content holds p
 
-  far : (k : ℕ) (p : PlanePoint) → IsFarFromPaths k paths p → IsFarFrom k content p
+  pub far : (k : ℕ) (p : PlanePoint) → IsFarFromPaths k paths p → IsFarFrom k content p
   far k p h = far_from_paths_is_far keep paths content holds k p h
 
-  off : (p : PlanePoint) → IsFarFromPaths 0 paths p → IsOff (all_ends content) p
+  pub off : (p : PlanePoint) → IsFarFromPaths 0 paths p → IsOff (all_ends content) p
   off p h = (off_is_far_by_nothing content p).1 (far 0 p h)
 
   -- near a point off the edges held there is one off the paths
@@ -71,7 +72,7 @@ module _ (keep : Bool) (paths : List GivenPath) (content : List CountedEdge)
   off_near : (p : PlanePoint) (h : IsOff (all_ends content) p) → IsFarFromPaths 0 paths (near p h).near
   off_near p h = off_paths paths (near p h).near (near p h).off_more
 
-  interiors : PathInteriorsIntersect filled paths ↔ InteriorsIntersect filled content
+  pub interiors : PathInteriorsIntersect filled paths ↔ InteriorsIntersect filled content
   interiors = (
     λ (p, h, s, c). (p, off p h, ap filled (winds p).subj ∙ s, ap filled (winds p).clip ∙ c),
     λ (p, h, s, c). (

@@ -2,6 +2,7 @@ pub mod Answers
 pub mod Blocks
 pub mod Boundaries
 pub mod Bounded
+pub mod Closures
 pub mod Determined
 pub mod EdgeTests
 pub mod Exchanged

@@ -1,9 +1,10 @@
 //! How the predicates of one arrangement hang together, and what they have to do with overlays and with the contours
 //! as added.
 
+ghost use Rattle.overlay_relate.specs.Closures.{ClosuresAreClosedRegions};
 ghost use Rattle.overlay_relate.specs.Exchanged.{ExchangingKeepsArrangements};
 ghost use Rattle.overlay_relate.specs.GivenRelations.{QueriesTellOfGivenEdges};
-ghost use Rattle.overlay_relate.specs.PathRelations.{ArrangementsTellOfPaths};
+ghost use Rattle.overlay_relate.specs.PathRelations.{ArrangementsTellOfPaths, ArrangementsTellOfPathClosures};
 ghost use Rattle.overlay_relate.specs.PredicateLaws.{TouchesIsIntersectsAlone, PointIntersectsTouches};
 ghost use Rattle.overlay_relate.specs.PredicateLaws.{WithinInteriorsIntersect, EmptyIsWithinNothing};
 ghost use Rattle.overlay_relate.specs.PredicateLaws.{DisjointIsNoIntersection, CoversIsWithinExchanged};
@@ -57,9 +58,15 @@ pub fn nothing_holds_without_edges()
     ensures { NothingHoldsWithoutEdges }
 {}
 
-/// Answers about interiors, within and covers are those of the edges as given, where these meet only in whole points or
-/// overlap. For any edges they tell of the points more than k/2 away from all of them, in x or in y: where a round of
-/// snap rounding moves some point k is 1, and else the number of rounds that move some.
+/// In an arrangement the closure of a shape's interior is its closed region. So shapes intersect, touch, meet in single
+/// points or are disjoint exactly where the closures of their interiors do.
+pub fn closures_are_closed_regions()
+    ensures { ClosuresAreClosedRegions }
+{}
+
+/// Answers about relations are those of the edges as given, where these meet only in whole points or overlap. For any
+/// edges they tell of the points more than k/2 away from all of them, in x or in y: where a round of snap rounding
+/// moves some point k is 1, and else the number of rounds that move some.
 pub fn queries_tell_of_given_edges()
     ensures { QueriesTellOfGivenEdges }
 {}
@@ -67,5 +74,6 @@ pub fn queries_tell_of_given_edges()
 /// Where the edges are those of closed paths, with points on one line kept or dropped, the answers tell so of the paths
 /// themselves: of a new builder, and of one call about two resources.
 pub fn arrangements_tell_of_paths()
-    ensures { ArrangementsTellOfPaths }
+    ensures interiors { ArrangementsTellOfPaths }
+    ensures closures { ArrangementsTellOfPathClosures }
 {}
