@@ -2,6 +2,7 @@ pub mod AddedAlone
 pub mod Builders
 pub mod ClosedPoints
 pub mod DirectionRead
+pub mod FarPaths
 pub mod GivenRegions
 pub mod HeldAlone
 pub mod LeastPoints

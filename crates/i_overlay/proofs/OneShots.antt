@@ -1,11 +1,11 @@
 -- What a new builder, to which paths were added, answers of the paths.
-use Rattle.std.proofs.Common.{◌≡◌, inl, ℕ, Bool, false, cond, pos, List, map, ap₂, subst, ◌∙◌}
+use Rattle.std.proofs.Common.{◌≡◌, inl, ℕ, Bool, false, List, map, ap₂, subst, ◌∙◌}
 use Rattle.std.specs.Prelude.{Result, Ok, Err, IfOk, IfErr, OnOk}
 use Rattle.std.specs.Int.{Width}
 use Rattle.overlay_geom.specs.declared.error.OverlayError.{OverlayError}
 use Rattle.overlay_geom.specs.declared.error.OverlayError.TheVariants.{Memory, NotSettled, TooManyEdges, Failed}
 use Rattle.overlay_geom.specs.Edges.{CountedEdge}
-use Rattle.overlay_geom.specs.Plane.{Point, Step}
+use Rattle.overlay_geom.specs.Plane.{Point}
 use Rattle.overlay_geom.specs.declared.solver.Solver.{Solver}
 use Rattle.overlay_geom.specs.Options.{AreOptions}
 use Rattle.overlay_geom.specs.declared.fill_rule.FillRule.{FillRule}
@@ -17,17 +17,15 @@ use Rattle.overlay_order.specs.Vectors.{Vector, vector_of}
 use Rattle.overlay_arrange.specs.Arranged.{IsArranged}
 use Rattle.overlay_builder.specs.Held.{Held, AnswersQuery}
 use Rattle.i_overlay.specs.OneShot.{asked_by_default, IsResultOfPaths, IsHierarchyOfPaths, AreEdgesOfPaths}
-use Rattle.i_overlay.specs.OneShot.{MayRefusePaths, WindsRoundFarPaths}
+use Rattle.i_overlay.specs.OneShot.{MayRefusePaths}
 use Rattle.overlay_extract.specs.PlacedResults.{IsHierarchy}
-use Rattle.overlay_extract.specs.Results.{Asked, asked, region_asked, filled_asked, IsResult, WindsRoundRegion}
-use Rattle.overlay_plane.proofs.FarPoints.{far_points_wind_as_wanted}
-use Rattle.overlay_plane.specs.ContourWindings.{once_round}
+use Rattle.overlay_extract.specs.Results.{Asked, asked, IsResult}
 use Rattle.overlay_plane.specs.Islands.{ChildLink}
 use Rattle.overlay_plane.specs.ShapeWindings.{steps_of_shapes}
 use Rattle.overlay_builder.specs.GivenPaths.{GivenPath, added_paths}
 use Rattle.overlay_builder.specs.PathLists.{HoldsPaths, MayRefuseBuilder}
-use Rattle.overlay_builder.proofs.PathWindings.{contents_wind_as_paths, far_from_paths_is_far}
 use Rattle.i_overlay.proofs.AddedAlone.{query_refused as refused_alone}
+use Rattle.i_overlay.proofs.FarPaths.{winds_of_paths}
 
 -- what the default options ask for
 pub asked_of_default : {U : Type 0} (area_width : Width) (natural : U → ℕ) (fill : FillRule) (rule : OverlayRule)
@@ -49,17 +47,6 @@ asked_of_default area_width natural fill rule o are =
       area_width = area_width;
     }
 
--- contours that wind as asked off an arrangement of the edges of paths wind as asked of the paths, far from these
-winds_of_paths : (solver : Solver) (q : Asked) (paths : List GivenPath) (content edges : List CountedEdge)
-    (holds : HoldsPaths (added_paths false paths) content) (arranged : IsArranged solver content edges)
-    (steps : List Step) → (q.min_output_area ≡ 0 → WindsRoundRegion q edges steps) → q.min_output_area ≡ 0 →
-    WindsRoundFarPaths arranged.moving q paths steps
-winds_of_paths solver q paths content edges holds arranged steps winds zero p far =
-    let held = contents_wind_as_paths false paths content holds p in
-    far_points_wind_as_wanted (region_asked q) (filled_asked q) arranged.moving content edges steps arranged.far
-    (winds zero) p (far_from_paths_is_far false paths content holds arranged.moving p far)
-    ∙ ap₂ (λ s c. cond (region_asked q s c) (once_round (filled_asked q)) (pos 0)) held.subj held.clip
-
 -- the result over an arrangement of these edges is one of the paths
 pub result_over_paths : (solver : Solver) (q : Asked) (paths : List GivenPath) (content edges : List CountedEdge)
     (shapes : List (List (List Point))) → HoldsPaths (added_paths false paths) content →
@@ -70,7 +57,8 @@ result_over_paths solver q paths content edges shapes holds arranged is = record
   holds = holds;
   arranged = arranged;
   is_result = is;
-  winds = winds_of_paths solver q paths content edges holds arranged (steps_of_shapes shapes) is.winds;
+  winds = λ zero. winds_of_paths false solver paths q content edges holds arranged (steps_of_shapes shapes)
+      (is.winds zero);
 }
 
 -- so are its shapes and their links
@@ -83,7 +71,8 @@ hierarchy_over_paths solver q paths content edges shapes links holds arranged is
   holds = holds;
   arranged = arranged;
   is_hierarchy = is;
-  winds = winds_of_paths solver q paths content edges holds arranged (steps_of_shapes shapes) is.is_result.winds;
+  winds = λ zero. winds_of_paths false solver paths q content edges holds arranged (steps_of_shapes shapes)
+      (is.is_result.winds zero);
 }
 
 -- the result of a query on a content that the paths give is one of the paths

@@ -1,6 +1,7 @@
 -- What a builder answers that drops what it held, and holds paths of the subject alone, brought into an arrangement.
-use Rattle.std.specs.Prelude.{◌≡◌, ◌⊎◌, ℕ, Bool, true, false, List, Result, IfErr, OnOk}
-use Rattle.overlay_geom.specs.Edges.{CountedEdge}
+use Rattle.std.specs.Prelude.{◌≡◌, ◌⊎◌, ℕ, Bool, true, false, List, map, Result, IfErr, OnOk}
+use Rattle.overlay_geom.specs.Edges.{CountedEdge, ends_of}
+use Rattle.overlay_geom.specs.Plane.{PlanePoint, IsOff}
 use Rattle.overlay_geom.specs.declared.error.OverlayError.{OverlayError}
 use Rattle.overlay_geom.specs.declared.error.OverlayError.TheVariants.{Memory, NotSettled, TooManyEdges, Failed}
 use Rattle.overlay_geom.specs.declared.solver.Solver.{Solver}
@@ -9,6 +10,12 @@ use Rattle.overlay_arrange.specs.Arranged.{IsArranged, MayRefuseSplitting}
 use Rattle.overlay_builder.specs.GivenPaths.{GivenPath, added_paths}
 use Rattle.overlay_builder.specs.Held.{Held}
 use Rattle.overlay_builder.specs.PathLists.{HoldsPaths, SomePathWeighsTooMuch}
+use Rattle.overlay_builder.specs.PathWindings.{HeldPathsWind, IsFarFromPaths}
+
+-- p is off the edges, and they wind round it as the paths do
+pub record WindAsPaths (paths : List GivenPath) (es : List CountedEdge) (p : PlanePoint) : Type 0 where
+  pub off : IsOff (map ends_of es) p
+  pub wind : HeldPathsWind paths es p
 
 -- the edges are an arrangement of those that the paths give, reached by the solver
 pub record IsArrangedAlone (keep : Bool) (solver : Solver) (paths : List GivenPath)
@@ -16,6 +23,8 @@ pub record IsArrangedAlone (keep : Bool) (solver : Solver) (paths : List GivenPa
   pub content : List CountedEdge
   pub holds : HoldsPaths (added_paths keep paths) content
   pub arranged : IsArranged solver content es
+  -- so it is at each point more than k/2 away from the paths, in x or in y: k rounds moved some point
+  pub far : (p : PlanePoint) → IsFarFromPaths arranged.moving paths p → WindAsPaths paths es p
 
 -- the edges that the paths give, brought into an arrangement by the solver, may be refused so
 pub record MayRefuseToSplit (keep : Bool) (solver : Solver) (paths : List GivenPath) (e : OverlayError) : Type 0 where

@@ -12,6 +12,7 @@ use Rattle.overlay_plane.specs.ShapeWindings.{steps_of_shapes}
 use Rattle.overlay_builder.specs.GivenPaths.{paths_for}
 use Rattle.overlay_extract.specs.Results.{Asked, filled_asked, IsResult, IsContoursResult, WindsRoundRegion}
 use Rattle.i_overlay.specs.Alone.{IsArrangedAlone}
+use Rattle.i_overlay.specs.OneShot.{WindsRoundFarPaths}
 use Rattle.i_overlay.specs.Outcome.{IsSimpleAsAdded, IsOutcome, HasOutcome, shapes_left, contours_left}
 use Rattle.i_overlay.specs.declared.simplifying.outcome.Outcome.{Outcome}
 use Rattle.i_overlay.specs.declared.simplifying.outcome.Outcome.TheVariants.{NotSimple, Empty, AsGiven, Reversed}
@@ -71,6 +72,9 @@ pub record IsSimplifiedAlone (solver : Solver) (q : Asked) (keep : Bool) (paths 
   pub edges : List CountedEdge
   pub arranged : IsArrangedAlone keep solver (paths_for Subject paths) edges
   pub simplified : IsSimplifiedSource q keep paths edges shapes
+  -- with the minimum area zero it winds as asked of the paths, far from them: k rounds moved some point
+  pub winds : q.min_output_area ≡ 0 →
+      WindsRoundFarPaths arranged.arranged.moving q (paths_for Subject paths) (steps_of_shapes shapes)
 
 -- ---- of contours in one list, where these edges are left of theirs
 

@@ -2,13 +2,15 @@
 use Rattle.std.specs.Prelude.{◌≡◌, ◌≢◌, ℕ, List, []}
 use Rattle.std.specs.Int.{Width}
 use Rattle.overlay_geom.specs.Edges.{CountedEdge}
+use Rattle.overlay_geom.specs.Plane.{Step}
 use Rattle.overlay_geom.specs.declared.solver.Solver.{Solver}
 use Rattle.overlay_geom.specs.declared.fill_rule.FillRule.{FillRule}
 use Rattle.overlay_geom.specs.declared.options.IntOverlayOptions.{IntOverlayOptions}
 use Rattle.overlay_geom.specs.declared.overlay_rule.OverlayRule.{OverlayRule}
 use Rattle.overlay_graph.specs.Graphs.{Graph, graph_edges}
 use Rattle.overlay_arrange.specs.Arranged.{IsArranged}
-use Rattle.overlay_extract.specs.Results.{Asked, asked}
+use Rattle.overlay_extract.specs.GivenRegion.{WindsRoundFarPoints}
+use Rattle.overlay_extract.specs.Results.{Asked, WindsRoundRegion, asked}
 
 -- what a view shows: a graph, and the options by which contours are extracted from it
 pub record Viewed (C U : Type 0) : Type 0 where
@@ -31,3 +33,6 @@ pub record IsView {C U : Type 0} (solver : Solver) (rule : FillRule) (options : 
   pub some_edge : viewed_edges view ≢ []
   pub filled : view.graph.fill_rule ≡ rule
   pub optioned : view.options ≡ options
+  -- steps that wind as asked off the view's edges wind as asked of the edges that the builder held, far from these
+  pub far : (q : Asked) (steps : List Step) → WindsRoundRegion q (viewed_edges view) steps →
+      WindsRoundFarPoints arranged.moving q held steps

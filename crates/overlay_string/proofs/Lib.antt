@@ -2,6 +2,7 @@ pub mod AddedInRoles
 pub mod AddedPaths
 pub mod BalancedPaths
 pub mod ClippedOnce
+pub mod FarSlices
 pub mod FirstPieces
 pub mod JoinedPaths
 pub mod KeptPieces

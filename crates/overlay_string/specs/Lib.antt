@@ -1,5 +1,6 @@
 pub mod ClipPaths
 pub mod ClipPieces
+pub mod FarSlices
 pub mod Laws
 pub mod OneAnswer
 pub mod OneClip

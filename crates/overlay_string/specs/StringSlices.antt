@@ -1,5 +1,5 @@
 -- What a shape is sliced into along strings.
-use Rattle.std.specs.Prelude.{ℕ, List}
+use Rattle.std.specs.Prelude.{◌≡◌, ℕ, List}
 use Rattle.std.specs.Int.{Width}
 use Rattle.overlay_geom.specs.Plane.{Point}
 use Rattle.overlay_geom.specs.Edges.{CountedEdge}
@@ -11,6 +11,9 @@ use Rattle.overlay_graph.specs.Graphs.{Graph, graph_edges}
 use Rattle.overlay_arrange.specs.Arranged.{IsArranged}
 use Rattle.overlay_builder.specs.PathLists.{AddedPath, HoldsPaths}
 use Rattle.overlay_extract.specs.Sliced.{IsSliced}
+use Rattle.overlay_plane.specs.ShapeWindings.{steps_of_shapes}
+use Rattle.overlay_string.specs.FarSlices.{WindsRoundFarShape}
+use Rattle.overlay_string.specs.OneShot.{shape_and_strings}
 
 -- the shapes into which what the graph's shape fills is sliced along the graph's edges, strings too, as the options ask
 -- for: in their output direction, and without contours below their minimum area, in a type of this width
@@ -36,3 +39,6 @@ pub record AreSlicedOfPaths (solver : Solver) (width : Width) (fill : FillRule)
   pub content : List CountedEdge
   pub holds : HoldsPaths paths content
   pub sliced : AreSliced width solver fill content result
+  -- of a shape and strings they wind as the shape's contours ask, far from all of them: k rounds moved some point
+  pub winds : (shape strings : List (List Point)) → paths ≡ shape_and_strings shape strings →
+      WindsRoundFarShape sliced.arranged.moving fill shape strings (steps_of_shapes result)

@@ -1,16 +1,23 @@
 -- The multiples of a step in a span are one ascending list, and points have one box; tiles are slices along its lines.
-use Rattle.std.proofs.Common.{◌≡◌, inl, inr, ℤ, ◌<ℤ◌, List, ◌++◌, map, sym, ap₂, subst, ◌∙◌}
+use Rattle.std.proofs.Common.{◌≡◌, inl, inr, ℤ, ◌<ℤ◌, List, ◌++◌, map, refl, sym, ap₂, subst, ◌∙◌}
 use Rattle.std.specs.List.{Contains}
 use Rattle.std.proofs.lemmas.List.Elements.{All-weaker}
 use Rattle.overlay_geom.specs.Plane.{Point}
+use Rattle.overlay_geom.specs.declared.error.OverlayError.{OverlayError}
+use Rattle.overlay_geom.specs.declared.error.OverlayError.TheVariants.{Memory, NotSettled, TooManyEdges, Failed}
 use Rattle.overlay_geom.specs.declared.options.ContourDirection.TheVariants.{CounterClockwise}
+use Rattle.overlay_geom.specs.declared.solver.Solver.TheVariants.{Snapping}
 use Rattle.overlay_geom.proofs.Signs.{linear}
 use Rattle.overlay_extract.proofs.SameAscending.{same_ascending}
 use Rattle.overlay_extract.proofs.OneSlicing.{one_slicing}
 use Rattle.overlay_extract.specs.Sliced.{IsSliced}
+use Rattle.overlay_string.specs.OneAnswer.{OneSlicingAlongStrings, AnsweredStringsAreRefusedByMemoryAlone}
+use Rattle.overlay_string.specs.OneShot.{MayRefusePaths, shape_and_strings}
+use Rattle.overlay_string.specs.StringSlices.{AreSlicedOfPaths}
 use Rattle.overlay_tiles.specs.Grids.{IsGridMultiple, AreGridMultiples, AreLinesAcross, upright, level}
-use Rattle.overlay_tiles.specs.OneGrid.{OneGrid, OneTiling}
-use Rattle.overlay_tiles.specs.Spans.{Span, Bounds, IsBoxOf}
+use Rattle.overlay_tiles.specs.OneGrid.{OneGrid, OneTiling, OneTilingOfPaths, TiledPathsAreRefusedByMemoryAlone}
+use Rattle.overlay_tiles.specs.Spans.{Span, Bounds, IsBoxOf, points_of_paths}
+use Rattle.overlay_tiles.specs.Tiles.{MayRefuseLines, MayRefuseTiles}
 use Rattle.overlay_tiles.proofs.Boxes.{one_span}
 use Rattle.overlay_tiles.proofs.LinesAcross.{no_box}
 
@@ -57,3 +64,27 @@ one_tiling solver width fill wide high paths first second a b same =
     one_slicing width 0 fill CounterClockwise b.sliced.sliced.arrangement first second
     (subst (λ es. IsSliced width 0 fill CounterClockwise es first) same a.sliced.sliced.sliced)
     b.sliced.sliced.sliced
+
+-- by snap rounding they are slices along the same lines, so one where slices are
+pub one_tiling_of_paths : OneSlicingAlongStrings → OneTilingOfPaths
+one_tiling_of_paths one_slicing_along width fill wide high paths first second a b =
+    one_slicing_along width fill paths b.lines first second
+    (subst (λ ls. AreSlicedOfPaths Snapping width fill (shape_and_strings paths ls) first)
+    (one_grid wide high (points_of_paths paths) a.lines b.lines a.are_lines b.are_lines) a.sliced) b.sliced
+
+-- ---- refusals
+
+pub tiled_paths_are_refused_by_memory_alone : AnsweredStringsAreRefusedByMemoryAlone →
+    TiledPathsAreRefusedByMemoryAlone
+tiled_paths_are_refused_by_memory_alone refused width fill wide high paths result tiles = by
+  where
+    along : (e : OverlayError) → MayRefuseLines Snapping wide high paths e → e ≡ Memory
+    along e may = refused.slices width fill paths tiles.lines result tiles.sliced e
+        (subst (λ ls. MayRefusePaths Snapping (shape_and_strings paths ls) e)
+        (one_grid wide high (points_of_paths paths) may.lines tiles.lines may.are_lines tiles.are_lines) may.refused)
+
+    by : (e : OverlayError) → MayRefuseTiles Snapping wide high paths e → e ≡ Memory
+    by Memory may = refl
+    by NotSettled may = along NotSettled may
+    by TooManyEdges may = along TooManyEdges may
+    by Failed may = absurd may

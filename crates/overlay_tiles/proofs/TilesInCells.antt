@@ -281,6 +281,7 @@ module _ (solver : Solver) (width : Width) (fill : FillRule) (wide high : ℤ) (
     are_lines = of_grid;
     sliced = are;
     winds = sliced.winds refl;
+    far = are.winds paths lines refl;
     one_cell = ⊎_elim (λ none. each_in_cell (λ ps tile. absurd (nothing none.0 none.1 ps tile)))
         (λ some. each_in_cell (in_cell some.0 (points_in some.0 some.1) (lines_in some.0 some.1 some.2) some.2))
         of_grid;

@@ -10,6 +10,7 @@ use Rattle.overlay_geom.specs.declared.options.ContourDirection.TheVariants.{Cou
 use Rattle.overlay_plane.specs.BesideOrbits.{HasEachOnce}
 use Rattle.overlay_plane.specs.ShapeWindings.{steps_of_shapes}
 use Rattle.overlay_extract.specs.Sliced.{WindsRoundFilled, left_steps_of_shapes, sides_under}
+use Rattle.overlay_string.specs.FarSlices.{WindsRoundFarShape}
 use Rattle.overlay_string.specs.OneShot.{shape_and_strings, MayRefusePaths}
 use Rattle.overlay_string.specs.StringSlices.{AreSlicedOfPaths}
 use Rattle.overlay_tiles.specs.Cells.{LieInOneCell, RunsAlongGrid}
@@ -25,6 +26,9 @@ pub record AreTiles (solver : Solver) (width : Width) (fill : FillRule) (wide hi
   pub sliced : AreSlicedOfPaths solver width fill (shape_and_strings paths lines) result
   -- round each point off the edges they wind once where the shape is filled, and zero times elsewhere
   pub winds : WindsRoundFilled fill CounterClockwise sliced.sliced.arrangement (steps_of_shapes result)
+  -- and round each point more than k/2 away from the contours as given and from the lines, in x or in y, as these
+  -- contours ask: k rounds moved some point
+  pub far : WindsRoundFarShape sliced.sliced.arranged.moving fill paths lines (steps_of_shapes result)
   -- the points of each contour lie in one cell
   pub one_cell : All (All (LieInOneCell wide high)) result
   -- no filled side along a line of the grid is missing, and none stands twice in the result

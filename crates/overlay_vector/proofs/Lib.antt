@@ -1,6 +1,7 @@
 pub mod EdgesAdded
 pub mod EndsOff
 pub mod EnteringSums
+pub mod GivenEdges
 pub mod JoinedContours
 pub mod JoinedRuns
 pub mod JoinedWindings

@@ -3,8 +3,9 @@
 ghost use Rattle.std.specs.Prelude.{◌≡◌, false, Some, IfOk, OnOk, IsOkUnless};
 ghost use Rattle.overlay_geom.specs.Settled.{IsSettled};
 ghost use Rattle.overlay_order.specs.Content.{IsAscending};
+ghost use Rattle.overlay_extract.specs.GivenRegion.{WindsRoundGiven};
 ghost use Rattle.overlay_extract.specs.Results.{asked};
-ghost use Rattle.overlay_vector.specs.VectorShapes.{plain_vector_shapes};
+ghost use Rattle.overlay_vector.specs.VectorShapes.{plain_vector_shapes, steps_along};
 ghost use Rattle.i_overlay.specs.ShapeVectors.{AreShapeVectors};
 ghost use Rattle.i_overlay.specs.Queries.{BuilderExtracts};
 
@@ -38,6 +39,9 @@ impl<I: OverlayInt, A: Allocator + Clone> Overlay<I, A> {
         ensures result { IfOk result (λ v. AreShapeVectors
             (asked I.Wide.width I.WideUInt.natural fill_rule overlay_rule self.old.options)
             self.new.edges (plain_vector_shapes I.whole v.items)) }
+        ensures given { IfOk result (λ v. WindsRoundGiven
+            (asked I.Wide.width I.WideUInt.natural fill_rule overlay_rule self.old.options)
+            self.old.solver self.old.edges self.new.edges (steps_along (plain_vector_shapes I.whole v.items))) }
     {
         self.core.arrange(self.solver, &mut ())?;
         let shapes = self.extract_shape_vectors(fill_rule, overlay_rule);

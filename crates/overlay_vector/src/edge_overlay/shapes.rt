@@ -8,9 +8,10 @@ ghost use Rattle.overlay_order.specs.Content.{IsAscending};
 ghost use Rattle.overlay_arrange.specs.Stores.{IsStoreReached};
 ghost use Rattle.overlay_builder.specs.GivenPaths.{IsBalancedUnlessFailed};
 ghost use Rattle.overlay_builder.specs.Held.{AnswersQuery};
+ghost use Rattle.overlay_extract.specs.GivenRegion.{WindsRoundGiven};
 ghost use Rattle.overlay_extract.specs.Results.{asked};
 ghost use Rattle.overlay_vector.specs.EdgeBuilder.{held_by, IsArrangedWithData};
-ghost use Rattle.overlay_vector.specs.VectorShapes.{plain_vector_shapes, AreVectorShapes};
+ghost use Rattle.overlay_vector.specs.VectorShapes.{plain_vector_shapes, steps_along, AreVectorShapes};
 
 use crate::edge_overlay::EdgeOverlay;
 use crate::path::DataVectorShape;
@@ -57,6 +58,10 @@ impl<I: OverlayInt, D: OverlayEdgeData, A: Allocator + Clone> EdgeOverlay<I, D, 
         ensures shapes { IfOk result (λ v. AreVectorShapes D.reverses D.eq
             (asked I.Wide.width I.WideUInt.natural fill_rule overlay_rule self.old.options)
             self.new.edges (plain_vector_shapes I.whole v.items)) }
+        ensures given { IfOk result (λ v. WindsRoundGiven
+            (asked I.Wide.width I.WideUInt.natural fill_rule overlay_rule self.old.options)
+            self.old.solver (edges_in self.old.edges) (edges_in self.new.edges)
+            (steps_along (plain_vector_shapes I.whole v.items))) }
         ensures store { IsStoreReached D.writes self.old.store self.new.store }
         ensures kept { self.new ≡ record self.old {
           edges = self.new.edges;

@@ -5,6 +5,7 @@ use Rattle.overlay_builder.specs.GivenPaths.{paths_for}
 use Rattle.overlay_builder.specs.Held.{plain_held}
 use Rattle.overlay_plane.specs.Carried.{edges_in}
 use Rattle.i_overlay.proofs.AddedAlone.{paths_held, paths_refused, query_refused, still_usable}
+use Rattle.i_overlay.proofs.FarPaths.{arranged_alone}
 use Rattle.i_overlay.proofs.simplifying.arranged_alone.add_and_arrange.Goals as goal
 
 pub returns-in_err-add_paths-clause-err : goal.returns-in_err-add_paths-clause-err
@@ -30,10 +31,10 @@ returns-in_err-arrange-clause-err g c =
 
 pub returns-clause-arranged : goal.returns-clause-arranged
 returns-clause-arranged g c =
-    record {
-      content = edges_in c.add_paths.new.self.edges;
-      holds = paths_held c.args.keeps_points c.contour_kind-kind.result c.contour_kind-kind.ensures
-          c.passing_without_data.result c.passing_without_data.ensures c.args.core.now c.requires.nothing
-          (g.R0.IntShapeResource.paths c.args.resource.now) c.add_paths.new.self _ c.in_ok-add_paths.ensures;
-      arranged = c.in_ok-arrange.ensures.query.arranged;
-    }
+    arranged_alone c.args.keeps_points c.args.solver
+    (paths_for Subject (g.R0.IntShapeResource.paths c.args.resource.now)) (edges_in c.add_paths.new.self.edges)
+    (edges_in c.arrange.new.self.edges)
+    (paths_held c.args.keeps_points c.contour_kind-kind.result c.contour_kind-kind.ensures
+    c.passing_without_data.result c.passing_without_data.ensures c.args.core.now c.requires.nothing
+    (g.R0.IntShapeResource.paths c.args.resource.now) c.add_paths.new.self _ c.in_ok-add_paths.ensures)
+    c.in_ok-arrange.ensures.query.arranged

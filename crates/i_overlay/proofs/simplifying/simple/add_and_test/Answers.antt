@@ -10,6 +10,7 @@ use Rattle.overlay_builder.specs.Held.{plain_held}
 use Rattle.overlay_plane.specs.Carried.{edges_in}
 use Rattle.i_overlay.specs.Outcome.{IsOutcome}
 use Rattle.i_overlay.proofs.AddedAlone.{held_alone, one_refused, path_added, path_too_heavy, query_refused}
+use Rattle.i_overlay.proofs.FarPaths.{arranged_alone}
 use Rattle.i_overlay.proofs.TestedContours.{has_outcome, simple_where_whole, two_or_more, whole_where_simple}
 use Rattle.i_overlay.proofs.simplifying.simple.add_and_test.Goals.{then-not-leaves_out, else-not-leaves_out}
 use Rattle.i_overlay.proofs.simplifying.simple.add_and_test.Goals.{else-is_whole-via-else-is_whole}
@@ -71,15 +72,14 @@ direction_of-requires-clause-some g c =
 pub returns-then-branch-clause-arranged : goal.returns-then-branch-clause-arranged
 returns-then-branch-clause-arranged g c =
     let ps = plain_points g.I.IntNumber.whole c.args.contour.now in
-    record {
-      content = edges_in c.add_path.new.self.edges;
-      holds = held_alone c.args.keeps_points ps (edges_in c.add_path.new.self.edges)
-          (path_added c.args.keeps_points c.contour_kind-kind.result c.contour_kind-kind.ensures
-          c.passing_without_data-passing.result c.passing_without_data-passing.ensures c.args.core.now
-          c.requires.nothing ps
-          c.add_path.new.self c.in_ok-leaves_out.ensures.added.ok) c.in_ok-leaves_out.ensures.added.light;
-      arranged = c.in_ok-is_cut.ensures.query.arranged;
-    }
+    arranged_alone c.args.keeps_points c.args.solver (paths_for Subject (ps ∷ []))
+    (edges_in c.add_path.new.self.edges) (edges_in c.arrange.new.self.edges)
+    (held_alone c.args.keeps_points ps (edges_in c.add_path.new.self.edges)
+    (path_added c.args.keeps_points c.contour_kind-kind.result c.contour_kind-kind.ensures
+    c.passing_without_data-passing.result c.passing_without_data-passing.ensures c.args.core.now
+    c.requires.nothing ps c.add_path.new.self c.in_ok-leaves_out.ensures.added.ok)
+    c.in_ok-leaves_out.ensures.added.light)
+    c.in_ok-is_cut.ensures.query.arranged
 
 pub returns-then-branch-clause-outcome : goal.returns-then-branch-clause-outcome
 returns-then-branch-clause-outcome g c =
@@ -109,15 +109,14 @@ returns-then-branch-clause-outcome g c =
 pub returns-clause-arranged : goal.returns-clause-arranged
 returns-clause-arranged g c =
     let ps = plain_points g.I.IntNumber.whole c.args.contour.now in
-    record {
-      content = edges_in c.add_path.new.self.edges;
-      holds = held_alone c.args.keeps_points ps (edges_in c.add_path.new.self.edges)
-          (path_added c.args.keeps_points c.contour_kind-kind.result c.contour_kind-kind.ensures
-          c.passing_without_data-passing.result c.passing_without_data-passing.ensures c.args.core.now
-          c.requires.nothing ps
-          c.add_path.new.self c.in_ok-leaves_out.ensures.added.ok) c.in_ok-leaves_out.ensures.added.light;
-      arranged = c.in_ok-is_cut.ensures.query.arranged;
-    }
+    arranged_alone c.args.keeps_points c.args.solver (paths_for Subject (ps ∷ []))
+    (edges_in c.add_path.new.self.edges) (edges_in c.arrange.new.self.edges)
+    (held_alone c.args.keeps_points ps (edges_in c.add_path.new.self.edges)
+    (path_added c.args.keeps_points c.contour_kind-kind.result c.contour_kind-kind.ensures
+    c.passing_without_data-passing.result c.passing_without_data-passing.ensures c.args.core.now
+    c.requires.nothing ps c.add_path.new.self c.in_ok-leaves_out.ensures.added.ok)
+    c.in_ok-leaves_out.ensures.added.light)
+    c.in_ok-is_cut.ensures.query.arranged
 
 pub returns-clause-outcome : goal.returns-clause-outcome
 returns-clause-outcome g c = λ simple.

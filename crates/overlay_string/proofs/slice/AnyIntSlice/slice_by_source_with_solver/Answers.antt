@@ -1,6 +1,8 @@
 -- The new builder answers of the paths that were added to it.
 use Rattle.std.proofs.lemmas.Result.{IfOk-weaker, err_from_is_err_and}
+use Rattle.overlay_geom.specs.Paths.{plain_shapes}
 use Rattle.overlay_string.specs.OneShot.{shape_and_strings}
+use Rattle.overlay_string.proofs.FarSlices.{slices_of_paths}
 use Rattle.overlay_string.proofs.OneShots.{builder_refused, clip_refused}
 use Rattle.overlay_string.proofs.slice.AnyIntSlice.slice_by_source_with_solver.Goals as goal
 
@@ -14,7 +16,10 @@ returns-in_err-overlay-clause-err g c =
 pub returns-clause-sliced : goal.returns-clause-sliced
 returns-clause-sliced g c =
     IfOk-weaker c.into_slices.result _ _
-    (λ v are. record { content = c.in_ok-overlay.overlay.edges; holds = c.in_ok-overlay.ensures.ok; sliced = are })
+    (λ v are. slices_of_paths c.args.solver g.I.Wide.WideIntNumber.width c.args.fill_rule c.in_ok-overlay.overlay.edges
+    (plain_shapes g.I.IntNumber.whole v.items) are
+    (shape_and_strings (g.R0.IntShapeResource.paths c.args.self.now) (g.R1.IntShapeResource.paths c.args.source.now))
+    c.in_ok-overlay.ensures.ok)
     c.into_slices.ensures.sliced
 
 pub returns-clause-err : goal.returns-clause-err

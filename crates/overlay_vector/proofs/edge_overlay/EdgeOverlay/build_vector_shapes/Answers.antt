@@ -1,7 +1,14 @@
--- The store is reached by arranging the edges, and by what the shapes are made with.
-use Rattle.std.proofs.Common.{sym, ap, subst}
+-- The store is reached by arranging the edges, and by what the shapes are made with. The shapes wind as asked of the
+-- edges before, far from these.
+use Rattle.std.proofs.Common.{sym, ap, ◌∙◌, subst}
+use Rattle.std.proofs.lemmas.Result.{IfOk-weaker}
+use Rattle.overlay_plane.specs.Carried.{edges_in}
 use Rattle.overlay_arrange.specs.Stores.{IsStoreReached}
 use Rattle.overlay_arrange.proofs.ReachedStores.{reached_on}
+use Rattle.overlay_builder.specs.Held.{plain_held}
+use Rattle.overlay_extract.specs.Results.{asked}
+use Rattle.overlay_vector.specs.VectorShapes.{plain_vector_shapes, steps_along}
+use Rattle.overlay_vector.proofs.GivenEdges.{given_round}
 use Rattle.overlay_vector.proofs.edge_overlay.EdgeOverlay.build_vector_shapes.Goals as goal
 
 pub returns-clause-store : goal.returns-clause-store
@@ -12,3 +19,15 @@ returns-clause-store g c =
     (subst (λ b. IsStoreReached writes b.store arranged) c.self.view_is c.in_ok-arrange.ensures.store)
     (subst (λ s. IsStoreReached writes arranged s) (sym (ap (λ b. b.store) c.self-2.view_is))
     c.extract-shapes.ensures.store)
+
+pub returns-clause-given : goal.returns-clause-given
+returns-clause-given g c =
+    let e = c.extract-shapes.ensures in
+    given_round g.I.IntNumber.limit c.self.view_is (plain_held c.arrange.new.self) c.in_ok-arrange.field-0
+    c.in_ok-arrange.ensures.query
+    (λ b. asked g.I.Wide.WideIntNumber.width g.I.WideUInt.UIntNumber.natural c.args.fill_rule c.args.overlay_rule
+    b.options)
+    (λ v. steps_along (plain_vector_shapes g.I.IntNumber.whole v.items)) (edges_in c.set_failed.new.self.edges)
+    (ap (λ h. edges_in h.edges) c.set_failed.ensures ∙ ap (λ b. edges_in b.edges) c.self-2.view_is
+    ∙ ap (λ b. edges_in b.edges) e.kept)
+    c.extract-shapes.result (IfOk-weaker c.extract-shapes.result _ _ (λ v is. is.winds) e.shapes)
