@@ -100,6 +100,10 @@ static polyover_status relate(const asked *of, room *to) {
     return polyover_relate(of->fill, of->solver, &of->subject, &of->clip, &to->relations);
 }
 
+static polyover_status relate_one(const asked *of, room *to) {
+    return polyover_relate_one(POLYOVER_DISJOINT, of->fill, of->solver, &of->subject, &of->clip, &to->relations);
+}
+
 static polyover_status edges(const asked *of, room *to) {
     return polyover_edges(of->fill, of->solver, &of->subject, &of->clip, to->coordinates, 64, to->bytes, 16,
                           &to->count);
@@ -244,9 +248,11 @@ static asked squares(void) {
 
 static void answered(void) {
     const call all[] = {overlay, hierarchy, simplify, slice, clip, relate, edges, locate, resolved, overlay_result,
-                        hierarchy_result, simplify_result, slice_result, clip_result, edges_result, prepare};
+                        hierarchy_result, simplify_result, slice_result, clip_result, edges_result, prepare,
+                        relate_one};
     const call with_more[] = {overlay, hierarchy, simplify, slice, clip, relate, edges, overlay_result,
-                              hierarchy_result, simplify_result, slice_result, clip_result, edges_result};
+                              hierarchy_result, simplify_result, slice_result, clip_result, edges_result,
+                              relate_one};
     asked of = squares(), wide = squares_at(wide_left, wide_right);
     for (size_t at = 0; at < COUNT(all); at++) {
         choose_solver(&of, POLYOVER_SNAPPED);
@@ -279,13 +285,15 @@ static void numbers(void) {
     of.options.keep = of.kept.invert = 0;
     choose_solver(&of, 2);
     const call by_solver[] = {overlay, hierarchy, simplify, slice, clip, relate, edges, overlay_result,
-                              hierarchy_result, simplify_result, slice_result, clip_result, edges_result, prepare};
+                              hierarchy_result, simplify_result, slice_result, clip_result, edges_result, prepare,
+                              relate_one};
     for (size_t at = 0; at < COUNT(by_solver); at++) {
         TESTED_FIRST(by_solver[at], &of, POLYOVER_BAD_OPTION);
     }
     of.fill = 4;
     const call filled[] = {overlay, hierarchy, simplify, slice, clip, relate, edges, overlay_result,
-                           hierarchy_result, simplify_result, slice_result, clip_result, edges_result, prepare};
+                           hierarchy_result, simplify_result, slice_result, clip_result, edges_result, prepare,
+                           relate_one};
     for (size_t at = 0; at < COUNT(filled); at++) {
         TESTED_FIRST(filled[at], &of, POLYOVER_BAD_FILL);
     }
@@ -298,7 +306,7 @@ static void numbers(void) {
 static void faults(void) {
     const call one[] = {simplify, locate, resolved, simplify_result, prepare};
     const call two[] = {overlay, hierarchy, slice, clip, relate, edges, overlay_result, hierarchy_result,
-                        slice_result, clip_result, edges_result};
+                        slice_result, clip_result, edges_result, relate_one};
     asked of = squares();
     of.clip = bad;
     for (size_t at = 0; at < COUNT(two); at++) {

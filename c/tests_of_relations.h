@@ -9,6 +9,11 @@ static polyover_relations TEST(related)(const NUMBER *subject, const NUMBER *cli
     const CONTOURS given = {first, 8, four, 1}, other = {second, 8, four, 1};
     polyover_relations relations = 77;
     CHECK(NAME(polyover_relate)(fill, POLYOVER_SNAPPED, &given, &other, &relations) == POLYOVER_OK);
+    for (polyover_relations bit = POLYOVER_INTERSECTS; bit <= POLYOVER_COVERS; bit *= 2) {
+        uint32_t holds = 77;
+        CHECK(NAME(polyover_relate_one)(bit, fill, POLYOVER_SNAPPED, &given, &other, &holds) == POLYOVER_OK);
+        CHECK(holds == ((relations & bit) != 0));
+    }
     return relations;
 }
 
@@ -78,4 +83,28 @@ static void TEST(relating_refused)(void) {
     CHECK(TEST(not_related)(3, &none, &far) == POLYOVER_OUT_OF_RANGE);
     CHECK(TEST(not_related)(0, &none, &none) == POLYOVER_OK);
     CHECK(TEST(not_related)(0, &square, &none) == POLYOVER_OK);
+}
+
+/* One relation: by both solvers, and by numbers that are the bit of none. */
+static void TEST(one_relation)(void) {
+    const NUMBER beyond[] = {0, 0, LIMIT, 0, -LIMIT - 1, 4, 0, 4}, inner[] = {1, 1, 2, 1, 2, 2, 1, 2};
+    const size_t four[] = {4}, falling[] = {4, 3};
+    const CONTOURS square = {TEST(subject_at), 8, four, 1}, bad = {TEST(subject_at), 8, falling, 2};
+    const CONTOURS far = {beyond, 8, four, 1}, small = {inner, 8, four, 1};
+    const polyover_relations unknown[] = {0, 3, 127, 128, UINT32_MAX};
+    uint32_t holds = 77;
+    for (size_t at = 0; at < sizeof unknown / sizeof *unknown; at++) {
+        CHECK(NAME(polyover_relate_one)(unknown[at], 3, 0, &bad, &far, &holds) == POLYOVER_BAD_OPTION);
+        CHECK(NAME(polyover_relate_one)(unknown[at], 4, 2, &bad, &far, &holds) == POLYOVER_BAD_FILL);
+    }
+    CHECK(NAME(polyover_relate_one)(POLYOVER_WITHIN, 3, 2, &bad, &far, &holds) == POLYOVER_BAD_OPTION);
+    CHECK(NAME(polyover_relate_one)(POLYOVER_WITHIN, 3, 0, &bad, &far, &holds) == POLYOVER_BAD_ENDS);
+    CHECK(NAME(polyover_relate_one)(POLYOVER_WITHIN, 3, 1, &square, &far, &holds) == POLYOVER_OUT_OF_RANGE);
+    CHECK(holds == 77);
+    for (polyover_solver solver = POLYOVER_SNAPPED; solver <= POLYOVER_ROUNDS; solver++) {
+        CHECK(NAME(polyover_relate_one)(POLYOVER_COVERS, 0, solver, &square, &small, &holds) == POLYOVER_OK);
+        CHECK(holds == 1);
+        CHECK(NAME(polyover_relate_one)(POLYOVER_WITHIN, 0, solver, &square, &small, &holds) == POLYOVER_OK);
+        CHECK(holds == 0);
+    }
 }

@@ -275,6 +275,7 @@ static void TEST(all)(void) {
     TEST(relations)();
     TEST(small_triangles)();
     TEST(relating_refused)();
+    TEST(one_relation)();
     TEST(locations)();
     TEST(locating_refused)();
     TEST(edges)();

@@ -55,7 +55,9 @@ enum {
     POLYOVER_NOT_RESOLVED = 4, /* two steps of a contour share a point that is not an end of both */
     POLYOVER_BAD_RULE = 5,     /* no overlay rule has the number */
     POLYOVER_BAD_FILL = 6,     /* no fill rule has the number */
-    POLYOVER_BAD_OPTION = 7,   /* a direction, keep, touching, invert, boundary or solver that is neither 0 nor 1 */
+    /* a direction, keep, touching, invert, boundary or solver that is neither 0 nor 1, or a number that is not the bit
+     * of a relation */
+    POLYOVER_BAD_OPTION = 7,
     /* after 64 rounds of splitting edges still meet in points that are no ends of both: some that cross very flatly do.
      * It comes of POLYOVER_ROUNDS alone; POLYOVER_SNAPPED splits these edges too. */
     POLYOVER_NOT_SETTLED = 8,
@@ -283,6 +285,19 @@ polyover_status polyover_relate(polyover_fill fill, polyover_solver solver, cons
                                 const polyover_contours *clip, polyover_relations *relations);
 polyover_status polyover_relate_32(polyover_fill fill, polyover_solver solver, const polyover_contours_32 *subject,
                                    const polyover_contours_32 *clip, polyover_relations *relations);
+
+/* Whether one relation holds, given by its bit: POLYOVER_INTERSECTS, or another bit of polyover_relations. On
+ * POLYOVER_OK *holds is 1 where it does, else 0; after any other status it stays. By POLYOVER_SNAPPED the answer is the
+ * bit that `polyover_relate` gives. The arrangement is made as there; its edges are looked at up to the first that
+ * decides.
+ *
+ * The tests and statuses are those of `polyover_relate`. POLYOVER_BAD_OPTION comes also where `relation` is not the bit
+ * of one relation. */
+polyover_status polyover_relate_one(polyover_relations relation, polyover_fill fill, polyover_solver solver,
+                                    const polyover_contours *subject, const polyover_contours *clip, uint32_t *holds);
+polyover_status polyover_relate_one_32(polyover_relations relation, polyover_fill fill, polyover_solver solver,
+                                       const polyover_contours_32 *subject, const polyover_contours_32 *clip,
+                                       uint32_t *holds);
 
 /* Where each of the points, x before y in `coordinates`, lies in the contours, which are one shape: a point is inside
  * it that is inside an odd number of them, and inside a contour that winds an odd number of times round it.

@@ -23,7 +23,7 @@ RESULTS = ("overlay", "hierarchy", "simplify", "edges", "clip", "slice")
 # the function of the library that each call takes
 TAKES = {
     **{name: f"polyover_{name}_result" for name in RESULTS},
-    **{name: f"polyover_{name}" for name in ("relate", "locate", "prepare")},
+    **{name: f"polyover_{name}" for name in ("relate", "relate_one", "locate", "prepare")},
     "tiles": "polyover_slice_result",
     "is_resolved": "polyover_resolved",
 }
@@ -133,6 +133,15 @@ def relate(subject: Any, clip: Any, fill: str, solver: str) -> dict[str, bool]:
     both = asked.contours(subject), asked.contours(clip)
     check(asked.call("polyover_relate", FILL_NUMBERS[fill], SOLVER_NUMBERS[solver], *both, relations))
     return {name: bool(relations.value >> at & 1) for at, name in enumerate(RELATIONS)}
+
+
+def relate_one(relation: str, subject: Any, clip: Any, fill: str, solver: str) -> bool:
+    """Whether the relation with the name holds."""
+    asked, holds = library(), c_uint32()
+    both = asked.contours(subject), asked.contours(clip)
+    numbers = 1 << RELATIONS.index(relation), FILL_NUMBERS[fill], SOLVER_NUMBERS[solver]
+    check(asked.call("polyover_relate_one", *numbers, *both, holds))
+    return holds.value == 1
 
 
 def clip(

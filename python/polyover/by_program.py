@@ -69,6 +69,11 @@ def relate(subject: Any, clip: Any, fill: str, _: str) -> dict[str, bool]:
     return {name: told[2 * at + 1] == "true" for at, name in enumerate(RELATIONS)}
 
 
+def relate_one(relation: str, subject: Any, clip: Any, fill: str, solver: str) -> bool:
+    """Whether the relation with the name holds."""
+    return relate(subject, clip, fill, solver)[relation]
+
+
 def clip(shape: Any, lines: Any, fill: str, invert: bool, boundary: bool, _: str) -> list[Any]:
     """The parts of open paths that are kept."""
     chosen = " invert" * bool(invert) + " boundary" * bool(boundary)

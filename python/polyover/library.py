@@ -179,6 +179,7 @@ FUNCTIONS = {
     "polyover_slice_result": (*TWO, RESULT),
     "polyover_free": (RESULT,),
     "polyover_relate": (*TWO, POINTER(c_uint32)),
+    "polyover_relate_one": (c_uint32, *TWO, POINTER(c_uint32)),
     "polyover_resolved": (CONTOURS,),
     "polyover_locate": (CONTOURS, *ARRAY, *ARRAY, POINTER(c_size_t)),
     "polyover_prepare": (c_uint32, c_uint32, CONTOURS, PREPARED),

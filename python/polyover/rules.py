@@ -5,7 +5,7 @@ from __future__ import annotations
 
 from typing import Any, Iterable
 
-from .calls import overlay, relate
+from .calls import overlay, relate_one
 from .geojson import is_geometry
 from .progress import faults_of
 from .text import SNAPPED, Fill, Solver
@@ -93,34 +93,34 @@ def listed_groups(groups: Any) -> list[Any]:
 
 def intersects(subject: Any, clip: Any, fill: Fill = "nonzero", *, solver: Solver = SNAPPED) -> bool:
     """Returns whether some point is in both closed regions."""
-    return relate(subject, clip, fill, solver=solver)["intersects"]
+    return relate_one("intersects", subject, clip, fill, solver=solver)
 
 
 def interiors_intersect(subject: Any, clip: Any, fill: Fill = "nonzero", *, solver: Solver = SNAPPED) -> bool:
     """Returns whether some point off the edges is filled by both."""
-    return relate(subject, clip, fill, solver=solver)["interiors_intersect"]
+    return relate_one("interiors_intersect", subject, clip, fill, solver=solver)
 
 
 def touches(subject: Any, clip: Any, fill: Fill = "nonzero", *, solver: Solver = SNAPPED) -> bool:
     """Returns whether they intersect, and no point off the edges is filled by both."""
-    return relate(subject, clip, fill, solver=solver)["touches"]
+    return relate_one("touches", subject, clip, fill, solver=solver)
 
 
 def point_intersects(subject: Any, clip: Any, fill: Fill = "nonzero", *, solver: Solver = SNAPPED) -> bool:
     """Returns whether they meet in single points alone."""
-    return relate(subject, clip, fill, solver=solver)["point_intersects"]
+    return relate_one("point_intersects", subject, clip, fill, solver=solver)
 
 
 def within(subject: Any, clip: Any, fill: Fill = "nonzero", *, solver: Solver = SNAPPED) -> bool:
     """Returns whether the subject fills some point off the edges, and the clip fills each such point."""
-    return relate(subject, clip, fill, solver=solver)["within"]
+    return relate_one("within", subject, clip, fill, solver=solver)
 
 
 def disjoint(subject: Any, clip: Any, fill: Fill = "nonzero", *, solver: Solver = SNAPPED) -> bool:
     """Returns whether they do not intersect."""
-    return relate(subject, clip, fill, solver=solver)["disjoint"]
+    return relate_one("disjoint", subject, clip, fill, solver=solver)
 
 
 def covers(subject: Any, clip: Any, fill: Fill = "nonzero", *, solver: Solver = SNAPPED) -> bool:
     """Returns whether the clip lies within the subject."""
-    return relate(subject, clip, fill, solver=solver)["covers"]
+    return relate_one("covers", subject, clip, fill, solver=solver)

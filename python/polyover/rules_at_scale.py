@@ -10,7 +10,7 @@ Group = Any
 
 
 class RulesAtScale:
-    """Methods that stand on `overlay` and `relate`."""
+    """Methods that stand on `overlay`, and on one relation by its name."""
 
     def overlay(
         self,
@@ -26,10 +26,8 @@ class RulesAtScale:
         """As `polyover.overlay`."""
         raise NotImplementedError
 
-    def relate(
-        self, subject: Group, clip: Group, fill: Fill = "nonzero", *, solver: Solver = SNAPPED
-    ) -> dict[str, bool]:
-        """As `polyover.relate`."""
+    def _relate_one(self, relation: str, subject: Group, clip: Group, fill: Fill, solver: Solver) -> bool:
+        """Returns whether the relation with the name holds, as `relate` tells it."""
         raise NotImplementedError
 
     def intersection(
@@ -86,32 +84,32 @@ class RulesAtScale:
 
     def intersects(self, subject: Group, clip: Group, fill: Fill = "nonzero", *, solver: Solver = SNAPPED) -> bool:
         """Returns whether some point is in both closed regions."""
-        return self.relate(subject, clip, fill, solver=solver)["intersects"]
+        return self._relate_one("intersects", subject, clip, fill, solver)
 
     def interiors_intersect(
         self, subject: Group, clip: Group, fill: Fill = "nonzero", *, solver: Solver = SNAPPED
     ) -> bool:
         """Returns whether some point off the edges is filled by both."""
-        return self.relate(subject, clip, fill, solver=solver)["interiors_intersect"]
+        return self._relate_one("interiors_intersect", subject, clip, fill, solver)
 
     def touches(self, subject: Group, clip: Group, fill: Fill = "nonzero", *, solver: Solver = SNAPPED) -> bool:
         """Returns whether they intersect, and no point off the edges is filled by both."""
-        return self.relate(subject, clip, fill, solver=solver)["touches"]
+        return self._relate_one("touches", subject, clip, fill, solver)
 
     def point_intersects(
         self, subject: Group, clip: Group, fill: Fill = "nonzero", *, solver: Solver = SNAPPED
     ) -> bool:
         """Returns whether they meet in single points alone."""
-        return self.relate(subject, clip, fill, solver=solver)["point_intersects"]
+        return self._relate_one("point_intersects", subject, clip, fill, solver)
 
     def within(self, subject: Group, clip: Group, fill: Fill = "nonzero", *, solver: Solver = SNAPPED) -> bool:
         """Returns whether the subject fills some point off the edges, and the clip fills each such point."""
-        return self.relate(subject, clip, fill, solver=solver)["within"]
+        return self._relate_one("within", subject, clip, fill, solver)
 
     def disjoint(self, subject: Group, clip: Group, fill: Fill = "nonzero", *, solver: Solver = SNAPPED) -> bool:
         """Returns whether they do not intersect."""
-        return self.relate(subject, clip, fill, solver=solver)["disjoint"]
+        return self._relate_one("disjoint", subject, clip, fill, solver)
 
     def covers(self, subject: Group, clip: Group, fill: Fill = "nonzero", *, solver: Solver = SNAPPED) -> bool:
         """Returns whether the clip lies within the subject."""
-        return self.relate(subject, clip, fill, solver=solver)["covers"]
+        return self._relate_one("covers", subject, clip, fill, solver)

@@ -14,7 +14,7 @@ from polyover import by_library, by_program, library
 from polyover.calls import Look
 from polyover.commands import printed
 from polyover.program import BadLine, answer, program
-from polyover.text import FILLS, ROUNDS, RULES, SOLVERS
+from polyover.text import FILLS, RELATIONS, ROUNDS, RULES, SOLVERS
 
 from .inputs import COMMANDS, ROOT, cases_of_program, inputs_of
 from .rows import OTHER, SQUARE, UNSETTLED
@@ -37,6 +37,7 @@ class Declared(unittest.TestCase):
         self.assertEqual(self.numbers("POLYOVER_", [each.name for each in library.Status]), list(library.Status))
         self.assertEqual(self.numbers("POLYOVER_", RULES), list(by_library.RULE_NUMBERS.values()))
         self.assertEqual(self.numbers("POLYOVER_", SOLVERS), list(by_library.SOLVER_NUMBERS.values()))
+        self.assertEqual(self.numbers("POLYOVER_", RELATIONS), [1, 2, 4, 8, 16, 32, 64])
         fills = ["even_odd", "non_zero", "positive", "negative"]
         self.assertEqual([name.replace("_", "") for name in fills], list(FILLS))
         self.assertEqual(self.numbers("POLYOVER_", fills), list(by_library.FILL_NUMBERS.values()))
@@ -159,6 +160,7 @@ def made(chance):
         "simplify": (chance.choice((subject, subject[:1], triangles[-1:])), fill, look._replace(minimum_area=least)),
         "edges": (subject, clip, fill, ROUNDS),
         "relate": (subject, clip, fill, ROUNDS),
+        "relate_one": (chance.choice(RELATIONS), subject, clip, fill, ROUNDS),
         "clip": (subject, lines, fill, look.keep, look.ogc, ROUNDS),
         "slice": (subject, lines, fill, ROUNDS),
         "tiles": (subject, *sides, fill, ROUNDS),

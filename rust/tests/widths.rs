@@ -69,6 +69,29 @@ fn widths_and_forms_agree() {
 }
 
 #[test]
+fn one_relation_is_what_all_tell_of_it() {
+    let mut random = Random(2);
+    for turn in 0..300 {
+        let reach = if turn % 2 == 0 { 8 } else { i16::MAX };
+        let (one, other) = (of::<i64>(&random.contours(reach)), of::<i64>(&random.contours(reach)));
+        let all = one.try_relations(&other).unwrap();
+        assert_eq!(one.intersects(&other), all.intersects());
+        assert_eq!(one.interiors_intersect(&other), all.interiors_intersect());
+        assert_eq!(one.touches(&other), all.touches());
+        assert_eq!(one.point_intersects(&other), all.point_intersects());
+        assert_eq!(one.within(&other), all.within());
+        assert_eq!(one.disjoint(&other), all.disjoint());
+        assert_eq!(one.covers(&other), all.covers());
+    }
+    // (two squares with a common corner, and one in another)
+    let (low, high) = (square(0_i32, 2), square(2, 4));
+    assert!(low.intersects(&high) && low.touches(&high) && low.point_intersects(&high));
+    assert!(!low.interiors_intersect(&high) && !low.disjoint(&high) && !low.within(&high) && !low.covers(&high));
+    assert!(square(1, 2).within(&square(0, 3)) && square(0, 3).covers(&square(1, 2)));
+    assert!(square(0, 1).disjoint(&square(2, 3)));
+}
+
+#[test]
 fn all_i16_and_i32_are_in_range() {
     let (all, half) = (square(i32::MIN, i32::MAX), square(i32::MIN, 0));
     let corners = [[i32::MIN, 0], [i32::MIN, i32::MIN], [0, i32::MIN], [0, 0]];

@@ -1,204 +1,262 @@
-//! Answers in memory that a call hands out.
+//! Answers that calls hand out.
+#![tactic(auto, using(polyover_calls::proofs::Endings::given))]
 
-ghost use Rattle.std.specs.Prelude.{◌≡◌, [], ◌≢◌};
-ghost use Rattle.polyover_c.specs.Held.{AreHeld, arrays_at_32, arrays_at_64, arrays_of, no_arrays};
-ghost use Rattle.polyover_c.specs.Held.{edge_arrays, linked_arrays, path_arrays, shape_arrays};
-ghost use Rattle.polyover_c.specs.Linked.{flat_linked};
-ghost use Rattle.polyover_c.specs.Listed.{flat_edges};
-ghost use Rattle.polyover_c.specs.Statuses.{code_of};
-ghost use Rattle.polyover_c.specs.Written.{flat_shapes};
-ghost use Rattle.polyover_c.specs.WrittenPaths.{flat_paths};
+ghost use Rattle.std.specs.Int.{w64, w128};
+ghost use Rattle.polyover_calls.specs.Given.{contours_of};
+ghost use Rattle.polyover_calls.specs.Held.{IsGiven, arrays_at_32, arrays_at_64};
+ghost use Rattle.polyover_calls.specs.Holding.{ClipsAreHeld, EdgesAreHeld, HierarchyIsHeld, OverlayIsHeld};
+ghost use Rattle.polyover_calls.specs.Holding.{SimplificationIsHeld, SlicesAreHeld};
+ghost use Rattle.polyover_calls.specs.Options.{options_32, options_64};
 
-use crate::answer::Answer;
-use crate::edges::ListedEdges;
-use crate::linked_answer::LinkedAnswer;
-use crate::links::Link;
-use crate::path_answer::PathAnswer;
-use crate::status::Status;
+use polyover_calls::arrays::{Contours32, Contours64};
+use polyover_calls::clip_options::ClipOptions;
+use polyover_calls::held::{Held32, Held64};
+use polyover_calls::holding::{
+    clips_held, edges_held, hierarchy_held, overlay_held, simplification_held, slices_held,
+};
+use polyover_calls::options::{Options32, Options64};
 use std::alloc::Global;
 
-/// What a result holds. An array that has no part in the answer is empty.
-#[derive(Clone, Copy)]
-pub(crate) struct Held<'a, I> {
-    pub(crate) coordinates: &'a [I],
-    pub(crate) contour_ends: &'a [usize],
-    pub(crate) shape_ends: &'a [usize],
-    pub(crate) links: &'a [Link],
-    pub(crate) fills: &'a [u8],
-}
-
-/// What C is given of 64-bit coordinates. Each array with items lies in a block of its own, which C frees.
-#[repr(C)]
-#[derive(Clone, Copy)]
-pub struct Held64<'a> {
-    /// The coordinates, x before y.
-    pub coordinates: &'a [i64],
-    /// How many points there are up to the end of each contour, or of each path.
-    pub contour_ends: &'a [usize],
-    /// How many contours there are up to the end of each shape.
-    pub shape_ends: &'a [usize],
-    /// Which shapes lie in which holes.
-    pub links: &'a [Link],
-    /// The fill bits of each edge.
-    pub fills: &'a [u8],
-}
-
-/// The same of 32-bit coordinates.
-#[repr(C)]
-#[derive(Clone, Copy)]
-pub struct Held32<'a> {
-    /// The coordinates, x before y.
-    pub coordinates: &'a [i32],
-    /// How many points there are up to the end of each contour, or of each path.
-    pub contour_ends: &'a [usize],
-    /// How many contours there are up to the end of each shape.
-    pub shape_ends: &'a [usize],
-    /// Which shapes lie in which holes.
-    pub links: &'a [Link],
-    /// The fill bits of each edge.
-    pub fills: &'a [u8],
-}
-
-/// What a call hands out, and how it ends.
-#[derive(Clone, Copy)]
-pub(crate) struct Outcome<'a, I> {
-    pub(crate) held: Held<'a, I>,
-    pub(crate) status: Status,
-}
-
-/// Returns the arrays of shapes in memory that stays.
-pub(crate) fn hold_shapes<'a, I: Drop + 'a>(answer: Answer<I>) -> Outcome<'a, I>
-    ensures { AreHeld shape_arrays
-        (flat_shapes answer.coordinates.items answer.contour_ends.items answer.shape_ends.items)
-        no_arrays (arrays_of result.held) result.status }
+/// Hands out the shapes of the overlay that the rules and options ask for.
+#[unsafe(no_mangle)]
+pub extern "C" fn polyover_overlay_result_with<'a>(
+    alloc: Global,
+    rule: u32,
+    fill: u32,
+    options: &Options64,
+    subject: &Contours64,
+    clip: &Contours64,
+    held: &mut Held64<'a>,
+) -> u32
+    ensures { IsGiven (OverlayIsHeld (λ z. z) 4611686018427387903 w128 (λ n. n) rule fill (options_64 options.now)
+        (contours_of subject.now.coordinates.now subject.now.ends.now)
+        (contours_of clip.now.coordinates.now clip.now.ends.now))
+        (arrays_at_64 held.new) result }
 {
-    let held = Held {
-        coordinates: lasting(answer.coordinates),
-        contour_ends: lasting(answer.contour_ends),
-        shape_ends: lasting(answer.shape_ends),
-        links: &[],
-        fills: &[],
-    };
-    Outcome {
-        held,
-        status: Status::Done,
-    }
+    held.give(&overlay_held(
+        alloc,
+        rule,
+        fill,
+        options.numbers(),
+        &subject.given(),
+        &clip.given(),
+    ))
 }
 
-/// Returns the arrays of shapes and of links in memory that stays.
-pub(crate) fn hold_linked<'a, I: Drop + 'a>(answer: LinkedAnswer<I>) -> Outcome<'a, I>
-    ensures { AreHeld linked_arrays
-        (flat_linked answer.shapes.coordinates.items answer.shapes.contour_ends.items
-        answer.shapes.shape_ends.items answer.links.items)
-        no_arrays (arrays_of result.held) result.status }
+/// `polyover_overlay_result_with` at 32 bits.
+#[unsafe(no_mangle)]
+pub extern "C" fn polyover_overlay_result_with_32<'a>(
+    alloc: Global,
+    rule: u32,
+    fill: u32,
+    options: &Options32,
+    subject: &Contours32,
+    clip: &Contours32,
+    held: &mut Held32<'a>,
+) -> u32
+    ensures { IsGiven (OverlayIsHeld (λ z. z) 1073741823 w64 (λ n. n) rule fill (options_32 options.now)
+        (contours_of subject.now.coordinates.now subject.now.ends.now)
+        (contours_of clip.now.coordinates.now clip.now.ends.now))
+        (arrays_at_32 held.new) result }
 {
-    let shapes = answer.shapes;
-    let held = Held {
-        coordinates: lasting(shapes.coordinates),
-        contour_ends: lasting(shapes.contour_ends),
-        shape_ends: lasting(shapes.shape_ends),
-        links: lasting(answer.links),
-        fills: &[],
-    };
-    Outcome {
-        held,
-        status: Status::Done,
-    }
+    held.give(&overlay_held(
+        alloc,
+        rule,
+        fill,
+        options.numbers(),
+        &subject.given(),
+        &clip.given(),
+    ))
 }
 
-/// Returns the arrays of paths in memory that stays.
-pub(crate) fn hold_paths<'a, I: Drop + 'a>(answer: PathAnswer<I>) -> Outcome<'a, I>
-    ensures { AreHeld path_arrays (flat_paths answer.coordinates.items answer.ends.items)
-        no_arrays (arrays_of result.held) result.status }
+/// Hands out the shapes that the contours are simplified to, as the fill rule and options ask.
+#[unsafe(no_mangle)]
+pub extern "C" fn polyover_simplify_result_with<'a>(
+    alloc: Global,
+    fill: u32,
+    options: &Options64,
+    contours: &Contours64,
+    held: &mut Held64<'a>,
+) -> u32
+    ensures { IsGiven (SimplificationIsHeld (λ z. z) 4611686018427387903 w128 (λ n. n) fill (options_64 options.now)
+        (contours_of contours.now.coordinates.now contours.now.ends.now))
+        (arrays_at_64 held.new) result }
 {
-    let held = Held {
-        coordinates: lasting(answer.coordinates),
-        contour_ends: lasting(answer.ends),
-        shape_ends: &[],
-        links: &[],
-        fills: &[],
-    };
-    Outcome {
-        held,
-        status: Status::Done,
-    }
+    held.give(&simplification_held(alloc, fill, options.numbers(), &contours.given()))
 }
 
-/// Returns the arrays of edges in memory that stays.
-pub(crate) fn hold_edges<'a, I: Drop + 'a>(answer: ListedEdges<I>) -> Outcome<'a, I>
-    ensures { AreHeld edge_arrays (flat_edges answer.coordinates.items answer.fills.items)
-        no_arrays (arrays_of result.held) result.status }
+/// `polyover_simplify_result_with` at 32 bits.
+#[unsafe(no_mangle)]
+pub extern "C" fn polyover_simplify_result_with_32<'a>(
+    alloc: Global,
+    fill: u32,
+    options: &Options32,
+    contours: &Contours32,
+    held: &mut Held32<'a>,
+) -> u32
+    ensures { IsGiven (SimplificationIsHeld (λ z. z) 1073741823 w64 (λ n. n) fill (options_32 options.now)
+        (contours_of contours.now.coordinates.now contours.now.ends.now))
+        (arrays_at_32 held.new) result }
 {
-    let held = Held {
-        coordinates: lasting(answer.coordinates),
-        contour_ends: &[],
-        shape_ends: &[],
-        links: &[],
-        fills: lasting(answer.fills),
-    };
-    Outcome {
-        held,
-        status: Status::Done,
-    }
+    held.give(&simplification_held(alloc, fill, options.numbers(), &contours.given()))
 }
 
-/// Returns empty arrays, and the status.
-pub(crate) fn hold_nothing<'a, I: 'a>(status: Status) -> Outcome<'a, I>
-    ensures held { arrays_of result.held ≡ no_arrays }
-    ensures status { result.status ≡ status }
+/// Hands out the shapes of the overlay that the rules and options ask for, and the links between them.
+#[unsafe(no_mangle)]
+pub extern "C" fn polyover_hierarchy_result_with<'a>(
+    alloc: Global,
+    rule: u32,
+    fill: u32,
+    options: &Options64,
+    subject: &Contours64,
+    clip: &Contours64,
+    held: &mut Held64<'a>,
+) -> u32
+    ensures { IsGiven (HierarchyIsHeld (λ z. z) 4611686018427387903 w128 (λ n. n) rule fill (options_64 options.now)
+        (contours_of subject.now.coordinates.now subject.now.ends.now)
+        (contours_of clip.now.coordinates.now clip.now.ends.now))
+        (arrays_at_64 held.new) result }
 {
-    let held = Held {
-        coordinates: &[],
-        contour_ends: &[],
-        shape_ends: &[],
-        links: &[],
-        fills: &[],
-    };
-    Outcome { held, status }
+    held.give(&hierarchy_held(
+        alloc,
+        rule,
+        fill,
+        options.numbers(),
+        &subject.given(),
+        &clip.given(),
+    ))
 }
 
-/// Returns the items in memory that stays, or no memory where there are none.
-pub(crate) fn lasting<'a, T: Drop + 'a>(items: Vec<T, Global>) -> &'a [T]
-    ensures { result.now ≡ items.items }
+/// `polyover_hierarchy_result_with` at 32 bits.
+#[unsafe(no_mangle)]
+pub extern "C" fn polyover_hierarchy_result_with_32<'a>(
+    alloc: Global,
+    rule: u32,
+    fill: u32,
+    options: &Options32,
+    subject: &Contours32,
+    clip: &Contours32,
+    held: &mut Held32<'a>,
+) -> u32
+    ensures { IsGiven (HierarchyIsHeld (λ z. z) 1073741823 w64 (λ n. n) rule fill (options_32 options.now)
+        (contours_of subject.now.coordinates.now subject.now.ends.now)
+        (contours_of clip.now.coordinates.now clip.now.ends.now))
+        (arrays_at_32 held.new) result }
 {
-    if items.is_empty() {
-        return &[];
-    }
-    &*items.leak()
+    held.give(&hierarchy_held(
+        alloc,
+        rule,
+        fill,
+        options.numbers(),
+        &subject.given(),
+        &clip.given(),
+    ))
 }
 
-impl<'a> Held64<'a> {
-    /// Gives C the arrays, and returns the code of the status.
-    pub(crate) fn give(&mut self, outcome: &Outcome<'a, i64>) -> u32
-        ensures held { arrays_at_64 self.new ≡ arrays_of outcome.now.held }
-        ensures code { result ≡ code_of outcome.now.status }
-    {
-        let held = outcome.held;
-        *self = Held64 {
-            coordinates: held.coordinates,
-            contour_ends: held.contour_ends,
-            shape_ends: held.shape_ends,
-            links: held.links,
-            fills: held.fills,
-        };
-        outcome.status.code()
-    }
+/// Hands out the shapes into which the lines, which are open paths, slice what the subject fills.
+#[unsafe(no_mangle)]
+pub extern "C" fn polyover_slice_result<'a>(
+    alloc: Global,
+    fill: u32,
+    solver: u32,
+    subject: &Contours64,
+    lines: &Contours64,
+    held: &mut Held64<'a>,
+) -> u32
+    ensures { IsGiven (SlicesAreHeld (λ z. z) 4611686018427387903 w128 fill solver
+        (contours_of subject.now.coordinates.now subject.now.ends.now)
+        (contours_of lines.now.coordinates.now lines.now.ends.now))
+        (arrays_at_64 held.new) result }
+{
+    held.give(&slices_held(alloc, fill, solver, &subject.given(), &lines.given()))
 }
 
-impl<'a> Held32<'a> {
-    /// Gives C the arrays, and returns the code of the status.
-    pub(crate) fn give(&mut self, outcome: &Outcome<'a, i32>) -> u32
-        ensures held { arrays_at_32 self.new ≡ arrays_of outcome.now.held }
-        ensures code { result ≡ code_of outcome.now.status }
-    {
-        let held = outcome.held;
-        *self = Held32 {
-            coordinates: held.coordinates,
-            contour_ends: held.contour_ends,
-            shape_ends: held.shape_ends,
-            links: held.links,
-            fills: held.fills,
-        };
-        outcome.status.code()
-    }
+/// `polyover_slice_result` at 32 bits.
+#[unsafe(no_mangle)]
+pub extern "C" fn polyover_slice_result_32<'a>(
+    alloc: Global,
+    fill: u32,
+    solver: u32,
+    subject: &Contours32,
+    lines: &Contours32,
+    held: &mut Held32<'a>,
+) -> u32
+    ensures { IsGiven (SlicesAreHeld (λ z. z) 1073741823 w64 fill solver
+        (contours_of subject.now.coordinates.now subject.now.ends.now)
+        (contours_of lines.now.coordinates.now lines.now.ends.now))
+        (arrays_at_32 held.new) result }
+{
+    held.give(&slices_held(alloc, fill, solver, &subject.given(), &lines.given()))
+}
+
+/// Hands out the parts of the lines, which are open paths, that a clip by the shape keeps.
+#[unsafe(no_mangle)]
+pub extern "C" fn polyover_clip_result_with<'a>(
+    alloc: Global,
+    fill: u32,
+    options: &ClipOptions,
+    shape: &Contours64,
+    lines: &Contours64,
+    held: &mut Held64<'a>,
+) -> u32
+    ensures { IsGiven (ClipsAreHeld (λ z. z) 4611686018427387903 fill options.now
+        (contours_of shape.now.coordinates.now shape.now.ends.now)
+        (contours_of lines.now.coordinates.now lines.now.ends.now))
+        (arrays_at_64 held.new) result }
+{
+    held.give(&clips_held(alloc, fill, *options, &shape.given(), &lines.given()))
+}
+
+/// `polyover_clip_result_with` at 32 bits.
+#[unsafe(no_mangle)]
+pub extern "C" fn polyover_clip_result_with_32<'a>(
+    alloc: Global,
+    fill: u32,
+    options: &ClipOptions,
+    shape: &Contours32,
+    lines: &Contours32,
+    held: &mut Held32<'a>,
+) -> u32
+    ensures { IsGiven (ClipsAreHeld (λ z. z) 1073741823 fill options.now
+        (contours_of shape.now.coordinates.now shape.now.ends.now)
+        (contours_of lines.now.coordinates.now lines.now.ends.now))
+        (arrays_at_32 held.new) result }
+{
+    held.give(&clips_held(alloc, fill, *options, &shape.given(), &lines.given()))
+}
+
+/// Hands out the edges of the arrangement of the subject and the clip, with the sides that are filled.
+#[unsafe(no_mangle)]
+pub extern "C" fn polyover_edges_result<'a>(
+    alloc: Global,
+    fill: u32,
+    solver: u32,
+    subject: &Contours64,
+    clip: &Contours64,
+    held: &mut Held64<'a>,
+) -> u32
+    ensures { IsGiven (EdgesAreHeld (λ z. z) 4611686018427387903 fill solver
+        (contours_of subject.now.coordinates.now subject.now.ends.now)
+        (contours_of clip.now.coordinates.now clip.now.ends.now))
+        (arrays_at_64 held.new) result }
+{
+    held.give(&edges_held(alloc, fill, solver, &subject.given(), &clip.given()))
+}
+
+/// `polyover_edges_result` at 32 bits.
+#[unsafe(no_mangle)]
+pub extern "C" fn polyover_edges_result_32<'a>(
+    alloc: Global,
+    fill: u32,
+    solver: u32,
+    subject: &Contours32,
+    clip: &Contours32,
+    held: &mut Held32<'a>,
+) -> u32
+    ensures { IsGiven (EdgesAreHeld (λ z. z) 1073741823 fill solver
+        (contours_of subject.now.coordinates.now subject.now.ends.now)
+        (contours_of clip.now.coordinates.now clip.now.ends.now))
+        (arrays_at_32 held.new) result }
+{
+    held.give(&edges_held(alloc, fill, solver, &subject.given(), &clip.given()))
 }

@@ -1,42 +1,15 @@
-//! The calls for C. `include/polyover.h` at the top of the repository says in C's words what each one does.
+//! The exports of the library for C, by topics. Each stands at 64 and then at 32 bits. `include/polyover.h` at the top
+//! of the repository says in C's words what each call does.
 #![tactic(auto)]
 
-mod answer;
-pub mod array_laws;
-pub mod arrays;
-mod asked;
-mod clip;
-pub mod clip_options;
-pub mod counts;
-mod edges;
-pub mod exports;
-mod fault;
-mod flatten;
-mod given;
+pub mod clip;
+pub mod edges;
 pub mod held;
-mod hierarchy;
-mod holding;
-pub mod laws;
-mod linked_answer;
-pub mod links;
-mod locate;
-mod narrowed;
-mod numbers;
-pub mod only_answers;
-pub mod only_faults;
-pub mod only_puts;
-pub mod options;
-mod overlay;
-mod path_answer;
-pub mod path_counts;
-mod prepare;
+pub mod hierarchy;
+pub mod locate;
+pub mod overlay;
 pub mod prepared;
-mod prepared_points;
-mod read;
-mod relate;
-mod shape;
-mod simplify;
-mod slice;
-mod status;
-mod test;
-mod write;
+pub mod relate;
+pub mod simplify;
+pub mod slice;
+pub mod test;

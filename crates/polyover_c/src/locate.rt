@@ -1,128 +1,50 @@
-//! Where points in arrays lie in contours in arrays.
+//! Where points lie in contours.
 
-ghost use Rattle.std.specs.Prelude.{◌≡◌, All, IfOk, IsOkUnless, MatchResult, map};
-ghost use Rattle.overlay_geom.specs.Flat.{paths_in};
-ghost use Rattle.overlay_geom.specs.Points.{plain_points, AllInRange};
-ghost use Rattle.overlay_geom.specs.Resolved.{IsResolved};
-ghost use Rattle.polyover_c.specs.Given.{contours_of};
-ghost use Rattle.polyover_c.specs.Located.{AreNumbers, LocatingEnds, number_of};
-ghost use Rattle.polyover_c.specs.declared.status.Status.TheVariants.{Done};
+ghost use Rattle.std.specs.Prelude.{◌≡◌};
+ghost use Rattle.polyover_calls.specs.Given.{contours_of};
+ghost use Rattle.polyover_calls.specs.Located.{LocatingEnds};
+ghost use Rattle.polyover_calls.specs.Statuses.{code_of};
+ghost use Rattle.polyover_calls.specs.declared.status.Status.{Status};
 
-use crate::given::Contours;
-use crate::read::{tested_contours, tested_points};
-use crate::shape::{first_unresolved, shape_of};
-use crate::status::Status;
-use crate::test::{count_points, test_contours, test_points};
-use crate::write::write_over;
-use overlay_geom::error::OverlayError;
-use overlay_geom::flat::contours::FlatContoursBuffer;
-use overlay_geom::integer::OverlayInt;
-use overlay_geom::point::IntPoint;
-use overlay_relate::containment::IntPointContainment;
-use overlay_relate::location::PointLocation;
-use std::alloc::{AllocError, Global};
+use polyover_calls::arrays::{Contours32, Contours64};
+use polyover_calls::locate::locate_arrays;
+use std::alloc::Global;
 
-/// Where each point lies in the contours, as one shape, written as a number for each; or, where a contour is not
-/// resolved, the number of the first such one.
-pub(crate) fn locate_arrays<I: OverlayInt>(
+/// Where each point lies in the contours, which are one shape, written as a number for each: the code of a status.
+/// Where a contour is not resolved, the number of the first such one is written.
+#[unsafe(no_mangle)]
+pub extern "C" fn polyover_locate(
     alloc: Global,
-    shape: &Contours<I>,
-    points: &[I],
+    shape: &Contours64,
+    points: &[i64],
     locations: &mut [u8],
     unresolved: &mut usize,
-) -> Status
-    ensures { LocatingEnds I.whole I.limit
+) -> u32
+    ensures { (s : Status) × LocatingEnds (λ z. z) 4611686018427387903
         (contours_of shape.now.coordinates.now shape.now.ends.now)
         points.now
         (record { locations = locations.old; unresolved = unresolved.old })
         (record { locations = locations.new; unresolved = unresolved.new })
-        result }
+        s × (result ≡ code_of s) }
 {
-    match locate(alloc, shape, points, locations, unresolved) {
-        Ok(()) => Status::Done,
-        Err(status) => status,
-    }
+    locate_arrays(alloc, &shape.given(), points, locations, unresolved).code()
 }
 
-// The same, where the status `Done` is no error. What is given is tested before memory is taken, but for whether each
-// contour is resolved.
-#[tactic(auto, using(crate::proofs::Located::shape_unread, crate::proofs::Located::points_unread, crate::proofs::Located::no_places, crate::proofs::Located::unresolved_ends, crate::proofs::Located::without_memory, crate::proofs::Located::located_ends, crate::proofs::Located::fit_numbers))]
-fn locate<I: OverlayInt>(
+/// `polyover_locate` at 32 bits.
+#[unsafe(no_mangle)]
+pub extern "C" fn polyover_locate_32(
     alloc: Global,
-    shape: &Contours<I>,
-    points: &[I],
+    shape: &Contours32,
+    points: &[i32],
     locations: &mut [u8],
     unresolved: &mut usize,
-) -> Result<(), Status>
-    ensures { MatchResult result
-        (λ _. LocatingEnds I.whole I.limit
+) -> u32
+    ensures { (s : Status) × LocatingEnds (λ z. z) 1073741823
         (contours_of shape.now.coordinates.now shape.now.ends.now)
         points.now
         (record { locations = locations.old; unresolved = unresolved.old })
         (record { locations = locations.new; unresolved = unresolved.new })
-        Done)
-        (LocatingEnds I.whole I.limit
-        (contours_of shape.now.coordinates.now shape.now.ends.now)
-        points.now
-        (record { locations = locations.old; unresolved = unresolved.old })
-        (record { locations = locations.new; unresolved = unresolved.new })) }
+        s × (result ≡ code_of s) }
 {
-    test_contours(shape.coordinates, shape.ends)?;
-    test_points(points)?;
-    if locations.len() < count_points(points) {
-        return Err(Status::TooSmall);
-    }
-    let contours = tested_contours(alloc, shape.coordinates, shape.ends)?;
-    let points = tested_points(alloc, points)?;
-    let found = first_unresolved(alloc, &contours)?;
-    if let Some(contour) = found {
-        *unresolved = contour;
-        return Err(Status::NotResolved);
-    }
-    let numbers = numbers_in(alloc, &contours, &points)?;
-    write_over(locations, &numbers);
-    Ok(())
-}
-
-// Where each point lies in the contours, as one shape. The only refusal is `Memory`.
-fn numbers_in<I: OverlayInt>(
-    alloc: Global,
-    contours: &FlatContoursBuffer<I, Global>,
-    points: &[IntPoint<I>],
-) -> Result<Vec<u8, Global>, OverlayError>
-    requires in_range { All (AllInRange I.limit)
-        (paths_in I.whole contours.now.points.items contours.now.ranges.items) }
-    requires resolved { All IsResolved (paths_in I.whole contours.now.points.items contours.now.ranges.items) }
-    requires points_in_range { AllInRange I.limit (plain_points I.whole points.now) }
-    ensures numbers { IfOk result (λ v. AreNumbers
-        (paths_in I.whole contours.now.points.items contours.now.ranges.items)
-        (plain_points I.whole points.now) v.items) }
-    ensures only { IsOkUnless result OverlayError.Memory }
-{
-    let shape = shape_of(alloc, contours)?;
-    let locations = shape.locate_points(alloc, points)?;
-    let numbers = numbers_of(alloc, &locations)?;
-    Ok(numbers)
-}
-
-// The number of each location.
-fn numbers_of(alloc: Global, locations: &[PointLocation]) -> Result<Vec<u8, Global>, AllocError>
-    ensures numbers { IfOk result (λ v. v.items ≡ map number_of locations.now) }
-{
-    let mut numbers = Vec::with_capacity(alloc, locations.len())?;
-    for location in locations {
-        numbers.push(number_of(*location))?;
-    }
-    Ok(numbers)
-}
-
-/// The number that C knows the location by.
-pub(crate) fn number_of(location: PointLocation) -> u8
-    ensures { result ≡ number_of location }
-{
-    match location {
-        PointLocation::Outside => 0,
-        PointLocation::Inside => 1,
-        PointLocation::Boundary => 2,
-    }
+    locate_arrays(alloc, &shape.given(), points, locations, unresolved).code()
 }

@@ -1,105 +1,91 @@
-//! The overlay of contours in arrays.
+//! Overlays.
 
-ghost use Rattle.std.specs.Prelude.{MatchResult};
-ghost use Rattle.polyover_c.specs.Given.{contours_of};
-ghost use Rattle.polyover_c.specs.Written.{IsFlat, flat_shapes, shape_room};
-ghost use Rattle.polyover_c.specs.Overlays.{IsOverlay, IsOverlayRefused, OverlayEnds};
+ghost use Rattle.std.specs.Prelude.{◌≡◌};
+ghost use Rattle.std.specs.Int.{w64, w128};
+ghost use Rattle.polyover_calls.specs.Given.{contours_of};
+ghost use Rattle.polyover_calls.specs.Options.{options_32, options_64};
+ghost use Rattle.polyover_calls.specs.Overlays.{OverlayEnds};
+ghost use Rattle.polyover_calls.specs.Statuses.{code_of};
+ghost use Rattle.polyover_calls.specs.Written.{shape_room};
+ghost use Rattle.polyover_calls.specs.declared.status.Status.{Status};
 
-use crate::answer::{Answer, flat_answer, put, widened};
-use crate::asked::asked_overlay;
-use crate::counts::Counts;
-use crate::given::Contours;
-use crate::narrowed::{ArrayInt, narrowed_both};
-use crate::numbers::{OptionNumbers, are_known};
-use crate::status::Status;
-use overlay_geom::integer::OverlayInt;
+use polyover_calls::arrays::{Contours32, Contours64};
+use polyover_calls::counts::Counts;
+use polyover_calls::options::{Options32, Options64};
+use polyover_calls::overlay::overlay_arrays;
 use std::alloc::Global;
 
-/// The overlay that the numbers ask for, put into the arrays.
-#[tactic(auto, using(crate::proofs::Endings::put_ends, crate::proofs::Endings::refused_ends))]
-pub(crate) fn overlay_arrays<I: ArrayInt>(
+/// The shapes of the overlay that the rules and options ask for, put into the arrays, and their counts: the code of a
+/// status.
+#[unsafe(no_mangle)]
+pub extern "C" fn polyover_overlay_with(
     alloc: Global,
     rule: u32,
     fill: u32,
-    options: OptionNumbers<I::WideUInt>,
-    subject: &Contours<I>,
-    clip: &Contours<I>,
-    coordinates: &mut [I],
+    options: &Options64,
+    subject: &Contours64,
+    clip: &Contours64,
+    coordinates: &mut [i64],
     contour_ends: &mut [usize],
     shape_ends: &mut [usize],
     counts: &mut Counts,
-) -> Status
-    ensures { OverlayEnds I.whole I.limit I.Wide.width I.WideUInt.natural rule fill options
+) -> u32
+    ensures { (s : Status) × OverlayEnds (λ z. z) 4611686018427387903 w128 (λ n. n) rule fill
+        (options_64 options.now)
         (contours_of subject.now.coordinates.now subject.now.ends.now)
         (contours_of clip.now.coordinates.now clip.now.ends.now)
         (shape_room coordinates.old contour_ends.old shape_ends.old counts.old)
         (shape_room coordinates.new contour_ends.new shape_ends.new counts.new)
-        result }
+        s × (result ≡ code_of s) }
 {
-    match fitted_overlay(alloc, rule, fill, options, subject, clip) {
-        Ok(answer) => put(&answer, coordinates, contour_ends, shape_ends, counts),
-        Err(status) => status,
-    }
+    overlay_arrays(
+        alloc,
+        rule,
+        fill,
+        options.numbers(),
+        &subject.given(),
+        &clip.given(),
+        coordinates,
+        contour_ends,
+        shape_ends,
+        counts,
+    )
+    .code()
 }
 
-// The overlay that the numbers ask for, as arrays.
-#[tactic(auto, using(crate::proofs::Overlays::memory_refused, crate::proofs::Overlays::flat_refused, crate::proofs::Overlays::overlay_answered))]
-fn overlay_answer<I: OverlayInt>(
+/// `polyover_overlay_with` at 32 bits.
+#[unsafe(no_mangle)]
+pub extern "C" fn polyover_overlay_with_32(
     alloc: Global,
     rule: u32,
     fill: u32,
-    options: OptionNumbers<I::WideUInt>,
-    subject: &Contours<I>,
-    clip: &Contours<I>,
-) -> Result<Answer<I>, Status>
-    ensures { MatchResult result
-        (λ a. IsFlat (IsOverlay I.whole I.limit I.Wide.width I.WideUInt.natural rule fill options
+    options: &Options32,
+    subject: &Contours32,
+    clip: &Contours32,
+    coordinates: &mut [i32],
+    contour_ends: &mut [usize],
+    shape_ends: &mut [usize],
+    counts: &mut Counts,
+) -> u32
+    ensures { (s : Status) × OverlayEnds (λ z. z) 1073741823 w64 (λ n. n) rule fill
+        (options_32 options.now)
         (contours_of subject.now.coordinates.now subject.now.ends.now)
-        (contours_of clip.now.coordinates.now clip.now.ends.now)) I.whole
-        (flat_shapes a.coordinates.items a.contour_ends.items a.shape_ends.items))
-        (IsOverlayRefused I.whole I.limit rule fill options
-        (contours_of subject.now.coordinates.now subject.now.ends.now)
-        (contours_of clip.now.coordinates.now clip.now.ends.now)) }
+        (contours_of clip.now.coordinates.now clip.now.ends.now)
+        (shape_room coordinates.old contour_ends.old shape_ends.old counts.old)
+        (shape_room coordinates.new contour_ends.new shape_ends.new counts.new)
+        s × (result ≡ code_of s) }
 {
-    let asked = asked_overlay(alloc, rule, fill, options, subject, clip)?;
-    let flat = asked.builder.into_flat_shapes(asked.rule, asked.fill)?;
-    let answer = flat_answer(alloc, flat)?;
-    Ok(answer)
-}
-
-// The same, at 32 bits where all coordinates fit and contours of all areas are kept.
-pub(crate) fn fitted_overlay<I: ArrayInt>(
-    alloc: Global,
-    rule: u32,
-    fill: u32,
-    options: OptionNumbers<I::WideUInt>,
-    subject: &Contours<I>,
-    clip: &Contours<I>,
-) -> Result<Answer<I>, Status>
-    ensures { MatchResult result
-        (λ a. IsFlat (IsOverlay I.whole I.limit I.Wide.width I.WideUInt.natural rule fill options
-        (contours_of subject.now.coordinates.now subject.now.ends.now)
-        (contours_of clip.now.coordinates.now clip.now.ends.now)) I.whole
-        (flat_shapes a.coordinates.items a.contour_ends.items a.shape_ends.items))
-        (IsOverlayRefused I.whole I.limit rule fill options
-        (contours_of subject.now.coordinates.now subject.now.ends.now)
-        (contours_of clip.now.coordinates.now clip.now.ends.now)) }
-{
-    if options.keep_all() && are_known(rule, fill, &options) {
-        if let Some(both) = narrowed_both(alloc, subject, clip) {
-            let first = Contours {
-                coordinates: &both.first,
-                ends: subject.ends,
-            };
-            let second = Contours {
-                coordinates: &both.second,
-                ends: clip.ends,
-            };
-            let narrow = options.without_minimum();
-            let answer = overlay_answer(alloc, rule, fill, narrow, &first, &second)?;
-            let answer = widened(alloc, answer)?;
-            return Ok(answer);
-        }
-    }
-    overlay_answer(alloc, rule, fill, options, subject, clip)
+    overlay_arrays(
+        alloc,
+        rule,
+        fill,
+        options.numbers(),
+        &subject.given(),
+        &clip.given(),
+        coordinates,
+        contour_ends,
+        shape_ends,
+        counts,
+    )
+    .code()
 }

@@ -1,126 +1,81 @@
-//! The shapes that contours in arrays are simplified to.
+//! Contours simplified to shapes.
 
-ghost use Rattle.std.specs.Prelude.{◌≡◌, All, IfOk, IfErr, MatchResult};
-ghost use Rattle.overlay_geom.specs.declared.options.ShapeType.TheVariants.{Subject};
-ghost use Rattle.overlay_geom.specs.Flat.{paths_in};
-ghost use Rattle.overlay_geom.specs.Paths.{plain_shapes};
-ghost use Rattle.overlay_geom.specs.Points.{AllInRange};
-ghost use Rattle.overlay_builder.specs.GivenPaths.{paths_for};
-ghost use Rattle.overlay_extract.specs.Results.{asked};
-ghost use Rattle.i_overlay.specs.Alone.{MayRefuseAlone};
-ghost use Rattle.i_overlay.specs.Simplified.{IsSimplifiedAlone};
-ghost use Rattle.polyover_c.specs.Given.{contours_of};
-ghost use Rattle.polyover_c.specs.Simplified.{IsSimplification, IsSimplifyingRefused, SimplifyingEnds};
-ghost use Rattle.polyover_c.specs.Written.{IsFlat, flat_shapes, shape_room};
+ghost use Rattle.std.specs.Prelude.{◌≡◌};
+ghost use Rattle.std.specs.Int.{w64, w128};
+ghost use Rattle.polyover_calls.specs.Given.{contours_of};
+ghost use Rattle.polyover_calls.specs.Options.{options_32, options_64};
+ghost use Rattle.polyover_calls.specs.Simplified.{SimplifyingEnds};
+ghost use Rattle.polyover_calls.specs.Statuses.{code_of};
+ghost use Rattle.polyover_calls.specs.Written.{shape_room};
+ghost use Rattle.polyover_calls.specs.declared.status.Status.{Status};
 
-use crate::answer::{Answer, flattened, put, widened};
-use crate::counts::Counts;
-use crate::given::Contours;
-use crate::narrowed::{ArrayInt, narrowed_one};
-use crate::numbers::{OptionNumbers, are_known, fill_of, known_solver, options_of};
-use crate::read::read_contours;
-use crate::status::Status;
-use i_overlay::fill_rule::FillRule;
-use i_overlay::overlay::{IntOverlayOptions, Overlay};
-use i_overlay::overlay_rule::OverlayRule;
-use i_overlay::solver::Solver;
-use overlay_geom::error::OverlayError;
-use overlay_geom::flat::contours::FlatContoursBuffer;
-use overlay_geom::integer::OverlayInt;
-use overlay_geom::path::IntShapes;
+use polyover_calls::arrays::{Contours32, Contours64};
+use polyover_calls::counts::Counts;
+use polyover_calls::options::{Options32, Options64};
+use polyover_calls::simplify::simplify_arrays;
 use std::alloc::Global;
 
-/// The shapes that the contours are simplified to, put into the arrays.
-#[tactic(auto, using(crate::proofs::Endings::put_ends, crate::proofs::Endings::refused_ends))]
-pub(crate) fn simplify_arrays<I: ArrayInt>(
+/// The shapes that the contours are simplified to, as the fill rule and options ask, put into the arrays, and their
+/// counts: the code of a status.
+#[unsafe(no_mangle)]
+pub extern "C" fn polyover_simplify_with(
     alloc: Global,
     fill: u32,
-    options: OptionNumbers<I::WideUInt>,
-    given: &Contours<I>,
-    coordinates: &mut [I],
+    options: &Options64,
+    contours: &Contours64,
+    coordinates: &mut [i64],
     contour_ends: &mut [usize],
     shape_ends: &mut [usize],
     counts: &mut Counts,
-) -> Status
-    ensures { SimplifyingEnds I.whole I.limit I.Wide.width I.WideUInt.natural fill options
-        (contours_of given.now.coordinates.now given.now.ends.now)
+) -> u32
+    ensures { (s : Status) × SimplifyingEnds (λ z. z) 4611686018427387903 w128 (λ n. n) fill
+        (options_64 options.now)
+        (contours_of contours.now.coordinates.now contours.now.ends.now)
         (shape_room coordinates.old contour_ends.old shape_ends.old counts.old)
         (shape_room coordinates.new contour_ends.new shape_ends.new counts.new)
-        result }
+        s × (result ≡ code_of s) }
 {
-    match fitted_simplification(alloc, fill, options, given) {
-        Ok(answer) => put(&answer, coordinates, contour_ends, shape_ends, counts),
-        Err(status) => status,
-    }
+    simplify_arrays(
+        alloc,
+        fill,
+        options.numbers(),
+        &contours.given(),
+        coordinates,
+        contour_ends,
+        shape_ends,
+        counts,
+    )
+    .code()
 }
 
-// The shapes that the contours are simplified to, as arrays.
-#[tactic(auto, using(crate::proofs::Simplified::contours_refused, crate::proofs::Simplified::memory_refused, crate::proofs::Simplified::simplifying_refused, crate::proofs::Simplified::contours_simplified))]
-fn simplify_answer<I: OverlayInt>(
+/// `polyover_simplify_with` at 32 bits.
+#[unsafe(no_mangle)]
+pub extern "C" fn polyover_simplify_with_32(
     alloc: Global,
     fill: u32,
-    options: OptionNumbers<I::WideUInt>,
-    given: &Contours<I>,
-) -> Result<Answer<I>, Status>
-    ensures { MatchResult result
-        (λ a. IsFlat (IsSimplification I.whole I.limit I.Wide.width I.WideUInt.natural fill options
-        (contours_of given.now.coordinates.now given.now.ends.now)) I.whole
-        (flat_shapes a.coordinates.items a.contour_ends.items a.shape_ends.items))
-        (IsSimplifyingRefused I.whole I.limit fill options
-        (contours_of given.now.coordinates.now given.now.ends.now)) }
+    options: &Options32,
+    contours: &Contours32,
+    coordinates: &mut [i32],
+    contour_ends: &mut [usize],
+    shape_ends: &mut [usize],
+    counts: &mut Counts,
+) -> u32
+    ensures { (s : Status) × SimplifyingEnds (λ z. z) 1073741823 w64 (λ n. n) fill
+        (options_32 options.now)
+        (contours_of contours.now.coordinates.now contours.now.ends.now)
+        (shape_room coordinates.old contour_ends.old shape_ends.old counts.old)
+        (shape_room coordinates.new contour_ends.new shape_ends.new counts.new)
+        s × (result ≡ code_of s) }
 {
-    let fill = fill_of(fill)?;
-    let settings = options_of(options)?;
-    let solver = known_solver(options.solver);
-    let contours = read_contours(alloc, given.coordinates, given.ends)?;
-    let shapes = simplified_shapes(alloc, &contours, fill, settings, solver)?;
-    let answer = flattened(alloc, &shapes)?;
-    Ok(answer)
-}
-
-// The shapes that the contours are simplified to.
-fn simplified_shapes<I: OverlayInt>(
-    alloc: Global,
-    contours: &FlatContoursBuffer<I, Global>,
-    fill: FillRule,
-    options: IntOverlayOptions<I::WideUInt>,
-    solver: Solver,
-) -> Result<IntShapes<I, Global>, OverlayError>
-    requires { All (AllInRange I.limit) (paths_in I.whole contours.now.points.items contours.now.ranges.items) }
-    ensures result { IfOk result (λ v. IsSimplifiedAlone solver
-        (asked I.Wide.width I.WideUInt.natural fill OverlayRule.Subject options) options.preserve_input_collinear
-        (paths_in I.whole contours.now.points.items contours.now.ranges.items) (plain_shapes I.whole v.items)) }
-    ensures err { IfErr result (MayRefuseAlone options.preserve_input_collinear solver
-        (paths_for Subject (paths_in I.whole contours.now.points.items contours.now.ranges.items))) }
-{
-    let mut overlay = Overlay::new_custom(alloc, 0, options, solver)?;
-    overlay.simplify_source(contours, fill)
-}
-
-// The same, at 32 bits where all coordinates fit and contours of all areas are kept.
-pub(crate) fn fitted_simplification<I: ArrayInt>(
-    alloc: Global,
-    fill: u32,
-    options: OptionNumbers<I::WideUInt>,
-    given: &Contours<I>,
-) -> Result<Answer<I>, Status>
-    ensures { MatchResult result
-        (λ a. IsFlat (IsSimplification I.whole I.limit I.Wide.width I.WideUInt.natural fill options
-        (contours_of given.now.coordinates.now given.now.ends.now)) I.whole
-        (flat_shapes a.coordinates.items a.contour_ends.items a.shape_ends.items))
-        (IsSimplifyingRefused I.whole I.limit fill options
-        (contours_of given.now.coordinates.now given.now.ends.now)) }
-{
-    if options.keep_all() && are_known(0, fill, &options) {
-        if let Some(narrowed) = narrowed_one(alloc, given) {
-            let contours = Contours {
-                coordinates: &narrowed,
-                ends: given.ends,
-            };
-            let answer = simplify_answer(alloc, fill, options.without_minimum(), &contours)?;
-            let answer = widened(alloc, answer)?;
-            return Ok(answer);
-        }
-    }
-    simplify_answer(alloc, fill, options, given)
+    simplify_arrays(
+        alloc,
+        fill,
+        options.numbers(),
+        &contours.given(),
+        coordinates,
+        contour_ends,
+        shape_ends,
+        counts,
+    )
+    .code()
 }

@@ -1,105 +1,83 @@
-//! The shapes into which open paths slice contours, of arrays.
+//! Contours sliced by open paths.
 
-ghost use Rattle.std.specs.Prelude.{MatchResult};
-ghost use Rattle.polyover_c.specs.Given.{contours_of};
-ghost use Rattle.polyover_c.specs.Sliced.{AreSlices, IsSlicingRefused, SlicingEnds};
-ghost use Rattle.polyover_c.specs.Written.{IsFlat, flat_shapes, shape_room};
+ghost use Rattle.std.specs.Prelude.{◌≡◌};
+ghost use Rattle.std.specs.Int.{w64, w128};
+ghost use Rattle.polyover_calls.specs.Given.{contours_of};
+ghost use Rattle.polyover_calls.specs.Sliced.{SlicingEnds};
+ghost use Rattle.polyover_calls.specs.Statuses.{code_of};
+ghost use Rattle.polyover_calls.specs.Written.{shape_room};
+ghost use Rattle.polyover_calls.specs.declared.status.Status.{Status};
 
-use crate::answer::{Answer, flattened, put, widened};
-use crate::counts::Counts;
-use crate::given::{Contours, read_both};
-use crate::narrowed::{ArrayInt, narrowed_both};
-use crate::numbers::{are_query_numbers, fill_of, solver_of};
-use crate::status::Status;
-use i_overlay::string::slice::IntSlice;
-use overlay_geom::integer::OverlayInt;
+use polyover_calls::arrays::{Contours32, Contours64};
+use polyover_calls::counts::Counts;
+use polyover_calls::slice::slice_arrays;
 use std::alloc::Global;
 
-/// The shapes into which the lines, which are open paths, slice the subject, put into the arrays.
-#[tactic(auto, using(crate::proofs::Endings::put_ends, crate::proofs::Endings::refused_ends))]
-pub(crate) fn slice_arrays<I: ArrayInt>(
+/// The shapes into which the lines, which are open paths, slice what the contours of the subject fill under the fill
+/// rule, put into the arrays, and their counts: the code of a status.
+#[unsafe(no_mangle)]
+pub extern "C" fn polyover_slice(
     alloc: Global,
     fill: u32,
     solver: u32,
-    subject: &Contours<I>,
-    lines: &Contours<I>,
-    coordinates: &mut [I],
+    subject: &Contours64,
+    lines: &Contours64,
+    coordinates: &mut [i64],
     contour_ends: &mut [usize],
     shape_ends: &mut [usize],
     counts: &mut Counts,
-) -> Status
-    ensures { SlicingEnds I.whole I.limit I.Wide.width fill solver
+) -> u32
+    ensures { (s : Status) × SlicingEnds (λ z. z) 4611686018427387903 w128 fill solver
         (contours_of subject.now.coordinates.now subject.now.ends.now)
         (contours_of lines.now.coordinates.now lines.now.ends.now)
         (shape_room coordinates.old contour_ends.old shape_ends.old counts.old)
         (shape_room coordinates.new contour_ends.new shape_ends.new counts.new)
-        result }
+        s × (result ≡ code_of s) }
 {
-    match fitted_slices(alloc, fill, solver, subject, lines) {
-        Ok(answer) => put(&answer, coordinates, contour_ends, shape_ends, counts),
-        Err(status) => status,
-    }
+    slice_arrays(
+        alloc,
+        fill,
+        solver,
+        &subject.given(),
+        &lines.given(),
+        coordinates,
+        contour_ends,
+        shape_ends,
+        counts,
+    )
+    .code()
 }
 
-// The shapes into which the lines slice the subject, as arrays.
-#[tactic(auto, using(crate::proofs::Sliced::contours_unsliced, crate::proofs::Sliced::memory_refused, crate::proofs::Sliced::slicing_refused, crate::proofs::Sliced::subject_sliced))]
-fn slice_answer<I: OverlayInt>(
+/// `polyover_slice` at 32 bits.
+#[unsafe(no_mangle)]
+pub extern "C" fn polyover_slice_32(
     alloc: Global,
     fill: u32,
     solver: u32,
-    subject: &Contours<I>,
-    lines: &Contours<I>,
-) -> Result<Answer<I>, Status>
-    ensures { MatchResult result
-        (λ a. IsFlat (AreSlices I.whole I.limit I.Wide.width fill solver
+    subject: &Contours32,
+    lines: &Contours32,
+    coordinates: &mut [i32],
+    contour_ends: &mut [usize],
+    shape_ends: &mut [usize],
+    counts: &mut Counts,
+) -> u32
+    ensures { (s : Status) × SlicingEnds (λ z. z) 1073741823 w64 fill solver
         (contours_of subject.now.coordinates.now subject.now.ends.now)
-        (contours_of lines.now.coordinates.now lines.now.ends.now)) I.whole
-        (flat_shapes a.coordinates.items a.contour_ends.items a.shape_ends.items))
-        (IsSlicingRefused I.whole I.limit fill solver
-        (contours_of subject.now.coordinates.now subject.now.ends.now)
-        (contours_of lines.now.coordinates.now lines.now.ends.now)) }
+        (contours_of lines.now.coordinates.now lines.now.ends.now)
+        (shape_room coordinates.old contour_ends.old shape_ends.old counts.old)
+        (shape_room coordinates.new contour_ends.new shape_ends.new counts.new)
+        s × (result ≡ code_of s) }
 {
-    let fill = fill_of(fill)?;
-    let solver = solver_of(solver)?;
-    let read = read_both(alloc, subject, lines)?;
-    let shapes = read
-        .first
-        .slice_by_source_with_solver(alloc, &read.second, fill, solver)?;
-    let answer = flattened(alloc, &shapes)?;
-    Ok(answer)
-}
-
-// The same, at 32 bits where all coordinates fit.
-pub(crate) fn fitted_slices<I: ArrayInt>(
-    alloc: Global,
-    fill: u32,
-    solver: u32,
-    subject: &Contours<I>,
-    lines: &Contours<I>,
-) -> Result<Answer<I>, Status>
-    ensures { MatchResult result
-        (λ a. IsFlat (AreSlices I.whole I.limit I.Wide.width fill solver
-        (contours_of subject.now.coordinates.now subject.now.ends.now)
-        (contours_of lines.now.coordinates.now lines.now.ends.now)) I.whole
-        (flat_shapes a.coordinates.items a.contour_ends.items a.shape_ends.items))
-        (IsSlicingRefused I.whole I.limit fill solver
-        (contours_of subject.now.coordinates.now subject.now.ends.now)
-        (contours_of lines.now.coordinates.now lines.now.ends.now)) }
-{
-    if are_query_numbers(fill, solver) {
-        if let Some(both) = narrowed_both(alloc, subject, lines) {
-            let first = Contours {
-                coordinates: &both.first,
-                ends: subject.ends,
-            };
-            let second = Contours {
-                coordinates: &both.second,
-                ends: lines.ends,
-            };
-            let answer = slice_answer(alloc, fill, solver, &first, &second)?;
-            let answer = widened(alloc, answer)?;
-            return Ok(answer);
-        }
-    }
-    slice_answer(alloc, fill, solver, subject, lines)
+    slice_arrays(
+        alloc,
+        fill,
+        solver,
+        &subject.given(),
+        &lines.given(),
+        coordinates,
+        contour_ends,
+        shape_ends,
+        counts,
+    )
+    .code()
 }

@@ -1,82 +1,47 @@
-//! Whether arrays have contours in the coordinate range. No call here takes memory.
+//! Tests of coordinates and of contours.
 
-ghost use Rattle.std.specs.Prelude.{◌≡◌, ◌↔◌, IsTrue, MatchResult, length};
-ghost use Rattle.polyover_c.specs.Arrays.{are_ends, points_of, rise_from};
-ghost use Rattle.polyover_c.specs.Reading.{AreContours, ArePoints, AreWithin, HaveOwnFault, PointsHaveOwnFault};
+ghost use Rattle.std.specs.Prelude.{◌≡◌, ◌↔◌, ◌≤◌};
+ghost use Rattle.polyover_calls.specs.Reading.{AreWithin};
+ghost use Rattle.polyover_calls.specs.Statuses.{ReadsAs, code_of};
+ghost use Rattle.polyover_calls.specs.declared.status.Status.{Status};
 
-use crate::fault::Fault;
-use overlay_geom::number::IntNumber;
+use polyover_calls::arrays::{Contours32, Contours64};
+use polyover_calls::shape::status_read;
+use polyover_calls::test::are_within;
+use std::alloc::Global;
 
-/// Returns whether the ends part `coordinates` coordinates into contours: the coordinates are an even count, no
-/// end is below the one before it, and the last end is the count of points; without ends there is no coordinate.
-pub fn are_ends(ends: &[usize], coordinates: usize) -> bool
-    ensures { result ≡ are_ends ends.now coordinates }
+/// Whether each coordinate is in the coordinate range: 1, or 0.
+#[unsafe(no_mangle)]
+pub extern "C" fn polyover_in_range(coordinates: &[i64]) -> u32
+    ensures in_range { (result ≡ 1) ↔ AreWithin (λ z. z) 4611686018427387903 coordinates.now }
+    ensures bit { result ≤ 1 }
 {
-    coordinates % 2 == 0 && rise_to(ends, coordinates / 2)
+    if are_within(coordinates) { 1 } else { 0 }
 }
 
-// Whether the ends rise from 0, step by step or not at all, to the count.
-fn rise_to(ends: &[usize], count: usize) -> bool
-    ensures { result ≡ rise_from 0 ends.now count }
+/// `polyover_in_range` at 32 bits.
+#[unsafe(no_mangle)]
+pub extern "C" fn polyover_in_range_32(coordinates: &[i32]) -> u32
+    ensures in_range { (result ≡ 1) ↔ AreWithin (λ z. z) 1073741823 coordinates.now }
+    ensures bit { result ≤ 1 }
 {
-    let mut from = 0;
-    for end in ends {
-        if *end < from {
-            return false;
-        }
-        from = *end;
-    }
-    from == count
+    if are_within(coordinates) { 1 } else { 0 }
 }
 
-/// Returns whether each coordinate is in the coordinate range.
-pub fn are_within<I: IntNumber>(coordinates: &[I]) -> bool
-    ensures { IsTrue result ↔ AreWithin I.whole I.limit coordinates.now }
+/// Whether the contours fit their arrays, are in the coordinate range and resolved: the code of a status.
+#[unsafe(no_mangle)]
+pub extern "C" fn polyover_resolved(alloc: Global, shape: &Contours64) -> u32
+    ensures { (s : Status) × ReadsAs (λ z. z) 4611686018427387903 shape.now.coordinates.now shape.now.ends.now s
+        × (result ≡ code_of s) }
 {
-    for coordinate in coordinates {
-        if !coordinate.is_in_range() {
-            return false;
-        }
-    }
-    true
+    status_read(alloc, shape.coordinates, shape.ends).code()
 }
 
-/// Tests whether the coordinates have contours in the coordinate range, one up to each end: `Ends` comes exactly where
-/// they do not fit, `Range` exactly where they fit and a coordinate is out of range, and no other refusal.
-pub fn test_contours<I: IntNumber>(coordinates: &[I], ends: &[usize]) -> Result<(), Fault>
-    ensures { MatchResult result
-        (λ _. AreContours I.whole I.limit coordinates.now ends.now)
-        (HaveOwnFault I.whole I.limit coordinates.now ends.now) }
+/// `polyover_resolved` at 32 bits.
+#[unsafe(no_mangle)]
+pub extern "C" fn polyover_resolved_32(alloc: Global, shape: &Contours32) -> u32
+    ensures { (s : Status) × ReadsAs (λ z. z) 1073741823 shape.now.coordinates.now shape.now.ends.now s
+        × (result ≡ code_of s) }
 {
-    if !are_ends(ends, coordinates.len()) {
-        return Err(Fault::Ends);
-    }
-    if !are_within(coordinates) {
-        return Err(Fault::Range);
-    }
-    Ok(())
-}
-
-/// Tests whether the coordinates are points in the coordinate range: `Ends` comes exactly where they are an odd count,
-/// `Range` exactly where they are an even one and a coordinate is out of range, and no other refusal.
-pub fn test_points<I: IntNumber>(coordinates: &[I]) -> Result<(), Fault>
-    ensures { MatchResult result
-        (λ _. ArePoints I.whole I.limit coordinates.now)
-        (PointsHaveOwnFault I.whole I.limit coordinates.now) }
-{
-    if coordinates.len() % 2 != 0 {
-        return Err(Fault::Ends);
-    }
-    if !are_within(coordinates) {
-        return Err(Fault::Range);
-    }
-    Ok(())
-}
-
-/// Returns how many points the coordinates are.
-#[tactic(auto, using(crate::proofs::PointCounts::points_counted))]
-pub fn count_points<I: IntNumber>(coordinates: &[I]) -> usize
-    ensures { result ≡ length (points_of coordinates.now) }
-{
-    coordinates.len() / 2
+    status_read(alloc, shape.coordinates, shape.ends).code()
 }

@@ -58,6 +58,17 @@ impl Query for Related {
     }
 }
 
+/// One relation, by its bit.
+struct RelatedSo(u32, FillRule, Solver);
+
+impl Query for RelatedSo {
+    type Answer = bool;
+
+    fn ask<E: Engine>(&self, first: Given<'_, E::C>, second: Given<'_, E::C>) -> Result<bool, OverlayError> {
+        E::relate_one(self.0, self.1, self.2, first, second)
+    }
+}
+
 /// Contours of a subject and of a clip, to be asked how they lie to each other. Queries leave what was added as it is.
 #[derive(Debug, Clone)]
 pub struct PredicateOverlay<I: OverlayInt> {
@@ -211,11 +222,20 @@ impl<I: OverlayInt> PredicateOverlay<I> {
             self.clip.as_given(),
         )
     }
+
+    /// Whether the relation with a bit holds, under a fill rule, by a solver.
+    pub(crate) fn try_relation(&self, bit: u32, fill_rule: FillRule, solver: Solver) -> Result<bool, OverlayError> {
+        I::ask(
+            &RelatedSo(bit, fill_rule, solver),
+            self.subject.as_given(),
+            self.clip.as_given(),
+        )
+    }
 }
 
-/// Declares calls, one for each relation.
+/// Declares calls, one for each relation, with its bit.
 macro_rules! predicates {
-    ($($(#[$doc:meta])* $name:ident;)*) => {
+    ($($(#[$doc:meta])* $name:ident, $bit:literal;)*) => {
         impl<I: OverlayInt> PredicateOverlay<I> {$(
             $(#[$doc])*
             ///
@@ -223,7 +243,7 @@ macro_rules! predicates {
             /// Where [`Self::try_relations`] is refused.
             #[track_caller]
             pub fn $name(&mut self) -> bool {
-                answered(self.try_relations()).$name()
+                answered(self.try_relation($bit, self.fill_rule, self.solver))
             }
         )*}
     };
@@ -231,20 +251,20 @@ macro_rules! predicates {
 
 predicates! {
     /// Whether some point is in both, edges included.
-    intersects;
+    intersects, 1;
     /// Whether some point off the edges is in both.
-    interiors_intersect;
+    interiors_intersect, 2;
     /// Whether they intersect, and their interiors do not.
-    touches;
+    touches, 4;
     /// Whether they meet in single points alone.
-    point_intersects;
+    point_intersects, 8;
     /// Whether the subject lies within the clip.
-    within;
+    within, 16;
 }
 
-/// Declares the calls of a trait, one for each relation.
+/// Declares the calls of a trait, one for each relation, with its bit.
 macro_rules! relations_of_two {
-    ($($(#[$doc:meta])* $name:ident;)*) => {
+    ($($(#[$doc:meta])* $name:ident, $bit:literal;)*) => {
         /// Relations in one call, under the even-odd fill rule.
         ///
         /// ```
@@ -273,40 +293,54 @@ macro_rules! relations_of_two {
                 /// # Panics
                 /// Where [`Self::try_relations`] is refused.
                 #[track_caller]
-                fn $name(&self, other: &R) -> bool {
-                    answered(self.try_relations(other)).$name()
+                fn $name(&self, other: &R) -> bool;
+            )*
+        }
+
+        impl<R0, R1, I> IntRelate<R1, I> for R0
+        where
+            R0: IntShapeResource<I> + ?Sized,
+            R1: IntShapeResource<I> + ?Sized,
+            I: OverlayInt,
+        {
+            fn try_relations(&self, other: &R1) -> Result<Relations, OverlayError> {
+                ask_two(&Related(FillRule::EvenOdd, Solver::default()), self, other)
+            }
+
+            $(
+                fn $name(&self, other: &R1) -> bool {
+                    answered(ask_two(&RelatedSo($bit, FillRule::EvenOdd, Solver::default()), self, other))
                 }
             )*
         }
     };
 }
 
-relations_of_two! {
-    /// Whether some point is in both, edges included.
-    intersects;
-    /// Whether some point off the edges is in both.
-    interiors_intersect;
-    /// Whether they intersect, and their interiors do not.
-    touches;
-    /// Whether they meet in single points alone.
-    point_intersects;
-    /// Whether this one lies within the other.
-    within;
-    /// Whether they do not intersect.
-    disjoint;
-    /// Whether the other lies within this one.
-    covers;
-}
-
-impl<R0, R1, I> IntRelate<R1, I> for R0
+/// Asks of two resources.
+fn ask_two<Q, R0, R1, I>(query: &Q, subject: &R0, clip: &R1) -> Result<Q::Answer, OverlayError>
 where
+    Q: Query,
     R0: IntShapeResource<I> + ?Sized,
     R1: IntShapeResource<I> + ?Sized,
     I: OverlayInt,
 {
-    fn try_relations(&self, other: &R1) -> Result<Relations, OverlayError> {
-        let (subject, clip) = (Paths::of(self)?, Paths::of(other)?);
-        let query = Related(FillRule::EvenOdd, Solver::default());
-        I::ask(&query, subject.as_given(), clip.as_given())
-    }
+    let (subject, clip) = (Paths::of(subject)?, Paths::of(clip)?);
+    I::ask(query, subject.as_given(), clip.as_given())
+}
+
+relations_of_two! {
+    /// Whether some point is in both, edges included.
+    intersects, 1;
+    /// Whether some point off the edges is in both.
+    interiors_intersect, 2;
+    /// Whether they intersect, and their interiors do not.
+    touches, 4;
+    /// Whether they meet in single points alone.
+    point_intersects, 8;
+    /// Whether this one lies within the other.
+    within, 16;
+    /// Whether they do not intersect.
+    disjoint, 32;
+    /// Whether the other lies within this one.
+    covers, 64;
 }

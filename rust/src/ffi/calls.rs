@@ -71,6 +71,15 @@ pub(crate) trait Engine: 'static + Sized {
         clip: Given<'_, Self::C>,
     ) -> Result<u32, OverlayError>;
 
+    /// Whether the relation with the bit holds.
+    fn relate_one(
+        relation: u32,
+        fill: FillRule,
+        solver: Solver,
+        subject: Given<'_, Self::C>,
+        clip: Given<'_, Self::C>,
+    ) -> Result<bool, OverlayError>;
+
     /// Whether each contour is resolved.
     fn is_resolved(contours: Given<'_, Self::C>) -> Result<bool, OverlayError>;
 
@@ -204,6 +213,20 @@ macro_rules! engine {
                 // SAFETY: as said above.
                 done(unsafe { sys::$width::relate(fill.number(), solver.number(), &subject, &clip, &mut to) })?;
                 Ok(to)
+            }
+
+            fn relate_one(
+                relation: u32,
+                fill: FillRule,
+                solver: Solver,
+                subject: Given<'_, $c>,
+                clip: Given<'_, $c>,
+            ) -> Result<bool, OverlayError> {
+                let (fill, solver) = (fill.number(), solver.number());
+                let (subject, clip, mut to) = (subject.raw(), clip.raw(), 0);
+                // SAFETY: as said above.
+                done(unsafe { sys::$width::relate_one(relation, fill, solver, &subject, &clip, &mut to) })?;
+                Ok(to == 1)
             }
 
             fn is_resolved(contours: Given<'_, $c>) -> Result<bool, OverlayError> {

@@ -152,6 +152,15 @@ macro_rules! calls {
                     clip: *const Contours<$c>,
                     relations: *mut u32,
                 ) -> Status;
+                #[link_name = concat!("polyover_relate_one", $suffix)]
+                pub(crate) fn relate_one(
+                    relation: u32,
+                    fill: u32,
+                    solver: u32,
+                    subject: *const Contours<$c>,
+                    clip: *const Contours<$c>,
+                    holds: *mut u32,
+                ) -> Status;
                 #[link_name = concat!("polyover_resolved", $suffix)]
                 pub(crate) fn resolved(contours: *const Contours<$c>) -> Status;
                 #[link_name = concat!("polyover_locate", $suffix)]

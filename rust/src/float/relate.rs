@@ -11,9 +11,9 @@ use crate::i_float::float::compatible::FloatPointCompatible;
 use crate::i_shape::source::resource::ShapeResource;
 use ::core::marker::PhantomData;
 
-/// Declares the calls, one for each relation.
+/// Declares the calls, one for each relation, with its bit.
 macro_rules! relations_of_floats {
-    ($($(#[$doc:meta])* $name:ident;)*) => {
+    ($($(#[$doc:meta])* $name:ident, $bit:literal;)*) => {
         /// Relations in one call, under the even-odd fill rule, on the finest grid of 61 bits.
         ///
         /// ```
@@ -49,8 +49,27 @@ macro_rules! relations_of_floats {
                 /// # Panics
                 /// Where [`Self::try_relations`] is refused.
                 #[track_caller]
-                fn $name(&self, other: &R) -> bool {
-                    answered(self.try_relations(other)).$name()
+                fn $name(&self, other: &R) -> bool;
+            )*
+        }
+
+        impl<R0, R1, P> FloatRelate<R1, P> for R0
+        where
+            R0: ShapeResource<P> + ?Sized,
+            R1: ShapeResource<P> + ?Sized,
+            P: FloatPointCompatible,
+        {
+            fn try_relations_on<I: OverlayInt>(&self, other: &R1, grid: &Grid<I>) -> Result<Relations, OverlayError> {
+                FloatPredicateOverlay::<P, I>::try_on(self, other, grid)?.try_relations()
+            }
+
+            fn try_relations(&self, other: &R1) -> Result<Relations, OverlayError> {
+                FloatPredicateOverlay::<P>::try_from_subj_and_clip(self, other)?.try_relations()
+            }
+
+            $(
+                fn $name(&self, other: &R1) -> bool {
+                    answered(FloatPredicateOverlay::<P>::try_from_subj_and_clip(self, other)).$name()
                 }
             )*
         }
@@ -62,7 +81,7 @@ macro_rules! relations_of_floats {
             /// Where [`Self::try_relations`] is refused.
             #[track_caller]
             pub fn $name(&mut self) -> bool {
-                answered(self.try_relations()).$name()
+                answered(self.overlay.try_relation($bit, self.fill_rule, self.solver))
             }
         )*}
     };
@@ -70,34 +89,19 @@ macro_rules! relations_of_floats {
 
 relations_of_floats! {
     /// Whether some point is in both, edges included.
-    intersects;
+    intersects, 1;
     /// Whether some point off the edges is in both.
-    interiors_intersect;
+    interiors_intersect, 2;
     /// Whether they intersect, and their interiors do not.
-    touches;
+    touches, 4;
     /// Whether they meet in single points alone.
-    point_intersects;
+    point_intersects, 8;
     /// Whether the first one lies within the second one.
-    within;
+    within, 16;
     /// Whether they do not intersect.
-    disjoint;
+    disjoint, 32;
     /// Whether the second one lies within the first one.
-    covers;
-}
-
-impl<R0, R1, P> FloatRelate<R1, P> for R0
-where
-    R0: ShapeResource<P> + ?Sized,
-    R1: ShapeResource<P> + ?Sized,
-    P: FloatPointCompatible,
-{
-    fn try_relations_on<I: OverlayInt>(&self, other: &R1, grid: &Grid<I>) -> Result<Relations, OverlayError> {
-        FloatPredicateOverlay::<P, I>::try_on(self, other, grid)?.try_relations()
-    }
-
-    fn try_relations(&self, other: &R1) -> Result<Relations, OverlayError> {
-        self.try_relations_on(other, &Grid::<i64>::finest(self, other)?)
-    }
+    covers, 64;
 }
 
 /// Contours of floats, to be asked how they lie to each other.

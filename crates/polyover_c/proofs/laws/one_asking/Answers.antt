@@ -1,6 +1,0 @@
--- The law is proved in proofs/Asking.antt.
-use Rattle.polyover_c.proofs.Asking.{askings_are_one}
-use Rattle.polyover_c.proofs.laws.one_asking.Goals as goal
-
-pub returns : goal.returns
-returns g c = askings_are_one g.I.IntNumber.whole g.I.IntNumber.limit

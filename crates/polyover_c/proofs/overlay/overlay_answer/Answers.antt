@@ -1,8 +1,0 @@
--- The shapes of the builder's answer stand in the arrays.
-use Rattle.polyover_c.proofs.Overlays.{overlay_answered}
-use Rattle.polyover_c.proofs.overlay.overlay_answer.Goals as goal
-
-pub returns : goal.returns
-returns g c = overlay_answered g.I.IntNumber.whole g.I.IntNumber.limit c.args.rule c.args.fill c.args.options _ _ _ _ _
-    c.in_ok-asked.ensures _ g.I.Wide.WideIntNumber.width g.I.WideUInt.UIntNumber.natural _ c.in_ok-flat.ensures.answers
-    c.in_ok-answer.ensures.flattened

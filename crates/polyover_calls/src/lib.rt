@@ -1,0 +1,43 @@
+//! The calls for C, over the arrays that C passes, but for their exports.
+#![tactic(auto)]
+
+pub mod answer;
+pub mod array_laws;
+pub mod arrays;
+pub mod asked;
+pub mod clip;
+pub mod clip_options;
+pub mod counts;
+pub mod edges;
+mod fault;
+mod flatten;
+pub mod given;
+pub mod held;
+pub mod hierarchy;
+pub mod holding;
+pub mod laws;
+pub mod linked_answer;
+pub mod links;
+pub mod locate;
+mod narrowed;
+pub mod numbers;
+pub mod only_answers;
+pub mod only_faults;
+pub mod only_puts;
+pub mod options;
+pub mod overlay;
+pub mod path_answer;
+pub mod path_counts;
+pub mod prepare;
+pub mod prepared;
+pub mod prepared_points;
+mod read;
+pub mod relate;
+pub mod relate_one;
+mod relation;
+pub mod shape;
+pub mod simplify;
+pub mod slice;
+pub mod status;
+pub mod test;
+mod write;
