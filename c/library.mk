@@ -1,14 +1,24 @@
 # The library of its assembly: static, shared, and installed. c/Makefile includes it, and in a release of assembly it is
-# the Makefile: `make`, `make install PREFIX=/usr/local`, `make check`. It takes a C compiler (CC) for x86-64 or aarch64
-# Linux, with binutils.
+# the Makefile. It takes a C compiler (CC) for x86-64 or aarch64 Linux, with binutils.
+#
+#   make                                          builds out/libpolyover.a and out/libpolyover.so
+#   make install PREFIX=/usr/local [DESTDIR=..]   installs them, headers, a manual, and files of pkg-config and CMake;
+#                                                 with PROGRAM=FILE the program in that file and its manual too
+#   make uninstall                                with the same words removes what that installs
+#   make check                                    runs the example
+#   make clean                                    removes what is built
 
 PREFIX ?= /usr/local
 LIBDIR ?= $(PREFIX)/lib
 INCLUDEDIR ?= $(PREFIX)/include
+BINDIR ?= $(PREFIX)/bin
+MANDIR ?= $(PREFIX)/share/man
 DESTDIR ?=
 HERE := $(patsubst %/,%,$(dir $(lastword $(MAKEFILE_LIST))))
 # (a release has all in one folder)
 HEADER := $(firstword $(wildcard $(HERE)/../include/polyover.h) $(HERE)/polyover.h)
+HEADER_OF_CPP := $(HEADER:.h=.hpp)
+MANUALS := $(firstword $(wildcard $(HERE)/../docs/man) $(HERE))
 # the processor that the compiler makes code for: x86_64 or aarch64
 PROCESSOR := $(firstword $(subst -, ,$(shell $(CC) -dumpmachine)))
 OUT ?= out
@@ -26,7 +36,7 @@ SONAME := libpolyover.so.$(MAJOR)$(if $(filter 0,$(MAJOR)),.$(call said,MINOR))
 IN_C := $(patsubst $(HERE)/%.c,$(OUT)/%.o,$(HERE)/heap.c $(wildcard $(HERE)/library*.c))
 
 .DELETE_ON_ERROR:
-.PHONY: library install check
+.PHONY: library install uninstall check clean
 
 library: $(OUT)/libpolyover.a $(OUT)/libpolyover.so
 
@@ -65,8 +75,9 @@ filled = sed -e 's|@VERSION@|$(VERSION)|g' -e 's|@PREFIX@|$(shell realpath -m --
   -e 's|@SHARED@|$(SHARED)|g' -e 's|@SONAME@|$(SONAME)|g'
 
 install: library
-	install -d $(DESTDIR)$(INCLUDEDIR) $(DESTDIR)$(LIBDIR)/pkgconfig $(DESTDIR)$(LIBDIR)/cmake/polyover
-	install -m 644 $(HEADER) $(DESTDIR)$(INCLUDEDIR)/polyover.h
+	install -d $(DESTDIR)$(INCLUDEDIR) $(DESTDIR)$(LIBDIR)/pkgconfig $(DESTDIR)$(LIBDIR)/cmake/polyover \
+	  $(DESTDIR)$(MANDIR)/man3
+	install -m 644 $(HEADER) $(HEADER_OF_CPP) $(DESTDIR)$(INCLUDEDIR)
 	install -m 644 $(OUT)/libpolyover.a $(DESTDIR)$(LIBDIR)
 	install -m 755 $(OUT)/$(SHARED) $(DESTDIR)$(LIBDIR)
 	ln -sf $(SHARED) $(DESTDIR)$(LIBDIR)/$(SONAME)
@@ -74,9 +85,23 @@ install: library
 	$(call filled,$(LIBDIR)/pkgconfig) $(HERE)/polyover.pc.in > $(DESTDIR)$(LIBDIR)/pkgconfig/polyover.pc
 	for file in polyoverConfig polyoverConfigVersion; do $(call filled,$(LIBDIR)/cmake/polyover) $(HERE)/$$file.cmake.in \
 	  > $(DESTDIR)$(LIBDIR)/cmake/polyover/$$file.cmake || exit 1; done
+	install -m 644 $(MANUALS)/polyover.3 $(DESTDIR)$(MANDIR)/man3
+	$(if $(PROGRAM),install -d $(DESTDIR)$(BINDIR) $(DESTDIR)$(MANDIR)/man1)
+	$(if $(PROGRAM),install -m 755 $(PROGRAM) $(DESTDIR)$(BINDIR)/polyover)
+	$(if $(PROGRAM),install -m 644 $(MANUALS)/polyover.1 $(DESTDIR)$(MANDIR)/man1)
+
+uninstall:
+	rm -f $(DESTDIR)$(INCLUDEDIR)/polyover.h $(DESTDIR)$(INCLUDEDIR)/polyover.hpp $(DESTDIR)$(LIBDIR)/libpolyover.a \
+	  $(DESTDIR)$(LIBDIR)/libpolyover.so $(DESTDIR)$(LIBDIR)/$(SONAME) $(DESTDIR)$(LIBDIR)/$(SHARED) \
+	  $(DESTDIR)$(LIBDIR)/pkgconfig/polyover.pc $(DESTDIR)$(MANDIR)/man3/polyover.3
+	rm -rf $(DESTDIR)$(LIBDIR)/cmake/polyover
+	$(if $(PROGRAM),rm -f $(DESTDIR)$(BINDIR)/polyover $(DESTDIR)$(MANDIR)/man1/polyover.1)
 
 $(OUT)/example: $(HERE)/example.c $(HEADER) $(OUT)/libpolyover.a
 	$(CC) -std=c11 -O2 -I$(dir $(HEADER)) $< $(OUT)/libpolyover.a -o $@
 
 check: $(OUT)/example
 	$(RUN) $(OUT)/example
+
+clean:
+	rm -rf $(OUT)

@@ -18,7 +18,8 @@ from dataclasses import dataclass
 from pathlib import Path
 
 from toolchain import ROOT, answer_of, clang, kit, text_of
-from unproved import LIBRARY, crate_uses, crates_below, leave_library, library_text
+from unproved import LIBRARY, leave_library, library_text
+from workspace import crate_uses, crates_below
 
 MODULE = ROOT / "crates" / LIBRARY / "out" / f"{LIBRARY}.bc"
 CHECKED = ROOT / "out" / "checked" / f"{LIBRARY}.bc"

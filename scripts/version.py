@@ -11,6 +11,8 @@ PLACES = {
     "js/package.json": r'^  "version": "(.*)",$',
     "rust/Cargo.toml": r'^version = "(.*)"$',
     "c/CMakeLists.txt": r"^find_package\(polyover (\S+) REQUIRED\)$",
+    "docs/man/polyover.1": r'^\.TH .*"polyover (\S+)"',
+    "docs/man/polyover.3": r'^\.TH .*"polyover (\S+)"',
     "include/polyover.h": r'^#define POLYOVER_VERSION "(.*)"$',
     "CHANGELOG.md": r"^## (.*)$",
 }
