@@ -6,6 +6,7 @@
  */
 
 import { inkOf } from "./palette.js";
+import { DASHES, PATH_DASHES, shapeOf, tickOf } from "./signs.js";
 import { MOST_FINE, fillWay, strokeWays, wayOf } from "./trace.js";
 import { gridStep, multiples } from "./view.js";
 
@@ -18,8 +19,6 @@ const TICK = 6;
 const DOT = 3.2;
 /** How far from the top, in pixels, labels stand: the buttons are above. */
 const BELOW = 130;
-/** How a contour is dashed over the answer, by its kind: so they are told apart without their colours. */
-const DASHES = { subject: [7, 4], clip: [2, 3] };
 
 /** The number of points in some paths. */
 const countOf = (paths) => paths.reduce((sum, path) => sum + path.length, 0);
@@ -57,9 +56,6 @@ function isSpeck(view, path) {
   for (const [u, v] of path) if (Math.abs(u - x) > reach || Math.abs(v - y) > reach) return false;
   return path.length > 0;
 }
-
-/** The shapes of points by where they lie: so they are told apart without their colours. */
-const SHAPES = { inside: "disc", boundary: "square", outside: "cross" };
 
 /** Paints a dot of a shape. */
 function paintDot(context, left, top, /** @type {number} */ size, /** @type {string} */ shape) {
@@ -115,6 +111,7 @@ const PAINTED = {
     strokeWays(context, view, waysOf(view, mark.paths), true);
   },
   path(context, view, mark) {
+    if (PATH_DASHES[mark.colour] && !isPlain(mark.paths)) context.setLineDash(PATH_DASHES[mark.colour]);
     context.lineWidth = thinned(context, mark.paths, mark.width);
     strokeWays(context, view, waysOf(view, mark.paths), false);
   },
@@ -123,7 +120,7 @@ const PAINTED = {
     for (const [[x, y]] of mark.paths) {
       const [left, top] = view.toPixels(x, y);
       if (!isSeen(view, left, top)) continue;
-      paintDot(context, left, top, mark.width ?? DOT, SHAPES[mark.colour] ?? "disc");
+      paintDot(context, left, top, mark.width ?? DOT, shapeOf(mark.colour));
     }
   },
   ring(context, view, mark) {
@@ -150,13 +147,14 @@ const PAINTED = {
   },
   tick(context, view, mark) {
     context.beginPath();
-    for (const [[ax, ay], [bx, by]] of mark.paths) {
-      const [left, top] = view.toPixels(ax + (bx - ax) * mark.along, ay + (by - ay) * mark.along);
+    for (const path of mark.paths) {
+      const { place: [left, top], way: [right, down], foot: [x, y] } = tickOf(view, mark, path, TICK);
       if (!isSeen(view, left, top)) continue;
-      const length = Math.hypot(bx - ax, by - ay) || 1;
-      const reach = (TICK * mark.side) / length;
       context.moveTo(left, top);
-      context.lineTo(left - (by - ay) * reach, top - (bx - ax) * reach);
+      context.lineTo(left + right, top + down);
+      if (!x && !y) continue;
+      context.moveTo(left + right - x, top + down - y);
+      context.lineTo(left + right + x, top + down + y);
     }
     context.lineWidth = 2.4;
     context.stroke();

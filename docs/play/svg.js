@@ -5,6 +5,7 @@
 
 import { PRINTED } from "./palette.js";
 import { legendOf } from "./scene.js";
+import { DASHES, PATH_DASHES, shapeOf, tickOf } from "./signs.js";
 import { gridStep, multiples } from "./view.js";
 
 const LEGEND = 190;
@@ -27,29 +28,44 @@ const WRITTEN = {
     `fill-opacity="${mark.strength}" fill-rule="${mark.fillRule}" stroke="${mark.width ? colour : "none"}" ` +
     `stroke-width="${mark.width}" stroke-linejoin="round"/>`,
   outline: (view, mark, colour) => {
-    const dashes = mark.dashed ? ' stroke-dasharray="6 4"' : "";
+    const dashes = mark.dashed ? dashed(DASHES[mark.colour] ?? DASHES.subject) : "";
     return each(mark, (path) => `<path d="${wayOf(view, path)}Z" fill="none" stroke="${colour}"${dashes}/>`);
   },
-  path: (view, mark, colour) =>
-    each(
-      mark,
-      (path) => `<path d="${wayOf(view, path)}" fill="none" stroke="${colour}" stroke-width="${mark.width}"/>`,
-    ),
-  dot: (view, mark, colour) => each(mark, ([point]) => circle(view, point, mark.width ?? 3.5, `fill="${colour}"`)),
+  path: (view, mark, colour) => {
+    const words = `fill="none" stroke="${colour}" stroke-width="${mark.width}"${dashed(PATH_DASHES[mark.colour])}`;
+    return each(mark, (path) => `<path d="${wayOf(view, path)}" ${words}/>`);
+  },
+  dot: (view, mark, colour) =>
+    each(mark, ([[x, y]]) => dot(...view.toPixels(x, y), mark.width ?? 3.5, shapeOf(mark.colour), colour)),
   ring: (view, mark, colour) => each(mark, ([point]) => circle(view, point, 5, `fill="none" stroke="${colour}"`)),
   hop: (view, mark, colour) =>
     each(mark, (path) => `<path d="${wayOf(view, path)}" stroke="${colour}" stroke-dasharray="2 2"/>`),
   tick: (view, mark, colour) =>
-    each(mark, ([a, b]) => {
-      const point = [0, 1].map((at) => a[at] + (b[at] - a[at]) * mark.along);
-      const [left, top] = view.toPixels(point[0], point[1]);
-      const reach = (TICK * mark.side) / (Math.hypot(b[0] - a[0], b[1] - a[1]) || 1);
-      const way = [left, top, -(b[1] - a[1]) * reach, -(b[0] - a[0]) * reach].map(rounded);
-      return `<path d="M${way[0]} ${way[1]}l${way[2]} ${way[3]}" stroke="${colour}" stroke-width="2.4"/>`;
+    each(mark, (path) => {
+      const { place, way, foot } = tickOf(view, mark, path, TICK);
+      const end = [0, 1].map((at) => place[at] + way[at] - foot[at]);
+      const lines = [[...place, ...way], ...(foot[0] || foot[1] ? [[...end, 2 * foot[0], 2 * foot[1]]] : [])];
+      const ways = lines.map((line) => line.map(rounded)).map(([x, y, u, v]) => `M${x} ${y}l${u} ${v}`);
+      return `<path d="${ways.join("")}" stroke="${colour}" stroke-width="2.4"/>`;
     }),
 };
 
 const each = (mark, write) => mark.paths.filter((path) => path.length).map(write).join("");
+
+/** What says of a line that it is dashed, where it is. */
+const dashed = (/** @type {number[] | undefined} */ dashes) =>
+  dashes ? ` stroke-dasharray="${dashes.join(" ")}"` : "";
+
+/** A point of a shape. */
+function dot(x, y, /** @type {number} */ size, /** @type {string} */ shape, /** @type {string} */ colour) {
+  const [left, top] = [x, y].map(rounded);
+  if (shape === "square") {
+    return `<rect x="${left - size}" y="${top - size}" width="${2 * size}" height="${2 * size}" fill="${colour}"/>`;
+  }
+  if (shape === "disc") return `<circle cx="${left}" cy="${top}" r="${size}" fill="${colour}"/>`;
+  const ways = [-1, 1].map((way) => `M${left - size} ${top - way * size}l${2 * size} ${2 * way * size}`);
+  return `<path d="${ways.join("")}" stroke="${colour}" stroke-width="2.4"/>`;
+}
 
 function circle(view, point, radius, paint) {
   const [left, top] = view.toPixels(point[0], point[1]).map(rounded);
@@ -96,8 +112,8 @@ function legend(view, title, marks) {
       area:
         `<rect x="${x}" y="${y - 9}" width="14" height="10" fill="${colour}" fill-opacity="0.5" ` +
         `stroke="${colour}"/>`,
-      path: `<path d="M${x} ${y - 4}h14" stroke="${colour}" stroke-width="2"/>`,
-      dot: `<circle cx="${x + 7}" cy="${y - 4}" r="3.5" fill="${colour}"/>`,
+      path: `<path d="M${x} ${y - 4}h14" stroke="${colour}" stroke-width="2"${dashed(PATH_DASHES[name])}/>`,
+      dot: dot(x + 7, y - 4, 3.5, shapeOf(name), colour),
     }[kind];
     return `${sign}<text x="${x + 22}" y="${y}">${name}</text>`;
   });

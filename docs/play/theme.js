@@ -25,10 +25,14 @@ function show(/** @type {string | null} */ theme) {
   if (theme === "light") dark.media = "not all";
 }
 
-/** Shows the theme that was chosen before, and calls `changed` after each change. */
+/**
+ * Shows the theme that was chosen before, and calls `changed` after each change: of the system, and once the styles of
+ * a chosen theme hold, which in WebKit is later than their `media` is set.
+ */
 export function beginTheme(/** @type {() => void} */ changed) {
   show(kept());
   system.addEventListener("change", changed);
+  dark.addEventListener("load", changed);
 }
 
 /** Shows the other theme. */

@@ -1,18 +1,14 @@
 """The page in a browser: what a test does with it, and what it sees."""
 
 import atexit
-import json
 import os
 import re
 import socket
 import threading
 import time
 from functools import lru_cache
+from importlib import import_module
 from pathlib import Path
-
-from selenium import webdriver
-from selenium.common.exceptions import WebDriverException
-from selenium.webdriver.chrome.service import Service
 
 from polyover.play import HOST, page, server_of
 
@@ -24,25 +20,12 @@ DRAWN = (
     "#subject=0+0+10+0+10+8+0+8&subject=2+2+2+6+6+6+6+2&clip=4+-2+14+3+5+11&line=-2+3+12+4&line=2+6+6+6+9+9"
     "&point=1+1&point=4+4&point=10+4&run=overlay+Union+NonZero+ogc"
 )
-CHROMIUM, DRIVER = "/usr/bin/chromium", "/usr/bin/chromedriver"
-# (it runs as root, and where /dev/shm is small; the page is never in the background, and no page that was left is kept)
-WORDS = (
-    "--headless=new",
-    "--no-sandbox",
-    "--disable-dev-shm-usage",
-    "--disable-gpu",
-    "--force-device-scale-factor=1",
-    "--force-color-profile=srgb",
-    "--disable-renderer-backgrounding",
-    "--disable-backgrounding-occluded-windows",
-    "--disable-background-timer-throttling",
-    "--disable-background-networking",
-    "--disable-features=BackForwardCache",
-)
+# the browser: Chromium, Firefox or WebKit
+ENGINE = os.environ.get("POLYOVER_BROWSER", "Chromium")
 # how many seconds an answer may take on a machine that is busy
 PATIENCE = 120
-# how often the browser is started, where it ends at once
-STARTS = 3
+# (an address that keeps nothing refuses it)
+FORGOTTEN = "try { localStorage.clear(); } catch { }"
 SETTLED = "return !polyover.engine.isBusy && polyover.state.answer?.drawing === polyover.state.drawing"
 # whether the window has a size, and the board of the page, if it is there, has taken its own of that
 SIZED = """
@@ -83,22 +66,11 @@ def recorded(server):
     return paths
 
 
-def started():
-    """The driver of a browser. (Its port is free when it is looked for, and may be taken when the driver begins.)"""
-    options = webdriver.ChromeOptions()
-    options.binary_location = CHROMIUM
-    for word in WORDS:
-        options.add_argument(word)
-    options.set_capability("goog:loggingPrefs", {"browser": "ALL", "performance": "ALL"})
-    # (requests to this machine go to no proxy)
-    options.ignore_local_proxy_environment_variables()
-    for start in range(STARTS):
-        try:
-            return webdriver.Chrome(service=Service(DRIVER, log_output=os.devnull), options=options)
-        except WebDriverException:
-            if start + 1 == STARTS:
-                raise
-    return None
+def engine_of(name):
+    """The browser of a name."""
+    # (each needs what another does not)
+    module = import_module(f".{name.lower()}", __package__)
+    return getattr(module, name)(PATIENCE)
 
 
 class Browser:
@@ -109,12 +81,11 @@ class Browser:
         self.paths = recorded(self.server)
         threading.Thread(target=self.server.serve_forever, daemon=True).start()
         self.base = f"http://{HOST}:{self.server.server_address[1]}/"
-        self.driver = started()
-        self.driver.set_script_timeout(PATIENCE)
+        self.engine = engine_of(ENGINE)
 
     def end(self):
         """Ends the browser and the server."""
-        self.driver.quit()
+        self.engine.end()
         self.server.shutdown()
         self.server.server_close()
 
@@ -122,26 +93,22 @@ class Browser:
 
     def size(self, width=1200, height=800, is_dark=False, is_moving=False):
         """Gives the window a size, and the system a theme; and says whether it asks for reduced motion."""
-        metrics = {"width": width, "height": height, "deviceScaleFactor": 1, "mobile": False}
-        self.driver.execute_cdp_cmd("Emulation.setDeviceMetricsOverride", metrics)
-        theme = {"name": "prefers-color-scheme", "value": "dark" if is_dark else "light"}
-        motion = {"name": "prefers-reduced-motion", "value": "no-preference" if is_moving else "reduce"}
-        self.driver.execute_cdp_cmd("Emulation.setEmulatedMedia", {"features": [theme, motion]})
+        self.engine.emulate(width, height, is_dark, is_moving)
         self.until(SIZED, width, height)
         self.frames()
 
     def leave(self):
         """Leaves the page, with all that it keeps, and forgets its messages and requests."""
-        self.driver.get("about:blank")
-        kept = {"origin": self.base.rstrip("/"), "storageTypes": "local_storage"}
-        self.driver.execute_cdp_cmd("Storage.clearDataForOrigin", kept)
-        self.requests()
-        self.messages()
+        self.run(FORGOTTEN)
+        self.engine.get("about:blank")
+        if ENGINE == "Chromium":
+            self.engine.requests()
+            self.engine.messages()
 
     def load(self, part="", address=None):
         """Loads the page anew, with a hash, and waits for its first answer."""
         self.leave()
-        self.driver.get((address or self.base) + part)
+        self.engine.get((address or self.base) + part)
         self.wait()
 
     def open(self, part):
@@ -183,7 +150,16 @@ class Browser:
 
     def run(self, script, *words):
         """What a script answers."""
-        return self.driver.execute_script(script, *words)
+        return self.engine.run(script, *words)
+
+    def run_later(self, script, *words):
+        """What a script calls its last argument with."""
+        return self.engine.run_later(script, *words)
+
+    def refresh(self):
+        """Loads the page anew, as it is, and waits for its answer."""
+        self.engine.refresh()
+        self.wait()
 
     def until(self, script, *words):
         """Waits until a script answers what is true."""
@@ -201,7 +177,7 @@ class Browser:
 
     def frames(self):
         """Waits for two frames, so that the page has painted."""
-        self.driver.execute_async_script("requestAnimationFrame(() => requestAnimationFrame(arguments[0]))")
+        self.run_later("requestAnimationFrame(() => requestAnimationFrame(arguments[0]))")
 
     def answer(self):
         """The answer, once it is that of what is drawn."""
@@ -222,66 +198,53 @@ class Browser:
 
     def messages(self):
         """What the console holds, since it was asked last."""
-        return self.driver.get_log("browser")
+        return self.engine.messages()
 
     def requests(self):
         """The addresses that were asked for, since this was asked last."""
-        found = [json.loads(each["message"])["message"] for each in self.driver.get_log("performance")]
-        return [each["params"]["request"]["url"] for each in found if each["method"] == "Network.requestWillBeSent"]
+        return self.engine.requests()
 
     # ---- the hand
 
-    def mouse(self, kind, x, y, button="left", clicks=1):
-        """An event of the mouse at a point of the drawing."""
-        left, top = self.run(PLACE, x, y)
-        held = {"left": 1, "right": 2}[button] if kind != "mouseReleased" else 0
-        event = {"type": kind, "x": left, "y": top, "button": button, "buttons": held, "clickCount": clicks}
-        if kind == "mouseMoved" and button == "none":
-            event |= {"buttons": 0}
-        self.driver.execute_cdp_cmd("Input.dispatchMouseEvent", event)
+    def mouse(self, kind, x, y, button="left"):
+        """Presses a button of the mouse at a point of the drawing (`down`), leaves it (`up`), or moves it (`move`)."""
+        self.engine.mouse(kind, *self.run(PLACE, x, y), button)
 
     def drag(self, start, *others):
         """Drags from a point through others."""
-        self.mouse("mousePressed", *start)
+        self.mouse("down", *start)
         for each in others:
-            self.mouse("mouseMoved", *each)
-        self.mouse("mouseReleased", *(others or [start])[-1])
+            self.mouse("move", *each)
+        self.mouse("up", *(others or [start])[-1])
         self.wait()
 
     def click(self, x, y, button="left"):
         """Clicks at a point."""
-        self.mouse("mousePressed", x, y, button)
-        self.mouse("mouseReleased", x, y, button)
+        self.mouse("down", x, y, button)
+        self.mouse("up", x, y, button)
         self.wait()
 
     def double_click(self, x, y):
         """Clicks twice at a point."""
-        for clicks in (1, 2):
-            self.mouse("mousePressed", x, y, clicks=clicks)
-            self.mouse("mouseReleased", x, y, clicks=clicks)
+        self.engine.double_click(*self.run(PLACE, x, y))
         self.wait()
 
     def wheel(self, x, y, down):
         """Turns the wheel over a point, by some pixels."""
-        left, top = self.run(PLACE, x, y)
-        event = {"type": "mouseWheel", "x": left, "y": top, "deltaX": 0, "deltaY": down}
-        self.driver.execute_cdp_cmd("Input.dispatchMouseEvent", event)
+        self.engine.wheel(*self.run(PLACE, x, y), down)
         self.wait()
 
     def touch(self, *places):
         """Moves fingers, each by a list of points, and lifts them."""
         ways = [[dict(zip("xy", self.run(PLACE, *point))) for point in points] for points in places]
         for at, points in enumerate(zip(*ways)):
-            event = {"type": "touchMove" if at else "touchStart", "touchPoints": list(points)}
-            self.driver.execute_cdp_cmd("Input.dispatchTouchEvent", event)
-        self.driver.execute_cdp_cmd("Input.dispatchTouchEvent", {"type": "touchEnd", "touchPoints": []})
+            self.engine.touch("touchMove" if at else "touchStart", list(points))
+        self.engine.touch("touchEnd", [])
         self.wait()
 
     def hover(self, x, y):
         """Moves the pointer to a point."""
-        left, top = self.run(PLACE, x, y)
-        event = {"type": "mouseMoved", "x": left, "y": top, "button": "none", "buttons": 0}
-        self.driver.execute_cdp_cmd("Input.dispatchMouseEvent", event)
+        self.mouse("move", x, y, "none")
         self.wait()
 
     def press(self, selector):
@@ -309,7 +272,7 @@ class Browser:
             URL.createObjectURL = made;
             HTMLAnchorElement.prototype.click = click;
         """
-        return self.driver.execute_async_script(script, what)
+        return self.run_later(script, what)
 
     def give(self, name, text):
         """Opens a file of a name and a text. (Once the page has taken it, its field is empty.)"""

@@ -16,7 +16,7 @@ def main():
     page.example("picture")
     page.until("return polyover.gallery.painted === polyover.state.figures")
     page.hover(2.5, 0.5)
-    page.driver.save_screenshot(str(PICTURE))
+    PICTURE.write_bytes(page.engine.picture())
     sheets = {theme: HERE / f"{theme}.png" for theme in THEMES}
     for theme, file in sheets.items():
         draw_sheet(page, theme)

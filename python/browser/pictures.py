@@ -95,4 +95,4 @@ def others_in(page, theme, count):
     """How many pixels of each picture are others than those of the stored one."""
     stored = b64encode((HERE / f"{theme}.png").read_bytes()).decode()
     words = f"data:image/png;base64,{stored}", count, DISTANCE
-    return page.driver.execute_async_script(COMPARED, *words)
+    return page.run_later(COMPARED, *words)

@@ -188,7 +188,7 @@ class Answers(unittest.TestCase):
     def test_unresolved_contour_is_a_fault(self):
         self.page.open("#subject=0+0+4+4+4+0+0+4&point=1+1&run=locate")
         self.assertEqual(self.page.answer()["name"], "NotResolved")
-        self.assertIn("contour 0", self.page.text("answer"))
+        self.assertIn("contour 1", self.page.text("answer"))
 
     def test_nothing(self):
         self.page.press("#clear")

