@@ -1,4 +1,4 @@
-"""Overlays of files of GeoJSON, and pictures."""
+"""Overlays of files of GeoJSON, GeoJSONSeq, WKT, WKB, GeoPackage and Shapefile, and pictures."""
 
 from __future__ import annotations
 
@@ -10,15 +10,15 @@ from typing import Any, Callable, Mapping, Sequence
 
 from . import calls, runs
 from .answers import say, warnings_as_lines
-from .errors import PolyoverError
-from .files import STANDARD, leave
+from .errors import OutOfMemory, PolyoverError
+from .formats import STANDARD, STREAMED
 from .interrupts import end_at_once, end_by_interrupt
-from .one_file import page_in_one
+from .leaving import leave, parted
+from .memory import is_of_memory, limited, size_in
 from .picture import WIDTH
-from .play import page, serve
 from .program import program
 from .running import run
-from .streams import write_all
+from .streams import told, write_all
 from .text import FILLS, RULES, SNAPPED, SOLVERS
 
 LEAST_WIDTH = 400
@@ -103,6 +103,10 @@ def add_files(command: argparse.ArgumentParser, name: str) -> None:
         command.add_argument("--solver", choices=SOLVERS, default=SNAPPED, help=splits)
     skips = "leave out, and count, rings of less than three points and lines of less than two"
     command.add_argument("--skip-invalid", action="store_true", help=skips)
+    cuts = "cut polygons and lines that pass the antimeridian at 180 degrees first; without it coordinates are planar"
+    command.add_argument("--antimeridian", choices=["cut"], help=cuts)
+    streamed = "the format of standard input and output (geojson); that of a file is told by the end of its name"
+    command.add_argument("--format", choices=list(STREAMED), default="geojson", help=streamed)
 
 
 def add_answers(command: argparse.ArgumentParser, name: str) -> None:
@@ -111,7 +115,13 @@ def add_answers(command: argparse.ArgumentParser, name: str) -> None:
     command.add_argument("--out", metavar="FILE", help=f"where the {what} goes, if not to standard output")
     if name not in ("relate", "svg"):
         command.add_argument("--svg", metavar="FILE", help="where a picture goes")
-    command.add_argument("--quiet", action="store_true", help="no bar or line of work that takes long")
+        drops = "leave out, and count, what the format of the answer does not hold, as properties of WKT"
+        command.add_argument("--drop", action="store_true", help=drops)
+    quiets = "no bar or line of work that takes long"
+    quiets += "" if name == "svg" else ", and no warning of rings and lines that span more than 180 degrees"
+    command.add_argument("--quiet", action="store_true", help=quiets)
+    limits = "a limit on memory, as 500M or 4G, from 64M on: beyond it the command is refused, with status 1"
+    command.add_argument("--memory", type=size_in, metavar="SIZE", help=limits)
     if name != "relate":
         command.add_argument("--width", type=width_in, default=WIDTH, metavar="N", help=f"of the picture ({WIDTH})")
 
@@ -143,8 +153,12 @@ def run_program(_: argparse.Namespace) -> int:
 
 def run_play(given: argparse.Namespace) -> None:
     """The page on which contours are drawn, served on this machine alone, or left as one file"""
+    # (a server of http takes as long to import as all else)
+    from .one_file import page_in_one
+    from .play import page, serve
+
     if given.out:
-        leave([(page_in_one(page()), given.out)])
+        leave([(parted(page_in_one(page())), given.out)])
     else:
         serve(given.port)
 
@@ -223,6 +237,19 @@ def parsed(words: Sequence[str] | None) -> argparse.Namespace:
     return parser.parse_args(with_keep(sys.argv[1:] if words is None else words))
 
 
+def answered(given: argparse.Namespace) -> int:
+    """Runs a command within its limit of memory, and gives its status. Where that refuses memory, the fault says so."""
+    size = getattr(given, "memory", None)
+    try:
+        with limited(size), warnings_as_lines():
+            return int(given.run(given) or 0)
+    except (MemoryError, ImportError, OSError, PolyoverError) as fault:
+        if size is None or not is_of_memory(fault):
+            raise
+        start = f"{told(fault)}: " if str(fault) and not isinstance(fault, MemoryError) else ""
+        raise OutOfMemory(f"{start}the command may take {size >> 20} MiB of memory (--memory)") from None
+
+
 def main(words: Sequence[str] | None = None) -> int:
     """Runs a command. Returns 1 where it does not answer, or the status of the program.
 
@@ -235,8 +262,7 @@ def main(words: Sequence[str] | None = None) -> int:
         if [getattr(given, name, None) for name in ("subject", "other")] == [STANDARD] * 2:
             say("standard input can't be two files")
             return 1
-        with warnings_as_lines():
-            return int(given.run(given) or 0)
+        return answered(given)
     except KeyboardInterrupt:
         return end_by_interrupt()
     except (PolyoverError, OSError) as fault:

@@ -4,14 +4,20 @@ from __future__ import annotations
 
 import warnings
 from contextlib import contextmanager
-from typing import Any, Iterable, Iterator, Sequence
+from typing import Any, Iterable, Iterator
 
-from . import files, geojson, streams
+from . import geojson, leaving, streams, tables, wkb, wkt
+from .content import File
 from .contour import box_of
-from .errors import PolyoverWarning
-from .files import File
+from .errors import BadInput, PolyoverWarning
+from .formats import GEOJSON, RECORDS, SEQUENCES, WKT, Format, format_of
 from .geojson import Feature
+from .holding import Holding
+from .interrupts import held
+from .leaving import Answer, json_text, leave_lines, parted
 from .picture import Picture
+from .sequences import RECORD
+from .systems import DEGREES, words_for
 
 
 def say(text: object) -> None:
@@ -59,13 +65,60 @@ def points_in(coordinates: Any) -> list[Any]:
     return [point for each in coordinates for point in points_in(each)]
 
 
-def leave(given: Any, features: Sequence[dict[str, Any]], picture: Picture, file: File | None = None) -> None:
-    """Leaves what was answered, as GeoJSON with the members of a file's collection, and the picture if it is wanted."""
-    members = dict(file.members) if file else {}
-    if file and file.has_box:
-        members["bbox"] = bounds(each["geometry"] for each in features)
-    answers = [(files.json_text(geojson.collection(features, **members)), given.out)]
-    if given.svg:
-        picture.legend = list(dict.fromkeys(picture.legend))
-        answers.append((picture.svg(given.width), given.svg))
-    files.leave(answers)
+def line_of(form: Format, feature: dict[str, Any], system: int, place: str) -> str:
+    """The line of a feature, with the number of its system where it has one; a fault names its place."""
+    if form in SEQUENCES:
+        return RECORD * (form is RECORDS) + json_text(feature)
+    try:
+        written = wkt.written if form is WKT else wkb.written
+        return written(feature["geometry"], system)
+    except BadInput as fault:
+        raise BadInput(f"{place}: {fault}") from None
+
+
+def lines_of(given: Any, form: Format, features: Iterable[dict[str, Any]], file: File) -> Iterator[str]:
+    """The lines of an answer, as its features come."""
+    holding = Holding(form, given.out, given.drop)
+    system = holding.collection(file)
+    for number, each in enumerate(features, 1):
+        if not holding.is_feature(number, each):
+            continue
+        yield line_of(form, each, system, f"{holding.told.source}: feature {number} of the answer")
+    holding.told.say()
+
+
+def text_of(given: Any, features: Iterable[dict[str, Any]], file: File) -> str:
+    """The text of an answer as GeoJSON, with the members of a file's collection."""
+    if file.is_table and "crs" not in file.members and file.system not in (None, *DEGREES):
+        holding = Holding(GEOJSON, given.out, given.drop)
+        holding.leave_out(words_for(file.system))
+        holding.told.say()
+    listed, members = list(features), dict(file.members)
+    if file.has_box:
+        members["bbox"] = bounds(each["geometry"] for each in listed)
+    return json_text(geojson.collection(listed, **members))
+
+
+def leave(given: Any, features: Iterable[dict[str, Any]], picture: Picture, file: File) -> None:
+    """Leaves what was answered, with what the file's collection has, and the picture if it is wanted. Where there is
+    none, features of a format of lines are written as they come."""
+    form = format_of(given.out, given.format)
+    if form.is_table:
+        tables.check_target(given, form)
+        table = tables.Table(given, form, list(features), file)
+        with held(), tables.made(table) as found:
+            leaving.leave([*found, *pictures_of(given, picture)])
+        return
+    if form.is_lines and not given.svg:
+        leave_lines(lines_of(given, form, features, file), given.out)
+        return
+    parts = list(lines_of(given, form, features, file)) if form.is_lines else parted(text_of(given, features, file))
+    leaving.leave([(parts, given.out), *pictures_of(given, picture)])
+
+
+def pictures_of(given: Any, picture: Picture) -> list[Answer]:
+    """The picture, if it is wanted."""
+    if not given.svg:
+        return []
+    picture.legend = list(dict.fromkeys(picture.legend))
+    return [(parted(picture.svg(given.width)), given.svg)]

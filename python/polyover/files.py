@@ -1,66 +1,57 @@
-"""Files of GeoJSON in, and files of answers out: beside and renamed, so that none is left in part."""
+"""Files in: the features that each has, whatever its format."""
 
 from __future__ import annotations
 
 import json
-import os
-import shutil
-import stat
-from dataclasses import dataclass
-from importlib import import_module
-from pathlib import Path
-from typing import Any, Sequence
+import sys
+from contextlib import contextmanager
+from typing import Any, Callable, Iterable, Iterator, Sequence
 
+from . import tables, wkb, wkt
+from .antimeridian import watch_over
+from .content import Content, File
 from .errors import BadInput
-from .geojson import LINES, POINTS, POLYGONS, Feature, features_of, geometry_of
-from .interrupts import held, let_in
-from .reading import Lines, Polygons
-from .streams import INPUT, PART, named, read_all, write_all
+from .formats import GEOJSON, SEQUENCES, STANDARD, WKT, Format, format_of
+from .geojson import LINES, POINTS, POLYGONS, Feature, Reader, features_in, geometry_of
+from .progress import faults_of
+from .sequences import once, values_in
+from .streams import INPUT, closed, read_all
+from .systems import DEFAULT, DEGREES, crs_of, system_in
 from .told import Told
 
-STANDARD = "-"
 # members of a collection that an answer has anew
 OWN = ("type", "features", "bbox")
+NESTED = "too many lists or objects in one another"
 
 
-@dataclass
-class File:
-    """What a file of GeoJSON has: its features, of one kind, and the members of its collection. `told` counts what is
-    to be said of features that are read one by one."""
-
-    name: str
-    features: list[Feature]
-    members: dict[str, Any]
-    has_box: bool
-    told: Told
-
-    @property
-    def polygons(self) -> Polygons:
-        """Its polygons."""
-        return Polygons([part for each in self.features for part in each.parts], self.name)
-
-    @property
-    def lines(self) -> Lines:
-        """Its lines."""
-        return Lines([part for each in self.features for part in each.parts], self.name)
-
-
-# ---- in
-
-
-def once(pairs: list[tuple[str, Any]]) -> dict[str, Any]:
-    """An object of JSON; a member that comes twice is a fault."""
-    found = dict(pairs)
-    if len(found) != len(pairs):
-        names = [name for name, _ in pairs]
-        twice = next(name for name in names if names.count(name) > 1)
-        raise ValueError(f"the member {twice!r} comes twice in one object")
-    return found
+# ---- what a file holds
 
 
 def shown_name(name: str) -> str:
     """The name of a file in a message."""
     return INPUT if name == STANDARD else name
+
+
+@contextmanager
+def naming(name: str) -> Iterator[None]:
+    """Each fault of reading names the file."""
+    try:
+        yield
+    except OSError as fault:
+        raise BadInput(f"{shown_name(name)}: {fault.strerror or fault}") from None
+    except ValueError as fault:
+        raise BadInput(f"{shown_name(name)}: {fault}") from None
+    except RecursionError:
+        raise BadInput(f"{shown_name(name)}: {NESTED}") from None
+
+
+@contextmanager
+def in_line(number: int) -> Iterator[None]:
+    """Each fault names the line."""
+    try:
+        yield
+    except ValueError as fault:
+        raise BadInput(f"line {number}: {fault}") from None
 
 
 def bytes_of(name: str) -> bytes:
@@ -73,145 +64,135 @@ def bytes_of(name: str) -> bytes:
 
 def text_of(name: str) -> str:
     """The text of a file; BadInput, which names it, where there is none."""
-    try:
+    with naming(name):
         return bytes_of(name).decode("utf-8-sig")
-    except OSError as fault:
-        raise BadInput(f"{shown_name(name)}: {fault.strerror or fault}") from None
-    except ValueError as fault:
-        raise BadInput(f"{shown_name(name)}: {fault}") from None
 
 
-def json_of(name: str) -> Any:
-    """What a file of JSON has."""
-    text = text_of(name)
-    try:
-        return json.loads(text, object_pairs_hook=once)
-    except ValueError as fault:
-        raise BadInput(f"{shown_name(name)}: {fault}") from None
-    except RecursionError:
-        raise BadInput(f"{shown_name(name)}: too many lists or objects in one another") from None
+@contextmanager
+def opened(name: str) -> Iterator[Any]:
+    """A file, or standard input, to be read by its lines."""
+    if name != STANDARD:
+        with open(name, "rb") as file:
+            yield file
+    elif sys.stdin is None:
+        raise closed()
+    else:
+        yield sys.stdin.buffer
 
 
-def shapely_of(name: str) -> Any:
-    """The geometry in a file of WKT or WKB, read by shapely, which must be installed."""
-    kind = Path(name).suffix[1:]
-    try:
-        reader, errors = import_module(f"shapely.{kind}"), import_module("shapely.errors")
-    except ImportError:
-        raise BadInput(f"{shown_name(name)}: {kind.upper()} takes shapely, which is not installed") from None
-    try:
-        return reader.loads(text_of(name) if kind == "wkt" else bytes_of(name))
-    except OSError as fault:
-        raise BadInput(f"{shown_name(name)}: {fault.strerror or fault}") from None
-    except (errors.ShapelyError, ValueError) as fault:
-        raise BadInput(f"{shown_name(name)}: no {kind.upper()}: {fault}") from None
+def lines_in(name: str) -> Iterator[tuple[int, str]]:
+    """The lines of a file as they come, each with its number."""
+    with opened(name) as file:
+        for number, line in enumerate(file, 1):
+            with in_line(number):
+                text = line.decode("utf-8-sig" if number == 1 else "utf-8")
+            yield number, text
 
 
-def read(name: str, kinds: Sequence[str], skip_invalid: bool = False, tells_nulls: bool = True) -> File:
-    """The features of a file with their polygons, or their lines; says what is left out, and names the file."""
-    found = shapely_of(name) if name.endswith((".wkt", ".wkb")) else json_of(name)
-    what = Told(shown_name(name))
-    try:
-        features = features_of(found, kinds, skip_invalid=skip_invalid, told=what)
-        whole = geometry_of(found)
-    except BadInput as fault:
-        raise BadInput(f"{shown_name(name)}: {fault}") from None
-    if tells_nulls:
-        for each in features:
-            if each.is_null:
-                what.add("# features without a geometry are left out", f"feature {each.number}")
-    what.say()
+# ---- formats
+
+
+def json_content(name: str) -> Content:
+    """What a file of GeoJSON has."""
+    found = json.loads(bytes_of(name).decode("utf-8-sig"), object_pairs_hook=once)
+    whole = geometry_of(found)
     is_collection = whole["type"] == "FeatureCollection"
     members = {key: value for key, value in whole.items() if key not in OWN} if is_collection else {}
-    return File(what.source, features, members, is_collection and "bbox" in whole, Told(what.source))
+    things = [(0, each) for each in features_in(whole)]
+    return Content(things, members, system_in(members), is_collection and "bbox" in whole)
 
 
-def polygons_of(name: str, skip_invalid: bool = False, tells_nulls: bool = True) -> File:
+def geometries_in(name: str, form: Format) -> Iterator[tuple[int, int, Any]]:
+    """The geometries of a file of WKT or WKB, each with its line and the number of its system, or 0."""
+    if form is WKT:
+        for number, text in wkt.texts_in(lines_in(name)):
+            with in_line(number):
+                yield (number, *wkt.geometry_in(text))
+        return
+    data = bytes_of(name)
+    if data[:1] in (b"\0", b"\1"):
+        yield (0, *wkb.geometry_in(data))
+        return
+    for number, line in enumerate(data.decode("utf-8-sig").split("\n"), 1):
+        if line.strip():
+            with in_line(number):
+                yield (number, *wkb.geometry_in(wkb.bytes_in(line)))
+
+
+def plain_content(name: str, form: Format) -> Content:
+    """What a file of WKT or WKB has."""
+    found = list(geometries_in(name, form))
+    codes = {code for _, code, _ in found}
+    if len(codes) > 1:
+        number, code = next((number, code) for number, code, _ in found if code != found[0][1])
+        raise BadInput(f"line {number}: its system is SRID {code}, and that of the first geometry {found[0][1]}")
+    code = codes.pop() if codes else 0
+    system = f"EPSG:{code}" if code else None
+    members = {"crs": crs_of(system)} if system and system not in DEGREES else {}
+    return Content([(number, geometry) for number, _, geometry in found], members, system)
+
+
+def content_of(name: str, form: Format) -> Content:
+    """What a file has, by its format."""
+    if form is GEOJSON:
+        return json_content(name)
+    if form.is_table:
+        return tables.content_of(name, form)
+    if form in SEQUENCES:
+        return Content(values_in(lines_in(name)), {}, DEFAULT)
+    return plain_content(name, form)
+
+
+# ---- features
+
+
+def features_of(reader: Reader, things: Iterable[tuple[int, Any]], name: str, tells_nulls: bool) -> Iterator[Feature]:
+    """The features of a file as they come. Faults name the file."""
+    with naming(name):
+        for each in reader.features(things):
+            if each.is_null and tells_nulls:
+                reader.told.add("# features without a geometry are left out", each.place)
+            yield each
+
+
+def watched(features: Iterator[Feature], watch: Callable[[Feature], Feature], told: Told) -> Iterator[Feature]:
+    """The features of a file, cut at the antimeridian or watched; at their end it is said what is left out."""
+    for each in features:
+        with faults_of(told.source):
+            found = watch(each)
+        yield found
+    told.say()
+
+
+def read(name: str, kinds: Sequence[str], given: Any, tells_nulls: bool = True, is_streamed: bool = False) -> File:
+    """The features of a file with their polygons, their lines or their points; says what is left out, and names the
+    file. Those of a sequence come as they are read, where that is wanted."""
+    form, told = format_of(name, given.format), Told(shown_name(name))
+    with naming(name):
+        content = content_of(name, form)
+    watch = watch_over(given, kinds, content.system, told)
+    read_one_by_one = features_of(Reader(kinds, given.skip_invalid, told), content.things, name, tells_nulls)
+    features: Iterable[Feature] = watched(read_one_by_one, watch, told)
+    count = 0
+    if not is_streamed or form not in SEQUENCES:
+        features = list(features)
+        count = len(features)
+    beside = Told(told.source)
+    found = File(told.source, features, content.members, content.has_box, beside, content.system, count)
+    found.columns, found.is_table = content.columns or {}, form.is_table
+    return found
+
+
+def polygons_of(name: str, given: Any, tells_nulls: bool = True, is_streamed: bool = False) -> File:
     """The polygons of a file."""
-    return read(name, POLYGONS, skip_invalid, tells_nulls)
+    return read(name, POLYGONS, given, tells_nulls, is_streamed)
 
 
-def lines_of(name: str, skip_invalid: bool = False, tells_nulls: bool = True) -> File:
+def lines_of(name: str, given: Any, tells_nulls: bool = True, is_streamed: bool = False) -> File:
     """The lines of a file."""
-    return read(name, LINES, skip_invalid, tells_nulls)
+    return read(name, LINES, given, tells_nulls, is_streamed)
 
 
-def points_of(name: str) -> File:
+def points_of(name: str, given: Any) -> File:
     """The points of a file."""
-    return read(name, POINTS, tells_nulls=False)
-
-
-# ---- out
-
-
-def json_text(value: Any) -> str:
-    """The text of an answer as JSON."""
-    try:
-        return json.dumps(value) + "\n"
-    except RecursionError:
-        raise BadInput("properties have too many lists or objects in one another") from None
-
-
-def is_plain(target: str) -> bool:
-    """Whether a file may be put in the place of what is there: nothing, or a plain file."""
-    try:
-        return stat.S_ISREG(os.stat(target).st_mode)
-    except FileNotFoundError:
-        return True
-
-
-def write_beside(text: str, target: str, made: list[tuple[str, str]]) -> None:
-    """Writes a text to a new file beside the target, and notes both paths once the file is there."""
-    path = os.path.join(os.path.dirname(target), f".{os.path.basename(target)[:100]}.{os.getpid()}.part")
-    handle = os.open(path, os.O_WRONLY | os.O_CREAT | os.O_EXCL, 0o666)
-    made.append((path, target))
-    with open(handle, "w", encoding="utf-8") as file:
-        with let_in():
-            for at in range(0, len(text), PART):
-                file.write(text[at : at + PART])
-    if os.path.exists(target):
-        shutil.copymode(target, path)
-
-
-def leave(answers: Sequence[tuple[str, str | None]]) -> None:
-    """Leaves texts in their files, or on standard output where none is named: all, or, where one fails or Ctrl-C comes,
-    none.
-
-    Each text is written beside its file first. What is no plain file, as a pipe, is written to as it is."""
-    targets = [os.path.realpath(file) for _, file in answers if file]
-    if len(set(targets)) < len(targets):
-        raise BadInput(f"{targets[0]}: two answers can't go to one file")
-    with held():
-        leave_all(answers)
-
-
-def leave_all(answers: Sequence[tuple[str, str | None]]) -> None:
-    """Leaves all texts, while Ctrl-C comes only where it is let in."""
-    made: list[tuple[str, str]] = []
-    direct = []
-    try:
-        for text, file in answers:
-            if file and is_plain(file):
-                with named(file):
-                    write_beside(text, os.path.realpath(file), made)
-            else:
-                direct.append((text, file))
-        for text, file in direct:
-            with let_in():
-                write_to(text, file)
-        while made:
-            with named(made[0][1]):
-                os.replace(*made[0])
-            made.pop(0)
-    finally:
-        for path, _ in made:
-            os.unlink(path)
-
-
-def write_to(text: str, file: str | None) -> None:
-    """Writes a text to standard output, or to what is no plain file."""
-    if file:
-        with named(file), open(file, "w", encoding="utf-8") as target:
-            target.write(text)
-    else:
-        write_all(text)
+    return read(name, POINTS, given, tells_nulls=False)

@@ -30,15 +30,18 @@ Path = list[Any]
 
 
 class Place(NamedTuple):
-    """Where something stands in a file: a feature, a geometry in collections, a polygon or line, a ring; from 1."""
+    """Where something stands in a file: a feature, or its line where it has one, a geometry in collections, a polygon
+    or line, a ring; from 1."""
 
     feature: int
     geometries: tuple[int, ...] = ()
     part: str = ""
     ring: int = 0
+    line: int = 0
 
     def __str__(self) -> str:
-        words = [f"feature {self.feature}", *(f"geometry {number}" for number in self.geometries)]
+        start = f"line {self.line}" if self.line else f"feature {self.feature}"
+        words = [start, *(f"geometry {number}" for number in self.geometries)]
         words += [self.part] * bool(self.part) + [f"ring {self.ring}"] * bool(self.ring)
         return ", ".join(words)
 
@@ -53,12 +56,17 @@ class Part:
 
 @dataclass
 class Feature:
-    """A geometry's polygons or lines, and the members of its feature; `number` is its place, from 1."""
+    """A geometry's polygons or lines, and the members of its feature."""
 
-    number: int
+    place: Place
     parts: list[Part] = field(default_factory=list)
     members: dict[str, Any] = field(default_factory=dict)
     is_null: bool = False
+
+    @property
+    def number(self) -> int:
+        """Its number in the file, from 1."""
+        return self.place.feature
 
     @property
     def paths(self) -> list[Path]:
@@ -72,7 +80,7 @@ class Reader:
     def __init__(self, kinds: Sequence[str], skip_invalid: bool, told: Told) -> None:
         self.kinds, self.skip_invalid, self.told = kinds, skip_invalid, told
         self.wanted = " or ".join(kinds)
-        self.passed_over: list[str] = []
+        self.passed_over = ""
         self.finds_any = False
         self.readers = {"Polygon": ("polygon", self.polygon), "LineString": ("line", self.line)}
         self.readers["Point"] = ("point", self.point)
@@ -121,7 +129,7 @@ class Reader:
         kind = kind_of(place, geometry)
         if kind == "GeometryCollection":
             if len(place.geometries) >= NESTED:
-                raise BadInput(f"feature {place.feature}: more than {NESTED} collections in one another")
+                raise BadInput(f"{place._replace(geometries=())}: more than {NESTED} collections in one another")
             for number, each in enumerate(listed(place, member(place, geometry, "geometries"), "geometries"), 1):
                 yield from self.parts(place._replace(geometries=(*place.geometries, number)), each)
             return
@@ -130,7 +138,7 @@ class Reader:
         coordinates = member(place, geometry, "coordinates")
         if kind not in self.kinds:
             check_nested(place, coordinates, DEPTHS[kind])
-            self.passed_over.append(f"{place}: {kind} in the place of {self.wanted}")
+            self.passed_over = self.passed_over or f"{place}: {kind} in the place of {self.wanted}"
             self.told.add(PASSED_OVER.format(self.wanted), place)
             return
         self.finds_any = True
@@ -142,21 +150,28 @@ class Reader:
         elif len(items):
             yield from read(place._replace(part=f"{name} 1"), items)
 
-    def feature(self, number: int, thing: object) -> Feature:
+    def features(self, things: Iterable[tuple[int, object]]) -> Iterator[Feature]:
+        """Features as they come, each from its line, or from line 0 where it has none; at their end a fault where no
+        geometry was of the wanted kinds, but some were of others."""
+        for number, (line, thing) in enumerate(things, 1):
+            yield self.feature(Place(number, line=line), thing)
+        if self.passed_over and not self.finds_any:
+            raise BadInput(self.passed_over)
+
+    def feature(self, place: Place, thing: object) -> Feature:
         """A feature, or a geometry that stands alone."""
-        place = Place(number)
         found = interface_of(thing)
         if not isinstance(found, dict):
             raise BadInput(f"{place}: {shown(found)} is no feature")
         if found.get("type") != "Feature":
-            return Feature(number, list(self.parts(place, found)))
+            return Feature(place, list(self.parts(place, found)))
         geometry = member(place, found, "geometry")
         members = {name: value for name, value in found.items() if name not in ("type", "geometry")}
         if not isinstance(members.setdefault("properties", None), (dict, type(None))):
             raise BadInput(f"{place}: properties: {shown(members['properties'])} is no object")
         if geometry is None:
-            return Feature(number, [], members, is_null=True)
-        return Feature(number, list(self.parts(place, geometry)), members)
+            return Feature(place, [], members, is_null=True)
+        return Feature(place, list(self.parts(place, geometry)), members)
 
 
 # ---- what stands where it should
@@ -258,10 +273,7 @@ def features_of(
     a ring of less than three points and a line of less than two are left out, and counted in `told`, as are geometries
     of other kinds, and what points have beyond x and y."""
     reader = Reader(kinds, skip_invalid, Told() if told is None else told)
-    features = [reader.feature(number, each) for number, each in enumerate(features_in(geometry_of(thing)), 1)]
-    if reader.passed_over and not reader.finds_any:
-        raise BadInput(reader.passed_over[0])
-    return features
+    return list(reader.features((0, each) for each in features_in(geometry_of(thing))))
 
 
 def told_features(thing: object, kinds: Sequence[str], skip_invalid: bool) -> list[Feature]:
@@ -270,7 +282,7 @@ def told_features(thing: object, kinds: Sequence[str], skip_invalid: bool) -> li
     features = features_of(thing, kinds, skip_invalid=skip_invalid, told=told)
     for each in features:
         if each.is_null:
-            told.add(NULLS, Place(each.number))
+            told.add(NULLS, each.place)
     told.say()
     return features
 

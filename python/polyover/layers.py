@@ -7,9 +7,9 @@ from typing import Any, Callable, Iterator, NamedTuple, Sequence
 
 from . import calls, geojson
 from .answers import feature_of
+from .content import File
 from .contour import WholePath
 from .errors import BadInput
-from .files import File
 from .geojson import Feature
 from .nearby import Index, Nearby, Node, Region, box_round, regions_of_contours
 from .progress import faults_of, long_work
@@ -56,7 +56,7 @@ class Layer:
         self.file = file
         self.regions: list[Filled] = []
         for each in file.features:
-            with faults_of(file.name, number=each.number):
+            with faults_of(file.name, place=each.place):
                 contours = scaled.whole(polygons_of(given, file, each.parts))
                 if given.fill:
                     shapes = calls.overlay(contours, (), "subject", fill_of(given), solver=given.solver)
@@ -86,7 +86,7 @@ def pieces_of_both(first: Layer, second: Layer, overlay: Overlay, step: Step) ->
     for one in first.regions:
         for other in second.near(one.boxes):
             near = other.nearby.near(one.boxes)
-            with faults_of(first.file.name, number=one.feature.number):
+            with faults_of(first.file.name, place=one.feature.place):
                 shapes = overlay(one.nearby.near(other.boxes), near, "intersect") if near else []
             if shapes:
                 yield Piece(shapes, one.feature, other.feature)
@@ -96,7 +96,7 @@ def pieces_of_both(first: Layer, second: Layer, overlay: Overlay, step: Step) ->
 def pieces_of_one(layer: Layer, other: Layer, overlay: Overlay, step: Step, is_first: bool) -> Iterator[Piece]:
     """The pieces of features that are in none of the other file."""
     for each in layer.regions:
-        with faults_of(layer.file.name, number=each.feature.number):
+        with faults_of(layer.file.name, place=each.feature.place):
             shapes = overlay(each.contours, other.whole.near(each.boxes), "difference")
         if shapes:
             yield Piece(shapes, *((each.feature, None) if is_first else (None, each.feature)))

@@ -34,7 +34,11 @@ def long_work(what: str, count: int = 0, is_quiet: bool = False) -> Iterator[Cal
     bar = None if is_quiet else bar_of(what, count)
     timer = Timer(LONG, lambda: streams.say(f"polyover: {what} .."))
     if bar is None and not is_quiet:
-        timer.start()
+        try:
+            timer.start()
+        except RuntimeError:
+            # (there is no memory for a thread)
+            pass
     try:
         yield (lambda: None) if bar is None else bar.update
     finally:
@@ -44,14 +48,15 @@ def long_work(what: str, count: int = 0, is_quiet: bool = False) -> Iterator[Cal
 
 
 @contextmanager
-def faults_of(*sources: str, number: int = 0) -> Iterator[None]:
-    """Each fault names the files, and the feature where it is one of a number, unless it names one of them already."""
-    place = " and ".join(sources) + (f": feature {number}" if number else "")
+def faults_of(*sources: str, place: object = "") -> Iterator[None]:
+    """Each fault names the files, and the place of a feature where that is given, unless it names one of the files
+    already."""
+    start = " and ".join(sources) + (f": {place}" if place else "")
     try:
         yield
     except NAMED as fault:
         if not str(fault).startswith(sources):
-            fault.args = (f"{place}: {fault}",)
+            fault.args = (f"{start}: {fault}",)
         raise
     except MemoryError:
-        raise OutOfMemory(f"{place}: no memory") from None
+        raise OutOfMemory(f"{start}: no memory") from None

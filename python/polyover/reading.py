@@ -53,10 +53,12 @@ class Polygons:
 
 @dataclass
 class Lines:
-    """Lines that were read; `source` names their file."""
+    """Lines that were read; `source` names their file. `told` counts what is to be said where others have a part in it;
+    else it is said at once."""
 
     parts: list[Part]
     source: str = ""
+    told: Told | None = None
 
     @property
     def paths(self) -> list[list[Any]]:
@@ -68,11 +70,12 @@ class Lines:
         points = iter(whole([point for path in self.paths for point in path]))
         paths = [list(islice(points, len(path))) for path in self.paths]
         check_range(self.source, [(part.place, path) for part, path in zip(self.parts, paths)])
-        told = Told(self.source)
+        told = Told(self.source) if self.told is None else self.told
         for part, path in zip(self.parts, paths):
             if len(set(path)) < 2:
                 told.add("# lines collapse to points, and are left out", part.place)
-        told.say()
+        if self.told is None:
+            told.say()
         return paths
 
 

@@ -4,25 +4,30 @@ from __future__ import annotations
 
 from contextlib import contextmanager
 from fractions import Fraction
-from itertools import islice
-from typing import Any, Callable, Iterator, Sequence
+from itertools import count, islice
+from typing import Any, Callable, Iterable, Iterator, Sequence
 
-from . import calls, files, geojson
+from . import calls, files, geojson, leaving
 from .answers import feature_of, leave, null_feature, say
+from .content import File
 from .contour import WholePath
 from .errors import BadInput
-from .files import File
+from .formats import GEOJSON, format_of
 from .geojson import Feature
 from .inputs import picture_of
 from .layers import features_of_both
 from .nearby import LinesNearby, Nearby
 from .picture import Picture
 from .progress import faults_of, long_work
-from .reading import Polygons, check_range
+from .reading import Lines, Polygons, check_range
 from .scaled import Scaled
+from .systems import DEFAULT, DEGREES
 from .words import fill_of, look_of, paths_of, polygons_of, rings_of
 
 KEEPING = ("intersect", "difference")
+LOCATION = "location"
+# (features whose lines are rounded together)
+AT_ONCE = 1000
 
 
 @contextmanager
@@ -33,17 +38,20 @@ def work_on_two(given: Any, what: str, first: File, second: File) -> Iterator[No
 
 
 def two_of_polygons(given: Any) -> tuple[File, File]:
-    """The two files of polygons."""
-    first, second = (files.polygons_of(name, given.skip_invalid) for name in (given.subject, given.other))
+    """The two files of polygons; where features of the first are answered by themselves, they may come one by one."""
+    is_streamed = getattr(given, "keep", None) == "first" and not given.svg
+    first = files.polygons_of(given.subject, given, is_streamed=is_streamed)
+    second = files.polygons_of(given.other, given)
     tell_other_crs(first, second)
     return first, second
 
 
 def tell_other_crs(first: File, second: File) -> None:
     """Says that two files state different systems of coordinates."""
-    stated = [each.members["crs"] for each in (first, second) if "crs" in each.members]
-    if len(stated) == 2 and stated[0] != stated[1]:
-        say(f"{first.name} and {second.name} state different members crs: coordinates are taken as they are")
+    stated = [each.system or each.members["crs"] for each in (first, second) if each.is_table or "crs" in each.members]
+    one, *others = [DEFAULT if each in DEGREES else each for each in stated] or [None]
+    if others and others[0] != one:
+        say(f"{first.name} and {second.name} state different systems: coordinates are taken as they are")
 
 
 # ---- two files of polygons
@@ -59,12 +67,14 @@ def run_overlay(given: Any) -> None:
         raise BadInput("--id goes with --keep both")
     scaled = Scaled.of_digits(given.digits)
     picture = Picture(f"{given.rule} of two files")
-    picture.add_contours("subject", paths_of(first))
-    picture.add_contours("clip", paths_of(second))
     features = ANSWERS[given.keep](given, scaled, first, second)
-    for each in features if given.svg else ():
-        for shape in each["geometry"]["coordinates"]:
-            picture.add_contours("answer", [ring[:-1] for ring in shape], strength=0.55)
+    if given.svg:
+        picture.add_contours("subject", paths_of(first))
+        picture.add_contours("clip", paths_of(second))
+        features = list(features)
+        for each in features:
+            for shape in each["geometry"]["coordinates"]:
+                picture.add_contours("answer", [ring[:-1] for ring in shape], strength=0.55)
     if given.keep != "first":
         first.members = {name: value for name, value in first.members.items() if name == "crs"}
         first.has_box = False
@@ -77,24 +87,24 @@ def joined(given: Any, scaled: Scaled, first: File, second: File) -> list[dict[s
     with work_on_two(given, f"overlay of {rings_of(first)} and {rings_of(second)} rings", first, second):
         subject, clip = (scaled.region("subject", its, fill_of(given), given.solver) for its in both)
         shapes = scaled.shapes(calls.overlay(subject, clip, given.rule, fill_of(given), **look))
-    return [feature_of(geojson.polygons(shapes), {"properties": {"rule": given.rule}})] * bool(shapes)
+    properties = {"rule": given.rule} if format_of(given.out, given.format).has_properties else None
+    return [feature_of(geojson.polygons(shapes), {"properties": properties})] * bool(shapes)
 
 
-def kept_pieces(given: Any, scaled: Scaled, first: File, second: File) -> list[dict[str, Any]]:
+def kept_pieces(given: Any, scaled: Scaled, first: File, second: File) -> Iterator[dict[str, Any]]:
     """For each feature of the first file, overlaid by itself, a feature of the pieces that it gives."""
-    features, look = [], look_of(given, scaled)
-    what = f"overlay of {len(first.features)} features by {rings_of(second)} rings"
+    look = look_of(given, scaled)
+    what = f"overlay of {first.counted} by {rings_of(second)} rings"
     with faults_of(second.name):
         clip = Nearby(scaled.whole(polygons_of(given, second)))
-    with long_work(what, len(first.features), given.quiet) as step:
+    with long_work(what, first.count, given.quiet) as step:
         for each in first.features:
-            with faults_of(first.name, number=each.number):
+            with faults_of(first.name, place=each.place):
                 shapes = kept_piece(given, scaled, polygons_of(given, first, each.parts), clip, look)
             if shapes:
-                features.append(feature_of(geojson.polygons(shapes), each.members))
+                yield feature_of(geojson.polygons(shapes), each.members)
             step()
     first.told.say()
-    return features
 
 
 def kept_piece(given: Any, scaled: Scaled, polygons: Polygons, clip: Nearby, look: dict[str, Any]) -> Any:
@@ -106,16 +116,20 @@ def kept_piece(given: Any, scaled: Scaled, polygons: Polygons, clip: Nearby, loo
     return scaled.shapes(calls.overlay(subject, near, given.rule, fill_of(given), **look))
 
 
+ANSWERS: dict[str | None, Callable[[Any, Scaled, File, File], Iterable[dict[str, Any]]]]
 ANSWERS = {None: joined, "first": kept_pieces, "both": features_of_both}
 
 
 def run_relate(given: Any) -> None:
     """Tells which relations hold between the polygons of two files"""
+    form = format_of(given.out)
+    if form is not GEOJSON:
+        raise BadInput(f"{given.out}: relations are JSON, and not {form.name}")
     first, second = two_of_polygons(given)
     both = polygons_of(given, first), polygons_of(given, second)
     with work_on_two(given, f"relations of {rings_of(first)} and {rings_of(second)} rings", first, second):
         relations = Scaled.of_digits(given.digits).relate(*both, fill_of(given), solver=given.solver)
-    files.leave([(files.json_text(relations), given.out)])
+    leaving.leave([(leaving.parted(leaving.json_text(relations)), given.out)])
 
 
 # ---- polygons and lines
@@ -123,31 +137,44 @@ def run_relate(given: Any) -> None:
 
 def run_clip(given: Any) -> None:
     """Clips the lines of a file, feature by feature, by the polygons of a second file"""
-    area = files.polygons_of(given.subject, given.skip_invalid)
-    roads = files.lines_of(given.other, given.skip_invalid, tells_nulls=False)
+    area = files.polygons_of(given.subject, given)
+    roads = files.lines_of(given.other, given, tells_nulls=False, is_streamed=not given.svg)
     tell_other_crs(area, roads)
-    scaled = Scaled.of_digits(given.digits)
     picture = Picture("lines, clipped")
-    picture.add_contours("subject", paths_of(area))
-    picture.add_paths("line", paths_of(roads))
-    features = []
+    if given.svg:
+        picture.add_contours("subject", paths_of(area))
+        picture.add_paths("line", paths_of(roads))
+    leave(given, clips_of(given, area, roads, picture), picture, roads)
+
+
+def clips_of(given: Any, area: File, roads: File, picture: Picture) -> Iterator[dict[str, Any]]:
+    """For each feature of lines one of its parts that are kept, which the picture shows too."""
+    scaled = Scaled.of_digits(given.digits)
     with faults_of(area.name):
         region = scaled.region("shape", polygons_of(given, area), fill_of(given), given.solver, is_joined=True)
         shape = Nearby(region)
-    lines = iter(scaled.whole(roads.lines))
-    what = f"clip of {len(roads.features)} features by {rings_of(area)} rings"
-    with long_work(what, len(roads.features), given.quiet) as step:
-        for each in roads.features:
-            with faults_of(roads.name, number=each.number):
-                paths = clipped(given, scaled, shape, list(islice(lines, len(each.parts))))
+    with long_work(f"clip of {roads.counted} by {rings_of(area)} rings", roads.count, given.quiet) as step:
+        for each, lines in with_lines(scaled, roads):
+            with faults_of(roads.name, place=each.place):
+                paths = clipped(given, scaled, shape, lines)
             if given.svg:
                 picture.add_paths("answer", paths)
             if each.is_null:
-                features.append(null_feature(each))
+                yield null_feature(each)
             elif paths:
-                features.append(feature_of(geojson.lines(paths), each.members))
+                yield feature_of(geojson.lines(paths), each.members)
             step()
-    leave(given, features, picture, roads)
+    roads.told.say()
+
+
+def with_lines(scaled: Scaled, roads: File) -> Iterator[tuple[Feature, list[WholePath]]]:
+    """Features, each with its lines by whole points: many are rounded at a time where they are all there."""
+    features = iter(roads.features)
+    while group := list(islice(features, AT_ONCE if roads.count else 1)):
+        parts = [part for each in group for part in each.parts]
+        lines = iter(scaled.whole(Lines(parts, roads.name, roads.told)))
+        for each in group:
+            yield each, list(islice(lines, len(each.parts)))
 
 
 def clipped(given: Any, scaled: Scaled, shape: Nearby, lines: list[WholePath]) -> Any:
@@ -161,9 +188,10 @@ def clipped(given: Any, scaled: Scaled, shape: Nearby, lines: list[WholePath]) -
 
 def run_slice(given: Any) -> None:
     """Slices the polygons of a file, feature by feature, along the lines of a second file"""
-    walls = files.lines_of(given.other, given.skip_invalid)
+    walls = files.lines_of(given.other, given)
     scaled = Scaled.of_digits(given.digits)
-    lines = LinesNearby(scaled.whole(walls.lines))
+    lines = LinesNearby([path for _, paths in with_lines(scaled, walls) for path in paths])
+    walls.told.say()
 
     def cut(polygons: Polygons) -> Any:
         contours = scaled.region("shape", polygons, fill_of(given), given.solver, is_joined=True)
@@ -202,44 +230,47 @@ def answer_features(
     given: Any, title: str, answer: Callable[[Polygons], Any], walls: File | None = None, is_parted: bool = False
 ) -> None:
     """Leaves for each feature of polygons one of what is answered, or, where it is parted, one for each shape."""
-    area = files.polygons_of(given.subject, given.skip_invalid, tells_nulls=False)
+    area = files.polygons_of(given.subject, given, tells_nulls=False, is_streamed=not given.svg)
     picture = Picture(title)
-    picture.add_contours("subject", paths_of(area))
     if walls:
         tell_other_crs(area, walls)
-        picture.add_paths("line", paths_of(walls))
-    features = []
-    with long_work(f"{title} of {len(area.features)} features", len(area.features), given.quiet) as step:
-        for each in area.features:
-            if each.is_null:
-                features.append(null_feature(each))
-            with faults_of(area.name, number=each.number):
-                shapes = answer(polygons_of(given, area, each.parts))
-            for shape in shapes if given.svg else ():
-                picture.add_contours("answer", shape, strength=0.55)
-            groups = [[shape] for shape in shapes] if is_parted else [shapes] * bool(shapes)
-            features += [feature_of(geojson.polygons(group), each.members) for group in groups]
-            step()
-    area.told.say()
-    leave(given, features, picture, area)
+    if given.svg:
+        picture.add_contours("subject", paths_of(area))
+        picture.add_paths("line", paths_of(walls) if walls else [])
+
+    def answers() -> Iterator[dict[str, Any]]:
+        with long_work(f"{title} of {area.counted}", area.count, given.quiet) as step:
+            for each in area.features:
+                if each.is_null:
+                    yield null_feature(each)
+                with faults_of(area.name, place=each.place):
+                    shapes = answer(polygons_of(given, area, each.parts))
+                for shape in shapes if given.svg else ():
+                    picture.add_contours("answer", shape, strength=0.55)
+                groups = [[shape] for shape in shapes] if is_parted else [shapes] * bool(shapes)
+                yield from (feature_of(geojson.polygons(group), each.members) for group in groups)
+                step()
+        area.told.say()
+
+    leave(given, answers(), picture, area)
 
 
 def run_locate(given: Any) -> None:
     """Locates the points of a file in the polygons of a second file, as the property location of each feature"""
-    area = files.polygons_of(given.subject, given.skip_invalid)
-    places = files.points_of(given.other)
+    area = files.polygons_of(given.subject, given)
+    places = files.points_of(given.other, given)
     tell_other_crs(area, places)
     scaled = Scaled.of_digits(given.digits)
     picture = Picture("points, located")
     picture.add_contours("subject", paths_of(area))
-    with work_on_two(given, f"places of {len(places.features)} features in {rings_of(area)} rings", area, places):
+    with work_on_two(given, f"places of {places.count} features in {rings_of(area)} rings", area, places):
         shapes = calls.overlay(scaled.whole(polygons_of(given, area)), (), "subject", fill_of(given))
         points = [point[:2] for path in paths_of(places) for point in path]
         told = calls.locate([contour for shape in shapes for contour in shape], whole_points_of(scaled, places, points))
     for name in ("inside", "boundary", "outside"):
         picture.add_points(name, [point for point, place in zip(points, told) if place == name])
-    found = iter(told)
-    features = [located(places, each, found) for each in places.features]
+    found, moved = iter(told), name_for_own(places)
+    features = [located(each, found, moved) for each in places.features]
     leave(given, features, picture, places)
 
 
@@ -251,19 +282,26 @@ def whole_points_of(scaled: Scaled, places: File, points: Sequence[Any]) -> Whol
     return found
 
 
-def located(places: File, each: Feature, found: Any) -> dict[str, Any]:
-    """A feature of points, with where they lie: one place, or a list for several points."""
+def name_for_own(places: File) -> str:
+    """The name under which features keep a property location of their own: the first that none of them has, of
+    location_1, location_2 and so on."""
+    taken = {name for each in places.features for name in each.members.get("properties") or {}}
+    return next(name for name in (f"{LOCATION}_{at}" for at in count(1)) if name not in taken)
+
+
+def located(each: Feature, found: Iterator[str], moved: str) -> dict[str, Any]:
+    """A feature of points, with where they lie: one place, or a list for several points. A property location that it
+    has already is moved to another name."""
     if each.is_null:
         return null_feature(each)
-    properties = each.members.get("properties") or {}
-    if "location" in properties:
-        raise BadInput(f"{places.name}: feature {each.number}: it has a property location already")
+    given = each.members.get("properties") or {}
+    properties = {moved if name == LOCATION else name: value for name, value in given.items()}
     points = [point for path in each.paths for point in path]
     told = [next(found) for _ in points]
     is_one = len(points) == 1
     coordinates = points[0] if is_one else points
     geometry = {"type": "Point" if is_one else "MultiPoint", "coordinates": coordinates}
-    members = {**each.members, "properties": {**properties, "location": told[0] if is_one else told}}
+    members = {**each.members, "properties": {**properties, LOCATION: told[0] if is_one else told}}
     return feature_of(geometry, members)
 
 
@@ -275,4 +313,4 @@ def run_svg(given: Any) -> None:
     text = files.text_of(given.input)
     with faults_of(files.shown_name(given.input)), long_work("picture", is_quiet=given.quiet):
         picture = picture_of(text, given.nodes)
-    files.leave([(picture.svg(given.width), given.out)])
+    leaving.leave([(leaving.parted(picture.svg(given.width)), given.out)])

@@ -299,6 +299,9 @@ class Scaled(RulesAtScale):
         """As `polyover.relate`, of the coordinates as they are taken at this scale."""
         return calls.relate(*self._both(subject, clip, fill, solver), fill, solver=solver)
 
+    def _relate_one(self, relation: str, subject: Group, clip: Group, fill: Fill, solver: Solver) -> bool:
+        return calls.relate_one(relation, *self._both(subject, clip, fill, solver), fill, solver=solver)
+
     def clip(
         self, shape: Group, lines: Group, fill: Fill = "nonzero", *, solver: Solver = SNAPPED, **options: bool
     ) -> Any:

@@ -4,7 +4,7 @@ from __future__ import annotations
 
 from typing import Any, Sequence
 
-from .files import File
+from .content import File
 from .reading import Polygons
 from .scaled import Scaled
 from .text import Fill
@@ -30,7 +30,7 @@ def polygons_of(given: Any, file: File, parts: Sequence[Any] | None = None) -> P
 
 
 def paths_of(file: File) -> list[Any]:
-    """The paths of a file."""
+    """The paths of a file whose features are all there."""
     return [path for each in file.features for path in each.paths]
 
 

@@ -39,3 +39,22 @@ def ran(command, *things, words=(), raw=None):
         left = json.loads(out.read_text()) if out.exists() else None
         there = sorted(each.name for each in Path(name).iterdir())
         return status, left, said.getvalue().replace(f"{name}/", ""), there
+
+
+def in_folder(test):
+    """A folder that is there for one test."""
+    folder = tempfile.TemporaryDirectory()
+    test.addCleanup(folder.cleanup)
+    return Path(folder.name)
+
+
+def told(*words):
+    """The status of a command, and what it says, with the last part of each path alone."""
+    said = io.StringIO()
+    with contextlib.redirect_stderr(said):
+        status = main(list(map(str, words)))
+    folders = {str(word.parent) for word in words if isinstance(word, Path)}
+    text = said.getvalue()
+    for folder in folders:
+        text = text.replace(f"{folder}/", "")
+    return status, text

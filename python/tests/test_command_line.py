@@ -203,8 +203,21 @@ class Polygons(unittest.TestCase):
         self.assertEqual((told, said), (["boundary", ["inside", "outside"], "outside"], ""))
         self.assertEqual(left["features"][1]["id"], 7)
         self.assertEqual(left["features"][0]["geometry"], {"type": "Point", "coordinates": [1, 1, 8]})
-        twice = collection(feature("Point", [1, 1], location="here"))
-        self.assertIn("b.geojson: feature 1: it has a property location already", ran("locate", area, twice)[2])
+
+    def test_locate_keeps_a_property_of_that_name(self):
+        area = collection(feature("Polygon", [square(0, 0, 4, 4)]))
+        points = collection(feature("Point", [1, 1], location="Rome", name="a"), feature("Point", [9, 9], name="b"))
+        _, left, said, _ = ran("locate", area, points)
+        self.assertEqual([each["properties"] for each in left["features"]], [
+            {"location_1": "Rome", "name": "a", "location": "inside"}, {"name": "b", "location": "outside"},
+        ])
+        self.assertEqual(said, "")
+        points["features"][1]["properties"]["location_1"] = "taken"
+        _, left, _, _ = ran("locate", area, points)
+        self.assertEqual([each["properties"] for each in left["features"]], [
+            {"location_2": "Rome", "name": "a", "location": "inside"},
+            {"location_1": "taken", "name": "b", "location": "outside"},
+        ])
 
     def test_overlays_that_keep_features(self):
         parcels = collection(feature("Polygon", [square(0, 0, 2, 2)], owner="a"),
@@ -222,7 +235,7 @@ class Polygons(unittest.TestCase):
     def test_other_systems_of_coordinates(self):
         crs = [{"type": "name", "properties": {"name": name}} for name in ("EPSG:4326", "EPSG:3857")]
         one, two = (collection(self.CROSSED, crs=each) for each in crs)
-        self.assertIn("a.geojson and b.geojson state different members crs", ran("relate", one, two)[2])
+        self.assertIn("a.geojson and b.geojson state different systems", ran("relate", one, two)[2])
         self.assertEqual(ran("overlay", one, one)[1]["crs"], crs[0])
 
     def test_help(self):
@@ -295,7 +308,22 @@ class Files(unittest.TestCase):
             said = io.StringIO()
             with contextlib.redirect_stderr(said):
                 self.assertEqual(main(["relate", str(text), str(data)]), 1)
-            self.assertIn("a.wkt: no WKT: ", said.getvalue())
+            self.assertIn("a.wkt: line 1: no WKT: the end in the place of )", said.getvalue())
+
+    def test_formats_that_are_not_taken(self):
+        with tempfile.TemporaryDirectory() as name:
+            area = Path(name, "a.geojson")
+            area.write_text(json.dumps(self.AREA))
+            for words, fault in ((["simplify", str(area), "--out", f"{name}/b.parquet"], "GeoParquet is not taken"),
+                                 (["simplify", f"{name}/b.fgb"], "FlatGeobuf is not taken"),
+                                 (["relate", str(area), str(area), "--out", f"{name}/b.wkt"],
+                                  "relations are JSON, and not WKT")):
+                said = io.StringIO()
+                with contextlib.redirect_stderr(said):
+                    self.assertEqual(main(words), 1)
+                self.assertIn(f"polyover: {name}/b.", said.getvalue())
+                self.assertIn(fault, said.getvalue())
+            self.assertEqual(len(list(Path(name).iterdir())), 1)
 
     def test_standard_input(self):
         with tempfile.TemporaryDirectory() as name:
