@@ -71,7 +71,7 @@ function suffixed(name, kind) {
 /** A number of a group that is none, or out of range: which group it is of, where it stands there, and itself. */
 export class Misplaced extends BadInput {
   constructor(group, at, value) {
-    super(`${group}: number ${at}, ${value}, is no whole number in the range`);
+    super(`${group}: number ${at + 1}, ${value}, is no whole number in the range`);
     Object.assign(this, { group, at, value });
   }
 }
@@ -335,7 +335,7 @@ export class Library {
       const given = [contours, ...numbers.arguments, ...found.arguments, BigInt(unresolved.at)];
       const status = this.calls[suffixed("polyover_locate", kind)](...given);
       if (STATUSES[status] === "NOT_RESOLVED") {
-        throw new NotResolved(Number(unresolved.view()[0]));
+        throw new NotResolved(Number(unresolved.view()[0]) + 1);
       }
       check(status);
       return found.view().slice();

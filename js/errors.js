@@ -24,7 +24,7 @@ export class TooManyEdges extends PolyoverError {
   }
 }
 
-/** A contour of a shape in which points are located meets itself; `contour` is its number, from 0. */
+/** A contour of a shape in which points are located meets itself; `contour` is its number, from 1. */
 export class NotResolved extends PolyoverError {
   constructor(contour) {
     super(`contour ${contour} is not resolved: two of its steps share a point that is no end of both`);

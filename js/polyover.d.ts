@@ -336,7 +336,7 @@ export class NotSettled extends PolyoverError {}
 export class TooManyEdges extends PolyoverError {}
 /** A contour of a shape in which points are located meets itself. */
 export class NotResolved extends PolyoverError {
-  /** Its number, from 0. */
+  /** Its number, from 1. */
   readonly contour: number;
 }
 /** What was given cannot be asked. */

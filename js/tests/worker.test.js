@@ -90,7 +90,7 @@ workerTest("faults in a worker have their class", async (remote) => {
   await assert.rejects(remote.scaled(0).overlay([]), BadInput);
   await assert.rejects(remote.overlay(() => 0), BadInput);
   const located = remote.locate([CROSSED], [[1, 1]]);
-  await assert.rejects(located, (fault) => fault instanceof NotResolved && fault.contour === 0);
+  await assert.rejects(located, (fault) => fault instanceof NotResolved && fault.contour === 1);
   assert.equal((await remote.overlay([SQUARE])).length, 1);
 });
 

@@ -180,8 +180,10 @@ test("a contour that meets itself is told by its number", () => {
   const crossed = [[0, 0], [4, 4], [4, 0], [0, 4]];
   assert.throws(
     () => polyover.locate([SQUARE, OTHER, crossed], [[1, 1]]),
-    (fault) => fault instanceof NotResolved && fault.contour === 2 && fault.name === "NotResolved",
+    (fault) => fault instanceof NotResolved && fault.contour === 3 && fault.name === "NotResolved",
   );
+  const first = { contour: 1, message: /^contour 1 is not resolved/ };
+  assert.throws(() => polyover.locate([crossed, SQUARE], [[1, 1]]), first);
 });
 
 test("a module that is not there, or none", async () => {
