@@ -1,6 +1,5 @@
 """The crates, laid into a folder of their own as `rt try` needs them: what `.ci/refused` and `.ci/tests` share."""
 
-import re
 import shutil
 import subprocess
 import sys
@@ -8,22 +7,9 @@ from pathlib import Path
 
 sys.path.insert(0, "scripts")
 from toolchain import make_trying_kit  # noqa: E402
+from workspace import crate_uses, write_lines  # noqa: E402
 
-CRATES = Path("crates.txt")
 PARTS = ("src", "specs")
-LINE = re.compile(r"(\w+)(?: staticlib)?:((?: +\w+)*) *")
-
-
-def lines_in(file: Path) -> dict[str, list[str]]:
-    """What each name on a line of the file stands on."""
-    texts = [line.partition("#")[0].rstrip() for line in file.read_text().splitlines()]
-    found = {}
-    for text in filter(None, texts):
-        words = LINE.fullmatch(text)
-        if not words or words[1] in found:
-            raise SystemExit(f"{file}: not a line NAME: CRATE .., or a second one of its name: {text}")
-        found[words[1]] = words[2].split()
-    return found
 
 
 def lay_crates(root: Path, more: dict[str, list[str]]) -> None:
@@ -32,15 +18,14 @@ def lay_crates(root: Path, more: dict[str, list[str]]) -> None:
     Beside them it lays links to the toolchain, for `rt try` alone.
     """
     make_trying_kit(root / "kit")
-    crates = lines_in(CRATES)
+    crates = crate_uses()
     for name in crates:
         for part in PARTS:
             if Path("crates", name, part).is_dir():
                 shutil.copytree(Path("crates", name, part), root / "crates" / name / part)
     for name in more:
         (root / "crates" / name / "src").mkdir(parents=True)
-    lines = [f"{name}: {' '.join(uses)}\n" for name, uses in (crates | more).items()]
-    (root / CRATES).write_text("".join(lines))
+    write_lines(root / "crates.txt", crates | more)
 
 
 def try_tests(root: Path, name: str, **how) -> subprocess.CompletedProcess:

@@ -18,8 +18,9 @@ import textwrap
 from collections.abc import Iterator
 from pathlib import Path
 
+from workspace import crate_uses
+
 CRATES = Path("crates")
-ORDER = Path("crates.txt")
 COLUMNS = 120
 WHOLE = {"break_long_words": False, "break_on_hyphens": False}
 HEADING = re.compile(r"-- -+ (.*)")
@@ -122,14 +123,9 @@ def sentence(comment: str) -> str:
     return plain(comment) + ("" if comment.endswith(".") or not comment else ".")
 
 
-def all_crates() -> list[str]:
-    """The names of the crates, from the lowest one up."""
-    return re.findall(r"^(\w+)(?: staticlib)?:", ORDER.read_text(), re.M)
-
-
 def all_specs() -> dict[str, list[Spec]]:
     """The files of each crate that has some, from the lowest crate up."""
-    found = {crate: sorted(Path(CRATES, crate, "specs").glob("*.antt")) for crate in all_crates()}
+    found = {crate: sorted(Path(CRATES, crate, "specs").glob("*.antt")) for crate in crate_uses()}
     return {
         crate: [Spec(it) for it in files if it.stem != "Lib"] for crate, files in found.items() if len(files) > 1
     }
@@ -196,9 +192,9 @@ def main() -> None:
     parser.add_argument("crates", nargs="*", metavar="CRATE", help="a crate, of those in crates.txt")
     parser.add_argument("--contracts", action="store_true", help="contracts of calls, in place of definitions")
     given = parser.parse_args()
-    if wrong := set(given.crates) - set(all_crates()):
+    if wrong := set(given.crates) - set(crate_uses()):
         parser.error(f"crates.txt has no {', '.join(sorted(wrong))}")
-    sys.stdout.write((contracts if given.contracts else definitions)(given.crates or all_crates()))
+    sys.stdout.write((contracts if given.contracts else definitions)(given.crates or list(crate_uses())))
 
 
 if __name__ == "__main__":

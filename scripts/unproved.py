@@ -2,8 +2,8 @@
 
 The toolchain has no build without a proof that is meant to be kept: `rattle build` makes nothing of a crate that is not
 proved, and `rt try` compiles with checks, runs once and keeps nothing. So the module is taken from there, and its
-checks, which a proved module does not have, are taken out of its text: they cost some 45 in 100 of the time. `CHECK` is
-the one place that knows how they look.
+checks, which a proved module does not have, are taken out of its text: they cost some 45 in 100 of the time. `CHECK`
+and `KINDS` are the one place that knows how they look. A module with a check of another look or kind is refused.
 """
 
 from __future__ import annotations
@@ -11,12 +11,12 @@ from __future__ import annotations
 import re
 import shutil
 import tempfile
-from collections.abc import Callable, Iterable, Sequence
+from collections.abc import Callable, Sequence
 from pathlib import Path
 
 from toolchain import ROOT, answer_of, make_leaving_kit, text_of
+from workspace import crate_uses, crates_below, write_lines
 
-Uses = dict[str, list[str]]
 LIBRARY = "polyover_c"
 POLYOVER = ROOT / "crates" / "polyover"
 EXAMPLE = ROOT / "examples" / "square.txt"
@@ -25,6 +25,10 @@ EXAMPLE = ROOT / "examples" / "square.txt"
 CHECK = re.compile(
     r"^  call void @(?:llvm\.(?:trap\(\)|memset\.p0\.i64\(ptr %\w+, i8 -86,)|\"rattle-llvm-checks::).*\n", re.M
 )
+# Whatever else would be one, and the functions that test.
+LEFT = re.compile(r'^  .*(?:@llvm\.trap\(|@"rattle-llvm-checks::|@llvm\.memset[^\n]* i8 -86,).*$', re.M)
+TEST = re.compile(r'^define [^\n]*@"rattle-llvm-checks::(\w+)"', re.M)
+KINDS = {"Alignment", "Cast", "Null", "Offset", "Overflow", "Shift", "Signature", "Unreachable", "Value", "ZeroDivisor"}
 EXPORT = re.compile(r'^pub (?:unsafe )?extern "C" fn (\w+)(?:<[^(]*>)?\((.*?)\)\s+(?:->|ensures|\{)', re.M | re.S)
 DEFINED = re.compile(r'^define internal [^@\n]*(@"polyover_c::[\w:]*?(\w+)")\(', re.M)
 # A `main` from which all calls can be reached, though it makes none: `any` gives a value of each type, and never ends.
@@ -47,21 +51,6 @@ fn main() {{
 # ---- the crates
 
 
-def crate_uses() -> Uses:
-    """The crates of the repository, each with those that its line of crates.txt names."""
-    lines = [line.partition(":") for line in (ROOT / "crates.txt").read_text().splitlines() if not line.startswith("#")]
-    return {name.split()[0]: uses.split() for name, _, uses in lines}
-
-
-def crates_below(uses: Uses, named: Iterable[str]) -> set[str]:
-    """The crates of the repository among the ones named, and those below them."""
-    below = set()
-    for name in named:
-        if name in uses and name not in below:
-            below |= {name} | crates_below(uses, uses[name])
-    return below
-
-
 def make_repository(folder: Path, crate: Path, used: list[str]) -> Path:
     """A repository of a program's crate and the crates that it uses; gives the folder of the program's crate."""
     uses = crate_uses()
@@ -69,7 +58,7 @@ def make_repository(folder: Path, crate: Path, used: list[str]) -> Path:
     for name in lines:
         source = crate if name == crate.name else ROOT / "crates" / name
         shutil.copytree(source, folder / "crates" / name, ignore=shutil.ignore_patterns("out"))
-    (folder / "crates.txt").write_text("".join(f"{name}: {' '.join(its)}\n" for name, its in lines.items()))
+    write_lines(folder / "crates.txt", lines)
     return folder / "crates" / crate.name
 
 
@@ -114,9 +103,14 @@ def module_of(
 
 def without_checks(module: Path) -> str:
     """The text of a module without its checks."""
-    free, count = CHECK.subn("", text_of(module))
+    text = text_of(module)
+    free, count = CHECK.subn("", text)
     if count == 0:
         raise SystemExit("the module has no checks of the kind that is dropped")
+    if left := LEFT.search(free):
+        raise SystemExit(f"the module has a check that is not known: {left[0].strip()}")
+    if unknown := set(TEST.findall(text)) - KINDS:
+        raise SystemExit(f"the module has tests that are not known: {', '.join(sorted(unknown))}")
     return free
 
 
