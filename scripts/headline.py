@@ -113,16 +113,16 @@ TOLD = [
 # what the definitions take of Rattle's library
 STD = {
     "≡": "equal", "⊎": "or", "All": "holds of each entry of a list",
-    "Bool": "true or false", "true": "", "false": "", "cond": "the first where a test is true, else the second",
-    "not": "", "&&": "", "||": "", "==": "equality of natural numbers, as a test",
-    "ℕ": "natural numbers", "%": "remainder", "nat_abs": "a whole number without its sign", "ℤ": "whole numbers",
+    "Bool": "", "true": "", "false": "", "cond": "the first where a test is true, else the second",
+    "not": "", "&&": "", "||": "", "==": "",
+    "ℕ": "", "%": "", "nat_abs": "a whole number without its sign", "ℤ": "",
     "pos": "`pos n` is n", "negsuc": "`negsuc n` is -(n + 1)", "+ℤ": "", "-ℤ": "", "*ℤ": "", "<ℤ": "", "≤ℤ": "",
     "int_lt": "less, as a test", "int_le": "at most, as a test", "int_eq": "equality of whole numbers, as a test",
-    "List": "lists", "[]": "the empty list", "∷": "an entry before a list", "++": "two lists, one behind the other",
-    "map": "a function of each entry",
+    "List": "", "[]": "", "∷": "an entry before a list", "++": "",
+    "map": "",
     "flat_map": "the lists that a function gives of each entry, one behind the other",
     "Vec": "a vector of the program, whose field `items` is its list",
-    "Width": "a number of bits, as `w64`", "Option": "a value or none",
+    "Width": "a number of bits, as `w64`", "Option": "",
     "IfOk": "`IfOk r P` is `P x` of a result `Ok x`, and true of an error",
 }
 TOP = """# The headline, whole
@@ -137,12 +137,10 @@ down to Rattle's library. The order is that of reading: each definition cites on
 
 `self.old.edges` is what the builder holds before the call: the edges of the contours that were added, and where it was
 asked before, the arrangement that was left then. `self.new.edges` is the arrangement that it holds after the call, and
-`result` is the answer. Clause `result` speaks of the arrangement:
-`winds`, the first field of `IsResult`, is the first sentence. Clause `given` speaks of the edges before: `winds` of
-`WindsRoundGiven` is the second sentence. There k is the number of rounds that moved some point, at most one by snap
-rounding (field `few_moving` of `IsArranged`). So the law `snapped_winds_far` (`crates/i_overlay/src/snapped_far.rt`)
-says it outright: by snap rounding the second sentence holds of each point more than 1/2 away, of this call and of those
-that leave no builder.
+`result` is the answer. Field `winds` of clause `result` speaks of the arrangement, and is the first sentence. Field
+`winds` of clause `given` speaks of the edges before, and is the second one. There k is the number of rounds that moved
+some point, at most one by snap rounding (field `few_moving` of `IsArranged`). The law `snapped_winds_far`
+(`crates/i_overlay/src/snapped_far.rt`) says it outright for snap rounding, also of calls that leave no builder.
 """
 NOTATION = """## Notation
 
@@ -156,8 +154,8 @@ TYPE = """## The coordinate type
 """
 REST = """## What the rest of the contract adds
 
-Each field stands here with its comment, and the definitions that it stands on beside those above, by file.
-`scripts/specs.py CRATE ..` prints their comments. [DEFINITIONS](DEFINITIONS.md) tells them in plain words.
+Each field stands here with its comment. `scripts/specs.py` prints the definitions, [DEFINITIONS](DEFINITIONS.md) tells
+them in plain words.
 """
 
 
@@ -272,30 +270,12 @@ def fields_of(block: Block) -> list[tuple[str, str, list[str]]]:
     return fields
 
 
-def rest(specs: Specs, key: tuple[str, str], known: list[tuple[str, str]], skipped: str = "") -> str:
-    """What each field of a record adds to what is known already."""
-    out, block, known = "", specs.blocks[key], list(known)
-    for comment, name, lines in fields_of(block):
-        if name == skipped:
-            continue
-        found = [it for it in specs.closure(specs.cited(block, "\n".join(lines))) if it in specs.blocks]
-        added = sorted(it for it in found if it not in known and it != key)
-        known += added
-        out += f"\n#### `{name}`\n\n" + (wrapped(f"{comment[0].upper()}{comment[1:]}.") + "\n\n" if comment else "")
-        out += "```text\n" + "\n".join(lines) + "\n```\n" + listed(added)
-    return out
-
-
-def listed(added: list[tuple[str, str]]) -> str:
-    """Names of definitions, by file."""
-    files: dict[str, list[str]] = {}
-    for module, name in added:
-        files.setdefault(module, []).append(name)
-    out = f"\nIt adds {len(added)} definition{'s' * (len(added) != 1)}:\n\n" if added else ""
-    for module, names in files.items():
-        crate, _, stem = module.split(".")
-        link = f"[{crate}/{stem}](../crates/{crate}/specs/{stem}.antt)"
-        out += wrapped(f"- {link}: " + ", ".join(f"`{it}`" for it in names), "  ") + "\n"
+def rest(specs: Specs, key: tuple[str, str], skipped: str = "") -> str:
+    """The fields of a record, with their comments."""
+    out = "\n"
+    for comment, name, _ in fields_of(specs.blocks[key]):
+        if name != skipped:
+            out += wrapped(f"- `{name}`: {comment}" if comment else f"- `{name}`", "  ") + "\n"
     return out
 
 
@@ -360,8 +340,8 @@ def made() -> str:
     out += notation() + f"\n{TYPE}\n" + table_of_members(contract(), values) + told(specs, found)
     out += f"\n{REST}"
     for key in CLAUSES.values():
-        out += f"\n### `{key[1]}`\n" + rest(specs, key, found, "winds")
-    return out + f"\n### `{QUERY[1]}`\n" + rest(specs, QUERY, found)
+        out += f"\n### `{key[1]}`\n" + rest(specs, key, "winds")
+    return out + f"\n### `{QUERY[1]}`\n" + rest(specs, QUERY)
 
 
 def main() -> int:
