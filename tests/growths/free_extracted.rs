@@ -17,10 +17,10 @@ use overlay_extract::assemble::{assembled, contour};
 use overlay_extract::binding::anchor::hole_anchors;
 use overlay_extract::binding::bind::{bind_contours, bind_from};
 use overlay_extract::binding::islands::{hole_places, holes_round};
-use overlay_extract::binding::placed::{bound_places, placed_contours, placed_contours_of};
+use overlay_extract::binding::placed::{bound_places, placed_contours};
 use overlay_extract::binding::places::shape_places;
 use overlay_extract::extract::{
-    extract_contours, extract_flat_shapes_of, extract_shapes, extract_shapes_of,
+    extract_contours, extract_flat_shapes, extract_shapes,
 };
 use overlay_extract::flat_shapes::flat_assembled;
 use overlay_extract::hierarchy::extract_shape_hierarchy;
@@ -50,12 +50,12 @@ use overlay_walk::contour::{Contour, Role};
 use overlay_walk::contour_cut::cut_into_contours;
 use overlay_walk::groups::cut_in_groups;
 use overlay_walk::hand::HandRule;
-use overlay_walk::kept_contours::{kept_contours, kept_contours_of};
+use overlay_walk::kept_contours::kept_contours;
 use overlay_walk::open_steps::{OpenSteps, sort_steps};
 use overlay_walk::points_once::has_each_point_once;
 use overlay_walk::selected_steps::push_selected;
 use overlay_walk::selected_walks::{
-    selected_contours, selected_contours_of, selected_walks, selected_walks_of,
+    selected_contours, selected_walks,
 };
 use overlay_walk::step::Step;
 use std::alloc::AllocError;
@@ -190,23 +190,23 @@ fn check_walks<I: Width>(trial: &Trial<'_, impl Abort>) -> Result<(), Fail> {
         })?;
         let alike = gives(
             trial,
-            "overlay_walk::kept_contours_of",
+            "overlay_walk::kept_contours",
             &new_graph,
-            |graph, it| kept_contours_of(graph, SUBJECT, options, it),
+            |graph, it| kept_contours(graph, SUBJECT, options, it),
         )?;
         assert!(trial.rt; kept.len() == 4 && alike.len() == 4);
     }
     let alike = gives(
         trial,
-        "overlay_walk::selected_walks_of",
+        "overlay_walk::selected_walks",
         &new_graph,
-        |graph, it| selected_walks_of(graph, SUBJECT, DIRECTION, it),
+        |graph, it| selected_walks(graph, SUBJECT, DIRECTION, it),
     )?;
     let others = gives(
         trial,
-        "overlay_walk::selected_contours_of",
+        "overlay_walk::selected_contours",
         &new_graph,
-        |graph, it| selected_contours_of(graph, SUBJECT, DIRECTION, options.min_output_area, it),
+        |graph, it| selected_contours(graph, SUBJECT, DIRECTION, options.min_output_area, it),
     )?;
     assert!(trial.rt; alike.len() == 4 && others.len() == 4);
     let walks = lends(trial, "overlay_walk::selected_walks", |it| {
@@ -359,14 +359,14 @@ fn check_shapes<I: Width>(trial: &Trial<'_, impl Abort>) -> Result<(), Fail> {
         placed_contours(&graph, SUBJECT, options, it)
     })?;
     let places = trial.refuse_call("overlay_extract::bound_places", || {
-        bound_places(&graph, &contours, DIRECTION)
+        bound_places(memory, &contours, DIRECTION)
     })?;
     assert!(trial.rt; placed.places.len() == 3 && places.len() == 3);
     let placed = gives(
         trial,
-        "overlay_extract::placed_contours_of",
+        "overlay_extract::placed_contours",
         &new_graph,
-        |graph, it| placed_contours_of(graph, SUBJECT, options, it),
+        |graph, it| placed_contours(graph, SUBJECT, options, it),
     )?;
     assert!(trial.rt; placed.places.len() == 3);
     let shapes = lends(trial, "overlay_extract::extract_shapes", |it| {
@@ -374,20 +374,20 @@ fn check_shapes<I: Width>(trial: &Trial<'_, impl Abort>) -> Result<(), Fail> {
     })?;
     let alike = gives(
         trial,
-        "overlay_extract::extract_shapes_of",
+        "overlay_extract::extract_shapes",
         &new_graph,
-        |graph, it| extract_shapes_of(graph, SUBJECT, options, it),
+        |graph, it| extract_shapes(graph, SUBJECT, options, it),
     )?;
     assert!(trial.rt; alike == shapes);
     let flat = trial.refuse_each(
-        "overlay_extract::extract_flat_shapes_of",
+        "overlay_extract::extract_flat_shapes",
         || Ok((
             Some(plain_graph::<I>(memory)?),
             Some(BooleanExtractionBuffer::default(memory)),
         )),
         |it| {
             let buffer = it.1.take().ok_or(AllocError)?;
-            extract_flat_shapes_of(it.0.take().ok_or(AllocError)?, SUBJECT, options, buffer)
+            extract_flat_shapes(it.0.take().ok_or(AllocError)?, SUBJECT, options, buffer)
         },
         |_| Ok(true),
     )?;

@@ -104,7 +104,7 @@ fn requests_of_places<I: Width>(
         },
     );
     Ok([
-        trial.requests_of((), &|_: &mut ()| bound_places(&graph, &contours, direction))?,
+        trial.requests_of((), &|_: &mut ()| bound_places(memory, &contours, direction))?,
         by_limit(TREE)?,
         by_limit(LIST)?,
     ])
@@ -149,7 +149,7 @@ fn requests_of_links<I: Width>(
         new(),
         &|it| {
             let contours = kept_contours(&graph, SUBJECT, options, it)?;
-            let places = bound_places(&graph, &contours, direction)?;
+            let places = bound_places(memory, &contours, direction)?;
             let shapes = assembled(memory, &contours, &places, false)?;
             let ordered = in_shapes(memory, &contours, &places)?;
             let links = link_from(memory, &ordered, direction, tree_from)?;

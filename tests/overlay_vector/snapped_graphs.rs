@@ -87,7 +87,7 @@ fn assemble<I: OverlayInt>(
 ) -> Result<usize, OverlayError> {
     let options = IntOverlayOptions::keep_output_points();
     let contours = kept_contours(graph, OverlayRule::Union, options, buffer)?;
-    let places = bound_places(graph, &contours, options.output_direction)?;
+    let places = bound_places(*graph.allocator(), &contours, options.output_direction)?;
     Ok(assembled(graph, &contours, &places, true, store)?.len())
 }
 

@@ -2,7 +2,7 @@
 
 ghost use Rattle.std.specs.Prelude.{OnOk};
 ghost use Rattle.overlay_plane.specs.Carried.{edges_in};
-ghost use Rattle.overlay_arrange.specs.Arranged.{IsArranged};
+ghost use Rattle.overlay_graph.specs.Arranged.{IsArranged};
 
 use overlay_arrange::content::Content;
 use overlay_geom::error::OverlayError;

@@ -14,7 +14,7 @@ use Rattle.overlay_geom.specs.declared.options.ShapeType.TheVariants.{Subject}
 use Rattle.overlay_order.specs.Content.{IsContent, edge_for}
 use Rattle.overlay_order.specs.Counts.{boolean_counts}
 use Rattle.overlay_order.specs.declared.data.CountWithData.{CountWithData}
-use Rattle.overlay_arrange.specs.Arranged.{MayRefuseSplitting}
+use Rattle.overlay_graph.specs.Arranged.{MayRefuseSplitting}
 use Rattle.overlay_plane.specs.Carried.{Carried, edges_in}
 use Rattle.overlay_builder.specs.GivenPaths.{GivenPath, added_paths, paths_for}
 use Rattle.overlay_builder.specs.Held.{Held, AnswersQuery, nothing_held, plain_held}

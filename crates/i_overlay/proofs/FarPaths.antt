@@ -9,7 +9,7 @@ use Rattle.overlay_geom.specs.declared.solver.Solver.{Solver}
 use Rattle.overlay_geom.specs.declared.options.ShapeType.TheVariants.{Subject}
 use Rattle.overlay_plane.specs.ContourWindings.{once_round}
 use Rattle.overlay_plane.specs.ShapeWindings.{steps_of_shapes}
-use Rattle.overlay_arrange.specs.Arranged.{IsArranged}
+use Rattle.overlay_graph.specs.Arranged.{IsArranged}
 use Rattle.overlay_builder.specs.GivenPaths.{GivenPath, added_paths, paths_for}
 use Rattle.overlay_builder.specs.Held.{Held}
 use Rattle.overlay_builder.specs.PathLists.{HoldsPaths}

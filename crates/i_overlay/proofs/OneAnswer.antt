@@ -13,7 +13,7 @@ use Rattle.overlay_geom.specs.declared.options.ShapeType.TheVariants.{Subject}
 use Rattle.overlay_plane.specs.Islands.{ChildLink}
 use Rattle.overlay_plane.proofs.OneArrangement.{one_arrangement_of_shuffled, one_whole_arrangement}
 use Rattle.overlay_order.specs.Vectors.{Vector, vector_of}
-use Rattle.overlay_arrange.specs.Arranged.{IsArranged}
+use Rattle.overlay_graph.specs.Arranged.{IsArranged}
 use Rattle.overlay_builder.specs.GivenPaths.{GivenPath, added_paths, paths_for}
 use Rattle.overlay_builder.specs.Determined.{MemoryAloneRefuses}
 use Rattle.overlay_builder.specs.PathLists.{HoldsPaths}

@@ -14,7 +14,7 @@ use Rattle.overlay_geom.specs.declared.options.ContourDirection.{ContourDirectio
 use Rattle.overlay_geom.specs.declared.options.ContourDirection.TheVariants.{CounterClockwise}
 use Rattle.overlay_geom.specs.declared.options.IntOverlayOptions.{IntOverlayOptions}
 use Rattle.overlay_order.specs.Vectors.{Vector, vector_of}
-use Rattle.overlay_arrange.specs.Arranged.{IsArranged}
+use Rattle.overlay_graph.specs.Arranged.{IsArranged}
 use Rattle.overlay_builder.specs.Held.{Held, AnswersQuery}
 use Rattle.i_overlay.specs.OneShot.{asked_by_default, IsResultOfPaths, IsHierarchyOfPaths, AreEdgesOfPaths}
 use Rattle.i_overlay.specs.OneShot.{MayRefusePaths}

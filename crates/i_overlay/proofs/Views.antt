@@ -4,7 +4,7 @@ use Rattle.std.specs.Prelude.{◌≢◌, Ok}
 use Rattle.overlay_geom.specs.declared.solver.Solver.{Solver}
 use Rattle.overlay_geom.specs.declared.fill_rule.FillRule.{FillRule}
 use Rattle.overlay_plane.proofs.FarPoints.{far_points_wind_as_wanted}
-use Rattle.overlay_arrange.specs.Arranged.{IsArranged}
+use Rattle.overlay_graph.specs.Arranged.{IsArranged}
 use Rattle.overlay_builder.specs.Held.{AnswersQuery}
 use Rattle.overlay_extract.specs.Results.{region_asked, filled_asked}
 use Rattle.i_overlay.specs.Builder.{Builder, held_by}

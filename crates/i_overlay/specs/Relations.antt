@@ -9,7 +9,7 @@ use Rattle.overlay_geom.specs.Rules.{is_filled}
 use Rattle.overlay_geom.specs.declared.fill_rule.FillRule.{FillRule}
 use Rattle.overlay_geom.specs.declared.fill_rule.FillRule.TheVariants.{EvenOdd}
 use Rattle.overlay_plane.specs.Predicates.{IsWithin, IsFillable}
-use Rattle.overlay_arrange.specs.Arranged.{IsArranged}
+use Rattle.overlay_graph.specs.Arranged.{IsArranged}
 use Rattle.overlay_builder.specs.GivenPaths.{GivenPath, added_paths, subject_and_clip}
 use Rattle.overlay_builder.specs.PathLists.{HoldsPaths}
 use Rattle.overlay_relate.specs.PredicateBuilder.{PredicateBuilder}

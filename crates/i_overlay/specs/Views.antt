@@ -8,7 +8,7 @@ use Rattle.overlay_geom.specs.declared.fill_rule.FillRule.{FillRule}
 use Rattle.overlay_geom.specs.declared.options.IntOverlayOptions.{IntOverlayOptions}
 use Rattle.overlay_geom.specs.declared.overlay_rule.OverlayRule.{OverlayRule}
 use Rattle.overlay_graph.specs.Graphs.{Graph, graph_edges}
-use Rattle.overlay_arrange.specs.Arranged.{IsArranged}
+use Rattle.overlay_graph.specs.Arranged.{IsArranged}
 use Rattle.overlay_extract.specs.GivenRegion.{WindsRoundFarPoints}
 use Rattle.overlay_extract.specs.Results.{Asked, WindsRoundRegion, asked}
 

@@ -18,7 +18,7 @@ ghost use Rattle.overlay_extract.specs.Results.{asked, IsResult, IsContoursResul
 use crate::solver::Solver;
 use crate::viewed_graph::ViewedGraph;
 use overlay_builder::builder_core::BuilderCore;
-use overlay_extract::extract::{emptied, extract_contours, extract_shapes_of};
+use overlay_extract::extract::{emptied, extract_contours, extract_shapes};
 use overlay_geom::error::OverlayError;
 use overlay_geom::fill_rule::FillRule;
 use overlay_geom::flat::contours::FlatContoursBuffer;
@@ -225,7 +225,7 @@ impl<I: OverlayInt, A: Allocator + Clone> Overlay<I, A> {
             &mut self.boolean_buffer,
             graph.allocator(),
         )?;
-        let shapes = extract_shapes_of(graph, overlay_rule, self.options, &mut buffer);
+        let shapes = extract_shapes(graph, overlay_rule, self.options, &mut buffer);
         self.boolean_buffer = Some(buffer);
         Ok(shapes?)
     }

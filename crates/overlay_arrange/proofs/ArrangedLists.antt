@@ -11,8 +11,8 @@ use Rattle.overlay_geom.specs.Settled.{IsSettled}
 use Rattle.overlay_geom.specs.declared.solver.Solver.{Solver}
 use Rattle.overlay_geom.specs.declared.solver.Solver.TheVariants.{Rounds, Snapping}
 use Rattle.overlay_order.specs.Content.{IsContent}
-use Rattle.overlay_arrange.specs.Arranged.{most_rounds, IsArranged, IsArrangedCarrying, IsSplitCarrying}
-use Rattle.overlay_arrange.specs.Arranged.{MayRefuseSplitting}
+use Rattle.overlay_graph.specs.Arranged.{most_rounds, IsArranged, IsArrangedCarrying, IsSplitCarrying}
+use Rattle.overlay_graph.specs.Arranged.{MayRefuseSplitting}
 use Rattle.overlay_arrange.proofs.SolverRounds.{TakesRound}
 use Rattle.overlay_plane.proofs.AfterRounds.{arrangements_keep_balance, arranged_stays_arranged, no_rounds_again}
 use Rattle.overlay_plane.proofs.DerivedLists.{given_weaker}

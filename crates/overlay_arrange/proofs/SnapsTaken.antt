@@ -10,7 +10,7 @@ use Rattle.overlay_plane.specs.Carried.{Carried, edges_in}
 use Rattle.overlay_plane.specs.Cutting.{pieces_through}
 use Rattle.overlay_plane.specs.DerivedData.{CarriesMerged}
 use Rattle.overlay_order.specs.Content.{IsContent}
-use Rattle.overlay_arrange.specs.Arranged.{IsSplitCarrying}
+use Rattle.overlay_graph.specs.Arranged.{IsSplitCarrying}
 use Rattle.overlay_arrange.specs.Cut.{chain_by}
 use Rattle.overlay_arrange.specs.Snapping.{AreHeavyPieces, IsLedOnce}
 use Rattle.overlay_arrange.proofs.ArrangedLists.{carried_at_once, carried_on, forward_content}

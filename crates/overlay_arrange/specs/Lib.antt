@@ -1,4 +1,3 @@
-pub mod Arranged
 pub mod Cut
 pub mod HotPoints
 pub mod Meetings

@@ -4,8 +4,8 @@ ghost use Rattle.std.specs.Prelude.{◌≡◌, ◌≢◌, ◌↔◌, ◌^◌, fa
 ghost use Rattle.std.specs.Prelude.{Err, None, IfOk, IfErr, IfSome, OnOk, IsErrOf};
 ghost use Rattle.overlay_order.specs.Content.{IsAscending, IsContent};
 ghost use Rattle.overlay_pairs.specs.Changed.{AreOpenIn};
-ghost use Rattle.overlay_arrange.specs.Arranged.{IsArranged, IsArrangedCarrying, IsSplitCarrying};
-ghost use Rattle.overlay_arrange.specs.Arranged.{MayRefuseSplitting};
+ghost use Rattle.overlay_graph.specs.Arranged.{IsArranged, IsArrangedCarrying, IsSplitCarrying};
+ghost use Rattle.overlay_graph.specs.Arranged.{MayRefuseSplitting};
 ghost use Rattle.overlay_arrange.specs.Meetings.{plain_meetings, AreMeetings};
 ghost use Rattle.overlay_arrange.specs.Stores.{IsStoreReached};
 ghost use Rattle.overlay_geom.specs.Settled.{IsSettled};

@@ -6,7 +6,7 @@ ghost use Rattle.overlay_geom.specs.declared.solver.Solver.TheVariants.{Snapping
 ghost use Rattle.overlay_plane.specs.Arrangements.{IsReachedBy, IsSplit, WeighsTooMuch};
 ghost use Rattle.overlay_plane.specs.Carried.{edges_in};
 ghost use Rattle.overlay_order.specs.Content.{IsAscending, IsContent};
-ghost use Rattle.overlay_arrange.specs.Arranged.{IsSplitCarrying};
+ghost use Rattle.overlay_graph.specs.Arranged.{IsSplitCarrying};
 ghost use Rattle.overlay_arrange.specs.Meetings.{plain_meetings, AreByPlace, AreMeetings};
 ghost use Rattle.overlay_arrange.specs.SnapMeetings.{AreSnapMeetings};
 ghost use Rattle.overlay_arrange.specs.Snapping.{AreHeavyPieces, IsLedOnce};

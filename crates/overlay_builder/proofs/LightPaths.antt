@@ -12,7 +12,7 @@ use Rattle.overlay_geom.specs.declared.solver.Solver.TheVariants.{Rounds, Snappi
 use Rattle.overlay_geom.proofs.Shuffled.{weight_shuffled}
 use Rattle.overlay_plane.specs.EdgeLists.{IsForwardBy}
 use Rattle.overlay_plane.proofs.OneArrangement.{light_snaps_are_not_heavy}
-use Rattle.overlay_arrange.specs.Arranged.{IsArranged, MayRefuseSplitting}
+use Rattle.overlay_graph.specs.Arranged.{IsArranged, MayRefuseSplitting}
 use Rattle.overlay_builder.specs.Determined.{MemoryAloneRefuses, ArrangedPathsAreRefusedByMemoryAlone}
 use Rattle.overlay_builder.specs.PathLists.{AddedPath, AddsOne, AddsPaths, HoldsPaths, WouldWeighTooMuch}
 use Rattle.overlay_builder.specs.PathLists.AddsPaths.{no_path, path_and_others}

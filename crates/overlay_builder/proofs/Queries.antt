@@ -8,7 +8,7 @@ use Rattle.overlay_geom.specs.declared.error.OverlayError.{OverlayError}
 use Rattle.overlay_geom.specs.declared.error.OverlayError.TheVariants.{Memory, Failed}
 use Rattle.overlay_geom.specs.declared.solver.Solver.{Solver}
 use Rattle.overlay_order.specs.Content.{IsContent}
-use Rattle.overlay_arrange.specs.Arranged.{IsArranged, MayRefuseSplitting}
+use Rattle.overlay_graph.specs.Arranged.{IsArranged, MayRefuseSplitting}
 use Rattle.overlay_builder.specs.Held.{Held, AnswersQuery}
 
 module _ {V : Type 0} (limit : ℕ) (solver : Solver) (old : Held CountedEdge) where

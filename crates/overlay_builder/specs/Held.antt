@@ -7,7 +7,7 @@ use Rattle.overlay_geom.specs.declared.error.OverlayError.TheVariants.{Failed}
 use Rattle.overlay_geom.specs.declared.solver.Solver.{Solver}
 use Rattle.overlay_order.specs.Content.{IsContent}
 use Rattle.overlay_plane.specs.Carried.{Carried, edges_in}
-use Rattle.overlay_arrange.specs.Arranged.{IsArranged, MayRefuseSplitting}
+use Rattle.overlay_graph.specs.Arranged.{IsArranged, MayRefuseSplitting}
 
 -- the edges that a builder holds, and a mark that a query was refused since they were last dropped
 pub record Held (E : Type 0) : Type 0 where

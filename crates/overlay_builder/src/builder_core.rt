@@ -7,7 +7,7 @@ ghost use Rattle.overlay_geom.specs.Points.{plain_point, plain_points, InRange, 
 ghost use Rattle.overlay_plane.specs.Arrangements.{IsReachedBy};
 ghost use Rattle.overlay_plane.specs.Carried.{edges_in};
 ghost use Rattle.overlay_order.specs.Content.{IsContent};
-ghost use Rattle.overlay_arrange.specs.Arranged.{IsArrangedCarrying};
+ghost use Rattle.overlay_graph.specs.Arranged.{IsArrangedCarrying};
 ghost use Rattle.overlay_arrange.specs.Stores.{IsStoreReached};
 ghost use Rattle.overlay_builder.specs.AddedSteps.{AddsStep, LeavesStore, StepWeighsTooMuch};
 ghost use Rattle.overlay_builder.specs.BuilderCalls.{AddsOneAsAsked, AddsPathAsAsked};

@@ -5,7 +5,7 @@ use Rattle.overlay_geom.specs.Edges.{CountedEdge}
 use Rattle.overlay_geom.specs.Plane.{Step}
 use Rattle.overlay_geom.specs.declared.solver.Solver.{Solver}
 use Rattle.overlay_plane.proofs.FarPoints.{far_points_wind_as_wanted}
-use Rattle.overlay_arrange.specs.Arranged.{IsArranged}
+use Rattle.overlay_graph.specs.Arranged.{IsArranged}
 use Rattle.overlay_extract.specs.GivenRegion.{WindsRoundGiven}
 use Rattle.overlay_extract.specs.Results.{Asked, WindsRoundRegion, region_asked, filled_asked}
 

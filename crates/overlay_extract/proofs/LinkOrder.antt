@@ -10,10 +10,13 @@ use Rattle.std.proofs.lemmas.Bool.{eqb-true, and_parts, false_from_ne_true}
 use Rattle.std.proofs.lemmas.Cmp.{on_total, then_total, nat_cmp_total, tied_itself}
 use Rattle.std.proofs.lemmas.List.MinMax.{ranks_by}
 use Rattle.overlay_geom.proofs.Orders.{less_in_turn, tied_in_turn}
-use Rattle.overlay_arrange.proofs.MeetingRuns.{is_lt-nat_cmp}
 use Rattle.overlay_plane.specs.Islands.{ChildLink, link_lt}
 use Rattle.overlay_extract.specs.ChildLinks.{plain_link, link_order, is_link_before}
 use Rattle.overlay_extract.specs.declared.child_link.ChildLink.{ChildLink as LinkTaken}
+
+-- a number comes first where it is less
+less_of_numbers : (m n : ℕ) → is_lt (nat_cmp m n) ≡ nat_lt m n
+less_of_numbers m n = grind arith
 
 -- numbers tie where they are equal
 tie_of_numbers : (m n : ℕ) → (m == n) ≡ is_eq (nat_cmp m n)
@@ -35,11 +38,11 @@ link_lt-is_less k l =
     (k.parent_shape == l.parent_shape)
     (nat_lt k.parent_contour l.parent_contour ||
     (k.parent_contour == l.parent_contour && nat_lt k.child_shape l.child_shape))
-    (sym (is_lt-nat_cmp k.parent_shape l.parent_shape)) (tie_of_numbers k.parent_shape l.parent_shape)
+    (sym (less_of_numbers k.parent_shape l.parent_shape)) (tie_of_numbers k.parent_shape l.parent_shape)
     (less_in_turn (nat_cmp k.parent_contour l.parent_contour) (nat_cmp k.child_shape l.child_shape)
     (nat_lt k.parent_contour l.parent_contour) (k.parent_contour == l.parent_contour)
-    (nat_lt k.child_shape l.child_shape) (sym (is_lt-nat_cmp k.parent_contour l.parent_contour))
-    (tie_of_numbers k.parent_contour l.parent_contour) (sym (is_lt-nat_cmp k.child_shape l.child_shape)))
+    (nat_lt k.child_shape l.child_shape) (sym (less_of_numbers k.parent_contour l.parent_contour))
+    (tie_of_numbers k.parent_contour l.parent_contour) (sym (less_of_numbers k.child_shape l.child_shape)))
 
 -- all fields are equal
 abbrev pub has_same_fields : ChildLink → ChildLink → Bool

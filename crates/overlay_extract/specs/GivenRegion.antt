@@ -5,7 +5,7 @@ use Rattle.overlay_geom.specs.Plane.{PlanePoint, Step, winding}
 use Rattle.overlay_geom.specs.declared.solver.Solver.{Solver}
 use Rattle.overlay_plane.specs.ContourWindings.{wanted_winding}
 use Rattle.overlay_plane.specs.FarPoints.{IsFarFrom}
-use Rattle.overlay_arrange.specs.Arranged.{IsArranged}
+use Rattle.overlay_graph.specs.Arranged.{IsArranged}
 use Rattle.overlay_walk.specs.Asked.{Asked, region_asked, filled_asked}
 
 -- round each point more than k/2 away from the given edges, in x or in y, the contours wind once, in the output

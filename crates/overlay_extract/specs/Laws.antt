@@ -11,7 +11,7 @@ use Rattle.overlay_plane.specs.ContourWindings.{wanted_winding}
 use Rattle.overlay_plane.specs.Islands.{ChildLink}
 use Rattle.overlay_plane.specs.ShapeWindings.{steps_of_shapes}
 use Rattle.overlay_order.specs.Content.{IsContent}
-use Rattle.overlay_arrange.specs.Arranged.{IsArranged}
+use Rattle.overlay_graph.specs.Arranged.{IsArranged}
 use Rattle.overlay_extract.specs.PlacedResults.{IsHierarchy}
 use Rattle.overlay_extract.specs.Results.{Asked, region_asked, filled_asked, selected_of, IsResult}
 

@@ -15,7 +15,7 @@ ghost use Rattle.overlay_walk.specs.Walks.{plain_walks};
 ghost use Rattle.overlay_extract.specs.Results.{asked, AreKeptWalks, IsResult, IsContoursResult};
 
 use crate::assemble::{assembled, contour};
-use crate::binding::placed::{placed_contours, placed_contours_of};
+use crate::binding::placed::placed_contours;
 use crate::flat_shapes::flat_assembled;
 use overlay_geom::error::OverlayError;
 use overlay_geom::flat::contours::FlatContoursBuffer;
@@ -27,6 +27,7 @@ use overlay_geom::path::IntShapes;
 use overlay_graph::graph::Graph;
 use overlay_order::count::EdgeCount;
 use overlay_walk::area::large_walks;
+use overlay_walk::as_graph::AsGraph;
 use overlay_walk::buffer::BooleanExtractionBuffer;
 use overlay_walk::selected_walks::selected_walks;
 use overlay_walk::step::Step;
@@ -35,46 +36,28 @@ use std::alloc::{AllocError, Allocator};
 /// Returns the shapes round the region where the graph's fill rule and the overlay rule hold of the windings of the
 /// graph's edges. Each shape is its outline and then its holes, both in the order in which they are found. With `ogc`
 /// no contour visits a point twice, and the holes of an outline's own group come before the other holes of its shape.
-/// Contours below the minimum area are left out; an outline left out takes the holes of its group with it. The buffer
-/// lends its room.
-pub fn extract_shapes<I: IntNumber, C: EdgeCount, A: Allocator + Clone>(
-    graph: &Graph<I, C, A>,
+/// Contours below the minimum area are left out; an outline left out takes the holes of its group with it. The graph, or
+/// the reference to it, is dropped once the steps are selected. The buffer lends its room.
+pub fn extract_shapes<I: IntNumber, A: Allocator + Clone, G: AsGraph<I, A> + Drop>(
+    graph: G,
     overlay_rule: OverlayRule,
     options: IntOverlayOptions<I::WideUInt>,
     buffer: &mut BooleanExtractionBuffer<I, A>,
 ) -> Result<IntShapes<I, A>, AllocError>
-    requires { HasBalancedCounts (graph_edges graph.now) }
+    requires { HasBalancedCounts (graph_edges (G.graph graph)) }
     ensures result { IfOk result (λ v. IsResult
-        (asked I.Wide.width I.WideUInt.natural graph.now.fill_rule overlay_rule options)
-        (graph_edges graph.now) (plain_shapes I.whole v.items)) }
+        (asked I.Wide.width I.WideUInt.natural (G.graph graph).fill_rule overlay_rule options)
+        (graph_edges (G.graph graph)) (plain_shapes I.whole v.items)) }
 {
+    let alloc = graph.allocator().clone()?;
     let placed = placed_contours(graph, overlay_rule, options, buffer)?;
-    let alloc = graph.allocator().clone()?;
-    let keeps_points = options.preserve_output_collinear;
-    assembled(alloc, &placed.contours, &placed.places, keeps_points)
-}
-
-/// Returns the shapes that [`extract_shapes`] gives. It drops the graph before it puts the shapes together.
-pub fn extract_shapes_of<I: IntNumber, C: EdgeCount, A: Allocator + Clone>(
-    graph: Graph<I, C, A>,
-    overlay_rule: OverlayRule,
-    options: IntOverlayOptions<I::WideUInt>,
-    buffer: &mut BooleanExtractionBuffer<I, A>,
-) -> Result<IntShapes<I, A>, AllocError>
-    requires { HasBalancedCounts (graph_edges graph) }
-    ensures result { IfOk result (λ v. IsResult
-        (asked I.Wide.width I.WideUInt.natural graph.fill_rule overlay_rule options)
-        (graph_edges graph) (plain_shapes I.whole v.items)) }
-{
-    let alloc = graph.allocator().clone()?;
-    let placed = placed_contours_of(graph, overlay_rule, options, buffer)?;
     let keeps_points = options.preserve_output_collinear;
     assembled(alloc, &placed.contours, &placed.places, keeps_points)
 }
 
 /// Returns the shapes that [`extract_shapes`] gives, with their points in a single list: contours and points in their
 /// order, without gaps. It drops the graph and the buffer before it puts the shapes together.
-pub fn extract_flat_shapes_of<I: IntNumber, C: EdgeCount, A: Allocator + Clone>(
+pub fn extract_flat_shapes<I: IntNumber, C: EdgeCount, A: Allocator + Clone>(
     graph: Graph<I, C, A>,
     overlay_rule: OverlayRule,
     options: IntOverlayOptions<I::WideUInt>,
@@ -88,7 +71,7 @@ pub fn extract_flat_shapes_of<I: IntNumber, C: EdgeCount, A: Allocator + Clone>(
         (λ b. AreShapesPacked b.points.items b.contour_ranges.items b.shape_ranges.items) }
 {
     let alloc = graph.allocator().clone()?;
-    let placed = placed_contours_of(graph, overlay_rule, options, &mut buffer)?;
+    let placed = placed_contours(graph, overlay_rule, options, &mut buffer)?;
     drop(buffer);
     let keeps_points = options.preserve_output_collinear;
     flat_assembled(alloc, &placed.contours, &placed.places, keeps_points)

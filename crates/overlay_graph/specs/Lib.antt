@@ -1,3 +1,4 @@
+pub mod Arranged
 pub mod Ends
 pub mod FillTests
 pub mod Graphs

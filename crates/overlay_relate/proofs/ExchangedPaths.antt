@@ -20,7 +20,7 @@ use Rattle.overlay_plane.proofs.NearChains.{long_forward}
 use Rattle.overlay_plane.proofs.StepsAlong.{long_through}
 use Rattle.overlay_order.specs.Content.{count_for, edge_for, edge_with}
 use Rattle.overlay_order.specs.Counts.{boolean_counts}
-use Rattle.overlay_arrange.specs.Arranged.{IsArranged, most_rounds}
+use Rattle.overlay_graph.specs.Arranged.{IsArranged, most_rounds}
 use Rattle.overlay_arrange.proofs.ArrangedLists.{arranged_forward}
 use Rattle.overlay_builder.specs.GivenPaths.{GivenPath, added_path, added_paths}
 use Rattle.overlay_builder.specs.PathLists.{AddedPath, AddsPaths, HoldsPaths}

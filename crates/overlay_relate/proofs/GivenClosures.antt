@@ -12,7 +12,7 @@ use Rattle.overlay_plane.specs.Predicates.{Intersects, InteriorsIntersect, Touch
 use Rattle.overlay_plane.specs.Predicates.{IsDisjoint, IsFillable}
 use Rattle.overlay_plane.proofs.GivenPredicates.{off_is_far_by_nothing, kept_points_keep_relations}
 use Rattle.overlay_plane.proofs.GivenPredicates.{far_points_tell_relations}
-use Rattle.overlay_arrange.specs.Arranged.{IsArranged}
+use Rattle.overlay_graph.specs.Arranged.{IsArranged}
 use Rattle.overlay_relate.specs.Closures.{IsInClosure, IsInInterior, ClosuresMeet, ClosuresTouch, ClosuresMeetInPoints}
 use Rattle.overlay_relate.specs.Closures.{AreClosuresApart, ClosuresTell}
 use Rattle.overlay_relate.specs.GivenRelations.{TellsOfGivenMeeting, TellsOfGivenApart}

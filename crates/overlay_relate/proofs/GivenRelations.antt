@@ -10,7 +10,7 @@ use Rattle.overlay_plane.specs.Meetings.{MeetInWholePoints}
 use Rattle.overlay_plane.specs.Predicates.{InteriorsIntersect, IsWithin, Covers, IsFillable}
 use Rattle.overlay_plane.proofs.GivenPredicates.{kept_points_keep_relations}
 use Rattle.overlay_plane.proofs.GivenPredicates.{far_points_tell_relations}
-use Rattle.overlay_arrange.specs.Arranged.{IsArranged}
+use Rattle.overlay_graph.specs.Arranged.{IsArranged}
 use Rattle.overlay_relate.specs.GivenRelations.{TellsOfGivenInteriors, TellsOfGivenWithin, TellOfGivenRelations}
 use Rattle.overlay_relate.specs.GivenRelations.{QueriesTellOfGivenEdges}
 use Rattle.overlay_relate.specs.PredicateQueries.{AreRelations}

@@ -11,7 +11,7 @@ use Rattle.overlay_geom.proofs.Merging.{IsMerged-again}
 use Rattle.overlay_plane.specs.Predicates.{IsFillable}
 use Rattle.overlay_plane.specs.Rounds.{after_rounds, pieces_of}
 use Rattle.overlay_order.specs.Content.{IsContent}
-use Rattle.overlay_arrange.specs.Arranged.{IsArranged, WasArranged}
+use Rattle.overlay_graph.specs.Arranged.{IsArranged, WasArranged}
 use Rattle.overlay_arrange.proofs.ArrangedLists.{arranged_of_split}
 use Rattle.overlay_builder.specs.Held.{Held, AnswersQuery}
 use Rattle.overlay_builder.proofs.Queries.{answers_arranged, answers_after}

@@ -9,7 +9,7 @@ use Rattle.overlay_geom.specs.declared.error.OverlayError.TheVariants.{Memory, N
 use Rattle.overlay_geom.specs.declared.solver.Solver.{Solver}
 use Rattle.overlay_geom.specs.Rules.{is_filled}
 use Rattle.overlay_geom.specs.declared.fill_rule.FillRule.{FillRule}
-use Rattle.overlay_arrange.specs.Arranged.{IsArranged, MayRefuseSplitting}
+use Rattle.overlay_graph.specs.Arranged.{IsArranged, MayRefuseSplitting}
 use Rattle.overlay_builder.specs.GivenPaths.{GivenPath, added_paths}
 use Rattle.overlay_builder.specs.Held.{AnswersQuery}
 use Rattle.overlay_builder.specs.PathLists.{AddsPaths, HoldsPaths, StopsAtPath}

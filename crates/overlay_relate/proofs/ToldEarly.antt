@@ -11,7 +11,7 @@ use Rattle.overlay_plane.specs.Predicates.{fills_a_side, IsFillable}
 use Rattle.overlay_plane.proofs.EdgesTell.{edges_tell_predicates}
 use Rattle.overlay_order.specs.Content.{IsContent}
 use Rattle.overlay_graph.specs.FillTests.{some_fill_passes}
-use Rattle.overlay_arrange.specs.Arranged.{WasArranged}
+use Rattle.overlay_graph.specs.Arranged.{WasArranged}
 use Rattle.overlay_relate.specs.EdgeTests.{bits_pass, edge_passes}
 use Rattle.overlay_relate.specs.Findings.{telling_test, is_told, Tells}
 use Rattle.overlay_relate.specs.Found.{IsFoundUnder, answer_by}

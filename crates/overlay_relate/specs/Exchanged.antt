@@ -4,7 +4,7 @@ use Rattle.overlay_geom.specs.Edges.{CountedEdge}
 use Rattle.overlay_geom.specs.declared.solver.Solver.{Solver}
 use Rattle.overlay_geom.specs.declared.options.ShapeType.{ShapeType}
 use Rattle.overlay_geom.specs.declared.options.ShapeType.TheVariants.{Subject, Clip}
-use Rattle.overlay_arrange.specs.Arranged.{IsArranged}
+use Rattle.overlay_graph.specs.Arranged.{IsArranged}
 use Rattle.overlay_builder.specs.GivenPaths.{GivenPath, added_paths}
 use Rattle.overlay_builder.specs.PathLists.{HoldsPaths}
 use Rattle.overlay_relate.specs.PredicateLaws.{exchanged}

@@ -5,7 +5,7 @@ use Rattle.overlay_geom.specs.Rules.{is_filled}
 use Rattle.overlay_geom.specs.declared.fill_rule.FillRule.{FillRule}
 use Rattle.overlay_plane.specs.Predicates.{IsFillable}
 use Rattle.overlay_order.specs.Content.{IsContent}
-use Rattle.overlay_arrange.specs.Arranged.{WasArranged}
+use Rattle.overlay_graph.specs.Arranged.{WasArranged}
 use Rattle.overlay_builder.specs.GivenPaths.{IsBalancedUnlessFailed}
 use Rattle.overlay_relate.specs.Found.{IsFoundUnder, answer_by}
 use Rattle.overlay_relate.specs.PredicateQueries.{Holds}

@@ -7,7 +7,7 @@ use Rattle.overlay_geom.specs.declared.error.OverlayError.TheVariants.{Memory, N
 use Rattle.overlay_geom.specs.declared.solver.Solver.{Solver}
 use Rattle.overlay_geom.specs.Rules.{is_filled}
 use Rattle.overlay_geom.specs.declared.fill_rule.FillRule.{FillRule}
-use Rattle.overlay_arrange.specs.Arranged.{MayRefuseSplitting}
+use Rattle.overlay_graph.specs.Arranged.{MayRefuseSplitting}
 use Rattle.overlay_builder.specs.GivenPaths.{GivenPath, added_paths}
 use Rattle.overlay_builder.specs.PathLists.{HoldsPaths, SomePathWeighsTooMuch}
 use Rattle.overlay_relate.specs.Bounded.{Bounds}

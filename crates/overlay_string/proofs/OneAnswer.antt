@@ -12,7 +12,7 @@ use Rattle.overlay_geom.specs.declared.options.ContourDirection.TheVariants.{Cou
 use Rattle.overlay_plane.specs.EdgeLists.{IsForwardBy}
 use Rattle.overlay_plane.proofs.NearChains.{long_forward}
 use Rattle.overlay_plane.proofs.OneArrangement.{one_arrangement_of_shuffled}
-use Rattle.overlay_arrange.specs.Arranged.{IsArranged}
+use Rattle.overlay_graph.specs.Arranged.{IsArranged}
 use Rattle.overlay_builder.specs.Determined.{MemoryAloneRefuses}
 use Rattle.overlay_builder.specs.PathLists.{AddedPath, HoldsPaths}
 use Rattle.overlay_builder.proofs.LeadOn.{HasForwardEdges, paths_lead_on}

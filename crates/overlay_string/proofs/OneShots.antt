@@ -6,7 +6,7 @@ use Rattle.overlay_geom.specs.Edges.{CountedEdge}
 use Rattle.overlay_geom.specs.declared.error.OverlayError.{OverlayError}
 use Rattle.overlay_geom.specs.declared.error.OverlayError.TheVariants.{Memory, NotSettled, TooManyEdges, Failed}
 use Rattle.overlay_geom.specs.declared.solver.Solver.{Solver}
-use Rattle.overlay_arrange.specs.Arranged.{MayRefuseSplitting}
+use Rattle.overlay_graph.specs.Arranged.{MayRefuseSplitting}
 use Rattle.overlay_builder.specs.PathLists.{AddedPath, HoldsPaths, MayRefuseBuilder}
 use Rattle.overlay_string.specs.OneShot.{MayRefusePaths}
 

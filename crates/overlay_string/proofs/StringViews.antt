@@ -7,7 +7,7 @@ use Rattle.overlay_geom.specs.declared.fill_rule.FillRule.{FillRule}
 use Rattle.overlay_geom.specs.declared.overlay_rule.OverlayRule.TheVariants.{Subject}
 use Rattle.overlay_plane.proofs.FarPoints.{far_points_wind_as_wanted}
 use Rattle.overlay_graph.specs.Graphs.{Graph, graph_edges}
-use Rattle.overlay_arrange.specs.Arranged.{IsArranged}
+use Rattle.overlay_graph.specs.Arranged.{IsArranged}
 use Rattle.overlay_walk.specs.Steps.{filled_hand}
 use Rattle.overlay_builder.specs.Held.{AnswersQuery}
 use Rattle.overlay_string.specs.StringBuilder.{StringBuilder, held_by}

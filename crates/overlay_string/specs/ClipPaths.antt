@@ -6,7 +6,7 @@ use Rattle.overlay_geom.specs.Plane.{Point, Step, is_forward, reversed_step, bac
 use Rattle.overlay_geom.specs.declared.solver.Solver.{Solver}
 use Rattle.overlay_geom.specs.declared.fill_rule.FillRule.{FillRule}
 use Rattle.overlay_plane.specs.EdgeLists.{IsForwardBy}
-use Rattle.overlay_arrange.specs.Arranged.{IsArranged}
+use Rattle.overlay_graph.specs.Arranged.{IsArranged}
 use Rattle.overlay_string.specs.ClipPieces.{clip_pieces}
 use Rattle.overlay_string.specs.declared.clip_rule.ClipRule.{ClipRule}
 

@@ -6,7 +6,7 @@ use Rattle.overlay_geom.specs.declared.solver.Solver.{Solver}
 use Rattle.overlay_geom.specs.declared.fill_rule.FillRule.{FillRule}
 use Rattle.overlay_geom.specs.declared.options.ContourDirection.{ContourDirection}
 use Rattle.overlay_graph.specs.Graphs.{Graph, graph_edges}
-use Rattle.overlay_arrange.specs.Arranged.{IsArranged}
+use Rattle.overlay_graph.specs.Arranged.{IsArranged}
 use Rattle.overlay_extract.specs.Sliced.{WindsRoundFilled}
 use Rattle.overlay_string.specs.FarSlices.{WindsRoundFarFilled}
 

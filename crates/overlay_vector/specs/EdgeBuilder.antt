@@ -9,7 +9,7 @@ use Rattle.overlay_plane.specs.Carried.{Carried, edges_in}
 use Rattle.overlay_order.specs.EdgeData.{AreMerged, IsPiece, IsReversed}
 use Rattle.overlay_order.specs.declared.count.ShapeCountBoolean.{ShapeCountBoolean}
 use Rattle.overlay_order.specs.declared.data.CountWithData.{CountWithData}
-use Rattle.overlay_arrange.specs.Arranged.{IsArrangedCarrying}
+use Rattle.overlay_graph.specs.Arranged.{IsArrangedCarrying}
 use Rattle.overlay_builder.specs.Held.{Held}
 
 -- a builder of edges with data: its settings, whether it holds a buffer for extractions (of which nothing is seen), the

@@ -50,7 +50,8 @@ pub fn vector_shapes<I: IntNumber, D: OverlayEdgeData, A: Allocator + Clone>(
         ..options
     };
     let contours = kept_contours(graph, overlay_rule, without_groups, buffer)?;
-    let places = bound_places(graph, &contours, options.output_direction)?;
+    let alloc = graph.allocator().clone()?;
+    let places = bound_places(alloc, &contours, options.output_direction)?;
     assembled(
         graph,
         &contours,

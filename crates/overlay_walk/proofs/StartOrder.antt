@@ -7,12 +7,12 @@ use Rattle.std.specs.declared.cmp.Ordering.TheVariants.{Less, Equal, Greater}
 use Rattle.std.proofs.lemmas.Bool.{both_ways, false_from_ne_true, or_cases, or_left, or_right, and_parts, and_from}
 use Rattle.overlay_geom.specs.Plane.{Point, Edge, point_lt, point_eq, cross_at}
 use Rattle.overlay_geom.proofs.Orders.{point_eq-same, point_eq-of_same, point_lt-itself, point_lt-back}
+use Rattle.overlay_geom.proofs.PointComparisons.{point_cmp-is_tie}
 use Rattle.overlay_geom.proofs.PointOrder.{point_lt-transitive, point_lt-after_up_to}
 use Rattle.overlay_plane.specs.Nodes.{edge_turn, turns_left}
 use Rattle.overlay_plane.proofs.EdgeTurns.{edge_turn_same, left_after_left, IsForward, left_of_not_left}
 use Rattle.overlay_plane.proofs.Tests.{lt_from_test, test_from_lt}
 use Rattle.overlay_order.specs.Content.{point_cmp}
-use Rattle.overlay_arrange.proofs.EdgeOrder.{point_cmp-is_tie}
 use Rattle.overlay_walk.specs.Places.{comes_top_first}
 use Rattle.overlay_plane.proofs.TiedStarts.{tied_before}
 

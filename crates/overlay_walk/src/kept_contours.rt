@@ -13,18 +13,15 @@ ghost use Rattle.overlay_walk.specs.Steps.{filled_hand, IsLong, RunsAlong};
 ghost use Rattle.overlay_walk.specs.Walks.{plain_walks};
 
 use crate::area::large_walks;
+use crate::as_graph::AsGraph;
 use crate::buffer::BooleanExtractionBuffer;
 use crate::contour::{Contour, Role};
 use crate::filled_side::is_hole;
-use crate::selected_walks::{
-    selected_contours, selected_contours_of, selected_walks, selected_walks_of,
-};
+use crate::selected_walks::{selected_contours, selected_walks};
 use crate::step::Step;
 use overlay_geom::number::{IntNumber, UIntNumber, WideIntNumber};
 use overlay_geom::options::{ContourDirection, IntOverlayOptions};
 use overlay_geom::overlay_rule::OverlayRule;
-use overlay_graph::graph::Graph;
-use overlay_order::count::EdgeCount;
 use std::alloc::{AllocError, Allocator};
 
 /// Returns the contours of a cut of the graph's selected steps: steps along edges with the region of the graph's rule
@@ -36,52 +33,30 @@ use std::alloc::{AllocError, Allocator};
 /// side. Contours with three points or more that reach the minimum area are returned; a hole of an outline's group only
 /// with its outline.
 ///
-/// The counts of the edges are balanced. Without `ogc` each step has the number of its edge in the graph. The buffer
-/// lends its memory. After a refusal, the buffer may be left without memory.
-pub fn kept_contours<I: IntNumber, C: EdgeCount, A: Allocator + Clone>(
-    graph: &Graph<I, C, A>,
+/// The counts of the edges are balanced. Without `ogc` each step has the number of its edge in the graph. The graph, or
+/// the reference to it, is dropped once the steps are selected. The buffer lends its memory. After a refusal, the
+/// buffer may be left without memory.
+pub fn kept_contours<I: IntNumber, A: Allocator + Clone, G: AsGraph<I, A> + Drop>(
+    graph: G,
     overlay_rule: OverlayRule,
     options: IntOverlayOptions<I::WideUInt>,
     buffer: &mut BooleanExtractionBuffer<I, A>,
 ) -> Result<Vec<Contour<I, A>, A>, AllocError>
-    requires { HasBalancedCounts (graph_edges graph.now) }
+    requires { HasBalancedCounts (graph_edges (G.graph graph)) }
     ensures kept { IfOk result (λ cs. AreKeptResults
-        (asked I.Wide.width I.WideUInt.natural graph.now.fill_rule overlay_rule options)
-        (graph_edges graph.now) (plain_contours I.whole cs.items)) }
+        (asked I.Wide.width I.WideUInt.natural (G.graph graph).fill_rule overlay_rule options)
+        (graph_edges (G.graph graph)) (plain_contours I.whole cs.items)) }
     ensures long { IfOk result (λ cs. All (All (IsLong I.limit)) (walks_in (plain_contours I.whole cs.items))) }
     ensures along { IfOk result (λ cs. options.ogc ≡ false →
-        All (λ c. All (RunsAlong I.whole (all_ends (graph_edges graph.now))) c.steps.items) cs.items) }
+        All (λ c. All (RunsAlong I.whole (all_ends (graph_edges (G.graph graph)))) c.steps.items) cs.items) }
 {
     let direction = options.output_direction;
     let least = options.min_output_area;
     if options.ogc {
         return selected_contours(graph, overlay_rule, direction, least, buffer);
     }
-    let walks = selected_walks(graph, overlay_rule, direction, buffer)?;
-    let large = large_walks(graph.allocator().clone()?, walks, least)?;
-    roled(graph.allocator().clone()?, large, direction)
-}
-
-/// Returns the contours that [`kept_contours`] gives. It drops the graph once the steps are selected.
-pub fn kept_contours_of<I: IntNumber, C: EdgeCount, A: Allocator + Clone>(
-    graph: Graph<I, C, A>,
-    overlay_rule: OverlayRule,
-    options: IntOverlayOptions<I::WideUInt>,
-    buffer: &mut BooleanExtractionBuffer<I, A>,
-) -> Result<Vec<Contour<I, A>, A>, AllocError>
-    requires { HasBalancedCounts (graph_edges graph) }
-    ensures kept { IfOk result (λ cs. AreKeptResults
-        (asked I.Wide.width I.WideUInt.natural graph.fill_rule overlay_rule options)
-        (graph_edges graph) (plain_contours I.whole cs.items)) }
-    ensures long { IfOk result (λ cs. All (All (IsLong I.limit)) (walks_in (plain_contours I.whole cs.items))) }
-{
-    let direction = options.output_direction;
-    let least = options.min_output_area;
-    if options.ogc {
-        return selected_contours_of(graph, overlay_rule, direction, least, buffer);
-    }
     let alloc = graph.allocator().clone()?;
-    let walks = selected_walks_of(graph, overlay_rule, direction, buffer)?;
+    let walks = selected_walks(graph, overlay_rule, direction, buffer)?;
     let large = large_walks(alloc.clone()?, walks, least)?;
     roled(alloc, large, direction)
 }

@@ -2,6 +2,7 @@
 #![tactic(auto)]
 
 pub mod area;
+pub mod as_graph;
 pub mod buffer;
 pub mod contour;
 pub mod contour_cut;

@@ -15,6 +15,7 @@ ghost use Rattle.overlay_walk.specs.GroupedContours.{plain_contours};
 ghost use Rattle.overlay_walk.specs.Steps.{filled_hand, plain_steps, IsLong, RunsAlong};
 ghost use Rattle.overlay_walk.specs.Walks.{plain_walks};
 
+use crate::as_graph::AsGraph;
 use crate::buffer::BooleanExtractionBuffer;
 use crate::contour::Contour;
 use crate::contour_cut::cut_into_contours;
@@ -26,8 +27,6 @@ use crate::step::Step;
 use overlay_geom::number::{IntNumber, UIntNumber, WideIntNumber};
 use overlay_geom::options::ContourDirection;
 use overlay_geom::overlay_rule::OverlayRule;
-use overlay_graph::graph::Graph;
-use overlay_order::count::EdgeCount;
 use std::alloc::{AllocError, Allocator};
 
 /// Returns the walks of a cut of the graph's selected steps: steps along edges with the region of the graph's rule and
@@ -35,44 +34,25 @@ use std::alloc::{AllocError, Allocator};
 /// right. Outlines turn through their filled side, holes through their empty side. Each step has the number of its edge
 /// in the graph. The counts of the edges are balanced.
 ///
-/// The buffer lends its memory. After a refusal, the buffer may be left without memory.
-pub fn selected_walks<I: IntNumber, C: EdgeCount, A: Allocator + Clone>(
-    graph: &Graph<I, C, A>,
+/// It drops the graph, or the reference to it, before it puts the steps in order. The buffer lends its memory. After a
+/// refusal, the buffer may be left without memory.
+pub fn selected_walks<I: IntNumber, A: Allocator + Clone, G: AsGraph<I, A> + Drop>(
+    graph: G,
     overlay_rule: OverlayRule,
     direction: ContourDirection,
     buffer: &mut BooleanExtractionBuffer<I, A>,
 ) -> Result<Vec<Vec<Step<I>, A>, A>, AllocError>
-    requires { HasBalancedCounts (graph_edges graph.now) }
-    ensures cut { IfOk result (λ ws. AreCutFrom (rules_hold graph.now.fill_rule overlay_rule) subj_of clip_of
-        (graph_edges graph.now) (filled_hand direction) (plain_walks I.whole ws.items)) }
+    requires { HasBalancedCounts (graph_edges (G.graph graph)) }
+    ensures cut { IfOk result (λ ws. AreCutFrom (rules_hold (G.graph graph).fill_rule overlay_rule) subj_of clip_of
+        (graph_edges (G.graph graph)) (filled_hand direction) (plain_walks I.whole ws.items)) }
     ensures along { IfOk result (λ ws.
-        All (λ w. All (RunsAlong I.whole (all_ends (graph_edges graph.now))) w.items) ws.items) }
-    ensures long { IfOk result (λ ws. All (All (IsLong I.limit)) (plain_walks I.whole ws.items)) }
-{
-    let room = buffer.take_room(graph.allocator().clone()?);
-    let rule = HandRule::OutlineOrHole(direction);
-    let mut open = open_selected(graph, overlay_rule, direction, room)?;
-    let walks = cut_into_contours(graph.allocator().clone()?, &mut open, rule)?;
-    buffer.put_room(open.into_room());
-    Ok(walks)
-}
-
-/// Returns the walks that [`selected_walks`] gives. It drops the graph as soon as the steps are selected.
-pub fn selected_walks_of<I: IntNumber, C: EdgeCount, A: Allocator + Clone>(
-    graph: Graph<I, C, A>,
-    overlay_rule: OverlayRule,
-    direction: ContourDirection,
-    buffer: &mut BooleanExtractionBuffer<I, A>,
-) -> Result<Vec<Vec<Step<I>, A>, A>, AllocError>
-    requires { HasBalancedCounts (graph_edges graph) }
-    ensures cut { IfOk result (λ ws. AreCutFrom (rules_hold graph.fill_rule overlay_rule) subj_of clip_of
-        (graph_edges graph) (filled_hand direction) (plain_walks I.whole ws.items)) }
+        All (λ w. All (RunsAlong I.whole (all_ends (graph_edges (G.graph graph)))) w.items) ws.items) }
     ensures long { IfOk result (λ ws. All (All (IsLong I.limit)) (plain_walks I.whole ws.items)) }
 {
     let alloc = graph.allocator().clone()?;
     let room = buffer.take_room(alloc.clone()?);
     let rule = HandRule::OutlineOrHole(direction);
-    let mut open = open_selected_of(graph, overlay_rule, direction, room)?;
+    let mut open = open_selected(graph, overlay_rule, direction, room)?;
     let walks = cut_into_contours(alloc, &mut open, rule)?;
     buffer.put_room(open.into_room());
     Ok(walks)
@@ -82,80 +62,42 @@ pub fn selected_walks_of<I: IntNumber, C: EdgeCount, A: Allocator + Clone>(
 /// [`cut_in_groups`] tells. The steps are those of [`selected_walks`]. No contour visits a point twice. The counts of
 /// the edges, which are an arrangement, are balanced.
 ///
-/// The buffer lends its memory. After a refusal, the buffer may be left without memory.
-pub fn selected_contours<I: IntNumber, C: EdgeCount, A: Allocator + Clone>(
-    graph: &Graph<I, C, A>,
+/// The graph is dropped, and the buffer lends its memory, as in [`selected_walks`].
+pub fn selected_contours<I: IntNumber, A: Allocator + Clone, G: AsGraph<I, A> + Drop>(
+    graph: G,
     overlay_rule: OverlayRule,
     direction: ContourDirection,
     min_output_area: I::WideUInt,
     buffer: &mut BooleanExtractionBuffer<I, A>,
 ) -> Result<Vec<Contour<I, A>, A>, AllocError>
-    requires { HasBalancedCounts (graph_edges graph.now) }
+    requires { HasBalancedCounts (graph_edges (G.graph graph)) }
     ensures cut { IfOk result (λ cs. IsCutInGroups (filled_hand direction)
         (λ w. reaches I.Wide.width (I.WideUInt.natural min_output_area) w)
-        (selected_steps (rules_hold graph.now.fill_rule overlay_rule) subj_of clip_of (filled_hand direction)
-        (graph_edges graph.now)) (plain_contours I.whole cs.items)) }
+        (selected_steps (rules_hold (G.graph graph).fill_rule overlay_rule) subj_of clip_of (filled_hand direction)
+        (graph_edges (G.graph graph))) (plain_contours I.whole cs.items)) }
     ensures simple { IfOk result (λ cs. All (λ c. IsSimpleContour c.steps) (plain_contours I.whole cs.items)) }
-    ensures arranged { IsArrangement I.limit (graph_edges graph.now) }
-{
-    let room = buffer.take_room(graph.allocator().clone()?);
-    let open = open_selected(graph, overlay_rule, direction, room)?;
-    let alloc = graph.allocator().clone()?;
-    let (contours, room) = cut_in_groups(alloc, open, direction, min_output_area)?;
-    buffer.put_room(room);
-    Ok(contours)
-}
-
-/// Returns the contours that [`selected_contours`] gives. It drops the graph as soon as the steps are selected.
-pub fn selected_contours_of<I: IntNumber, C: EdgeCount, A: Allocator + Clone>(
-    graph: Graph<I, C, A>,
-    overlay_rule: OverlayRule,
-    direction: ContourDirection,
-    min_output_area: I::WideUInt,
-    buffer: &mut BooleanExtractionBuffer<I, A>,
-) -> Result<Vec<Contour<I, A>, A>, AllocError>
-    requires { HasBalancedCounts (graph_edges graph) }
-    ensures cut { IfOk result (λ cs. IsCutInGroups (filled_hand direction)
-        (λ w. reaches I.Wide.width (I.WideUInt.natural min_output_area) w)
-        (selected_steps (rules_hold graph.fill_rule overlay_rule) subj_of clip_of (filled_hand direction)
-        (graph_edges graph)) (plain_contours I.whole cs.items)) }
-    ensures arranged { IsArrangement I.limit (graph_edges graph) }
+    ensures arranged { IsArrangement I.limit (graph_edges (G.graph graph)) }
 {
     let alloc = graph.allocator().clone()?;
     let room = buffer.take_room(alloc.clone()?);
-    let open = open_selected_of(graph, overlay_rule, direction, room)?;
+    let open = open_selected(graph, overlay_rule, direction, room)?;
     let (contours, room) = cut_in_groups(alloc, open, direction, min_output_area)?;
     buffer.put_room(room);
     Ok(contours)
 }
 
 // Returns the selected steps of the graph, none of them walked, each with its edge's number, in the memory of the list.
-fn open_selected<I: IntNumber, C: EdgeCount, A: Allocator + Clone>(
-    graph: &Graph<I, C, A>,
+// It drops the graph before it puts them in order.
+fn open_selected<I: IntNumber, A: Allocator + Clone, G: AsGraph<I, A> + Drop>(
+    graph: G,
     overlay_rule: OverlayRule,
     direction: ContourDirection,
     mut steps: Vec<Step<I>, A>,
 ) -> Result<OpenSteps<I, A>, AllocError>
     requires { steps.items ≡ [] }
-    ensures selected { IfOk result (λ o. IsPermutation (selected_steps (rules_hold graph.now.fill_rule overlay_rule)
-        subj_of clip_of (filled_hand direction) (graph_edges graph.now)) (plain_steps I.whole o)) }
-    ensures along { IfOk result (All (RunsAlong I.whole (all_ends (graph_edges graph.now)))) }
-{
-    let edges = graph.edges();
-    push_selected(&mut steps, edges, overlay_rule, direction)?;
-    OpenSteps::new(steps)
-}
-
-// Returns the steps that [`open_selected`] gives, and drops the graph before it puts them in order.
-fn open_selected_of<I: IntNumber, C: EdgeCount, A: Allocator + Clone>(
-    graph: Graph<I, C, A>,
-    overlay_rule: OverlayRule,
-    direction: ContourDirection,
-    mut steps: Vec<Step<I>, A>,
-) -> Result<OpenSteps<I, A>, AllocError>
-    requires { steps.items ≡ [] }
-    ensures { IfOk result (λ o. IsPermutation (selected_steps (rules_hold graph.fill_rule overlay_rule)
-        subj_of clip_of (filled_hand direction) (graph_edges graph)) (plain_steps I.whole o)) }
+    ensures selected { IfOk result (λ o. IsPermutation (selected_steps (rules_hold (G.graph graph).fill_rule overlay_rule)
+        subj_of clip_of (filled_hand direction) (graph_edges (G.graph graph))) (plain_steps I.whole o)) }
+    ensures along { IfOk result (All (RunsAlong I.whole (all_ends (graph_edges (G.graph graph))))) }
 {
     let edges = graph.edges();
     push_selected(&mut steps, edges, overlay_rule, direction)?;

@@ -1,7 +1,7 @@
 -- What the answer of one relation tells of the arrays, and why none is told.
 use Rattle.std.proofs.Common.{◌≡◌, ◌<◌, ◌≤◌, ℕ, ℤ, Bool, false, List, inl, inr, refl, ap, ap₂, subst, sym, arith}
 use Rattle.std.specs.Prelude.{◌↔◌, Result, Ok, Err, MatchResult, IsTrue}
-use Rattle.overlay_arrange.specs.Arranged.{IsArranged}
+use Rattle.overlay_graph.specs.Arranged.{IsArranged}
 use Rattle.overlay_geom.specs.Rules.{bit, is_filled}
 use Rattle.overlay_geom.specs.declared.fill_rule.FillRule.{FillRule}
 use Rattle.overlay_geom.specs.Edges.{CountedEdge}

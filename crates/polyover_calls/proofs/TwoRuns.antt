@@ -3,7 +3,7 @@ use Rattle.std.proofs.Common.{◌≡◌, ◌⊎◌, inl, inr, ⊎_elim, ℕ, Boo
 use Rattle.overlay_geom.specs.Edges.{CountedEdge}
 use Rattle.overlay_geom.specs.declared.error.OverlayError.{OverlayError}
 use Rattle.overlay_geom.specs.declared.error.OverlayError.TheVariants as error
-use Rattle.overlay_arrange.specs.Arranged.{IsArranged}
+use Rattle.overlay_graph.specs.Arranged.{IsArranged}
 use Rattle.overlay_builder.specs.GivenPaths.{GivenPath, added_paths}
 use Rattle.overlay_builder.specs.PathLists.{HoldsPaths}
 use Rattle.overlay_string.specs.OneShot.{MayRefusePaths as MayRefuseStrings}

@@ -12,7 +12,7 @@ use Rattle.overlay_geom.specs.declared.error.OverlayError.{OverlayError}
 use Rattle.overlay_geom.specs.declared.error.OverlayError.TheVariants.{Memory, NotSettled, TooManyEdges, Failed}
 use Rattle.overlay_geom.specs.declared.solver.Solver.TheVariants.{Rounds}
 use Rattle.overlay_geom.specs.declared.fill_rule.FillRule.{FillRule}
-use Rattle.overlay_arrange.specs.Arranged.{MayRefuseSplitting}
+use Rattle.overlay_graph.specs.Arranged.{MayRefuseSplitting}
 use Rattle.overlay_builder.specs.PathLists.{AddedPath, MayRefusePath, HoldsPaths, MayRefuseBuilder}
 use Rattle.overlay_builder.specs.PathLists.AddsPaths.{no_path}
 use Rattle.overlay_builder.proofs.BuilderCalls.{refusal_of_path}

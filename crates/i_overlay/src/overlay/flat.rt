@@ -9,7 +9,7 @@ ghost use Rattle.overlay_geom.specs.Settled.{IsSettled};
 ghost use Rattle.i_overlay.specs.UsedUp.{GivesFlatShapes};
 
 use crate::overlay::Overlay;
-use overlay_extract::extract::extract_flat_shapes_of;
+use overlay_extract::extract::extract_flat_shapes;
 use overlay_geom::error::OverlayError;
 use overlay_geom::fill_rule::FillRule;
 use overlay_geom::flat::shapes::FlatShapesBuffer;
@@ -61,6 +61,6 @@ impl<I: OverlayInt, A: Allocator + Clone> Overlay<I, A> {
             graph.allocator(),
         )?;
         drop(self);
-        Ok(extract_flat_shapes_of(graph, overlay_rule, options, buffer)?)
+        Ok(extract_flat_shapes(graph, overlay_rule, options, buffer)?)
     }
 }

@@ -3,7 +3,7 @@
 ghost use Rattle.std.specs.Prelude.{◌≡◌, IfOk, IfSome};
 ghost use Rattle.std.specs.Borrow.{sem};
 ghost use Rattle.std.specs.Io.BufRead.{Rests};
-ghost use Rattle.overlay_arrange.specs.Arranged.{IsArranged};
+ghost use Rattle.overlay_graph.specs.Arranged.{IsArranged};
 ghost use Rattle.overlay_builder.specs.BuilderCalls.{EndsView};
 ghost use Rattle.overlay_builder.specs.Held.{shown_edges};
 ghost use Rattle.i_overlay.specs.Builder.{held_by};

@@ -6,7 +6,7 @@ ghost use Rattle.overlay_plane.specs.Predicates.{IsWithin, Covers};
 ghost use Rattle.overlay_order.specs.Content.{IsContent};
 ghost use Rattle.overlay_graph.specs.FillTests.{some_fill_passes, IsFoundUnless};
 ghost use Rattle.overlay_graph.specs.Graphs.{graph_edges};
-ghost use Rattle.overlay_arrange.specs.Arranged.{WasArranged};
+ghost use Rattle.overlay_graph.specs.Arranged.{WasArranged};
 ghost use Rattle.overlay_plane.specs.Balance.{HasBalancedCounts};
 ghost use Rattle.overlay_builder.specs.Held.{AnswersQuery};
 ghost use Rattle.overlay_relate.specs.EdgeTests.{bits_pass};

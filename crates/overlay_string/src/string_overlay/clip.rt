@@ -6,7 +6,7 @@ ghost use Rattle.overlay_geom.specs.Packed.{IsPacked};
 ghost use Rattle.overlay_geom.specs.Paths.{paths_of_shape};
 ghost use Rattle.overlay_geom.specs.declared.solver.Solver.TheVariants.{Rounds};
 ghost use Rattle.overlay_graph.specs.Graphs.{graph_edges};
-ghost use Rattle.overlay_arrange.specs.Arranged.{MayRefuseSplitting};
+ghost use Rattle.overlay_graph.specs.Arranged.{MayRefuseSplitting};
 ghost use Rattle.overlay_string.specs.ClipPaths.{ArePathsOf, AreClipped};
 ghost use Rattle.overlay_string.specs.ClipPieces.{clip_pieces};
 

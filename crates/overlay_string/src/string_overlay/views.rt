@@ -6,7 +6,7 @@ ghost use Rattle.std.specs.Io.BufRead.{Rests};
 ghost use Rattle.overlay_geom.specs.Paths.{plain_shapes};
 ghost use Rattle.overlay_geom.specs.declared.solver.Solver.TheVariants.{Rounds};
 ghost use Rattle.overlay_graph.specs.Graphs.{graph_edges};
-ghost use Rattle.overlay_arrange.specs.Arranged.{IsArranged, MayRefuseSplitting};
+ghost use Rattle.overlay_graph.specs.Arranged.{IsArranged, MayRefuseSplitting};
 ghost use Rattle.overlay_builder.specs.BuilderCalls.{EndsView};
 ghost use Rattle.overlay_builder.specs.Held.{AnswersQuery, shown_edges};
 ghost use Rattle.overlay_string.specs.StringBuilder.{held_by};

@@ -19,12 +19,12 @@ use Rattle.overlay_walk.proofs.kept_contours.kept_contours.Goals as goal
 pub returns-then-options-clause-kept : goal.returns-then-options-clause-kept
 returns-then-options-clause-kept g c =
     let whole = g.I.IntNumber.whole in
-    let q : Asked = asked g.I.Wide.WideIntNumber.width g.I.WideUInt.UIntNumber.natural c.args.graph.now.fill_rule
+    let q : Asked = asked g.I.Wide.WideIntNumber.width g.I.WideUInt.UIntNumber.natural (g.G.AsGraph.graph c.args.graph).fill_rule
     c.args.overlay_rule c.args.options in
-    let es = graph_edges c.args.graph.now in
+    let es = graph_edges (g.G.AsGraph.graph c.args.graph) in
     let arranged = c.selected_contours.ensures.arranged in
     let ruled = ruled_content g.I.IntNumber.limit es arranged.content arranged.ascending arranged.settled c.requires
-    c.args.graph.now.fill_rule c.args.overlay_rule in
+    (g.G.AsGraph.graph c.args.graph).fill_rule c.args.overlay_rule in
     IfOk-weaker c.selected_contours.result _ (λ cs. AreKeptResults q es (plain_contours whole cs.items))
     (λ cs cut. kept_results q es (plain_contours whole cs.items)
     (kept_with_groups q es (plain_contours whole cs.items) c.if-options.true ruled cut))
@@ -34,12 +34,12 @@ pub returns-then-options-clause-long : goal.returns-then-options-clause-long
 returns-then-options-clause-long g c =
     let whole = g.I.IntNumber.whole in
     let limit = g.I.IntNumber.limit in
-    let q : Asked = asked g.I.Wide.WideIntNumber.width g.I.WideUInt.UIntNumber.natural c.args.graph.now.fill_rule
+    let q : Asked = asked g.I.Wide.WideIntNumber.width g.I.WideUInt.UIntNumber.natural (g.G.AsGraph.graph c.args.graph).fill_rule
     c.args.overlay_rule c.args.options in
-    let es = graph_edges c.args.graph.now in
+    let es = graph_edges (g.G.AsGraph.graph c.args.graph) in
     let arranged = c.selected_contours.ensures.arranged in
     let ruled = ruled_content limit es arranged.content arranged.ascending arranged.settled c.requires
-    c.args.graph.now.fill_rule c.args.overlay_rule in
+    (g.G.AsGraph.graph c.args.graph).fill_rule c.args.overlay_rule in
     IfOk-weaker c.selected_contours.result _ (λ cs. All (All (IsLong limit)) (walks_in (plain_contours whole cs.items)))
     (λ cs cut. kept_are_long q es (plain_contours whole cs.items)
     (kept_with_groups q es (plain_contours whole cs.items) c.if-options.true ruled cut) limit arranged.content)
@@ -47,7 +47,7 @@ returns-then-options-clause-long g c =
 
 pub returns-then-options-clause-along : goal.returns-then-options-clause-along
 returns-then-options-clause-along g c =
-    let along = RunsAlong g.I.IntNumber.whole (all_ends (graph_edges c.args.graph.now)) in
+    let along = RunsAlong g.I.IntNumber.whole (all_ends (graph_edges (g.G.AsGraph.graph c.args.graph))) in
     IfOk-weaker c.selected_contours.result _
     (λ cs. c.args.options.ogc ≡ false → All (λ (k : _). All along k.steps.items) cs.items)
     (λ cs cut is. absurd (false≢true (sym is ∙ c.if-options.true)))
@@ -55,7 +55,7 @@ returns-then-options-clause-along g c =
 
 pub returns-clause-along : goal.returns-clause-along
 returns-clause-along g c =
-    let along = RunsAlong g.I.IntNumber.whole (all_ends (graph_edges c.args.graph.now)) in
+    let along = RunsAlong g.I.IntNumber.whole (all_ends (graph_edges (g.G.AsGraph.graph c.args.graph))) in
     IfOk-weaker c.roled.result _
     (λ cs. c.args.options.ogc ≡ false → All (λ (k : _). All along k.steps.items) cs.items)
     (λ cs are is. of_each_walk (λ (w : _). All along w.items) cs.items c.in_ok-large.large.items are
@@ -66,9 +66,9 @@ returns-clause-along g c =
 pub returns-clause-kept : goal.returns-clause-kept
 returns-clause-kept g c =
     let whole = g.I.IntNumber.whole in
-    let q : Asked = asked g.I.Wide.WideIntNumber.width g.I.WideUInt.UIntNumber.natural c.args.graph.now.fill_rule
+    let q : Asked = asked g.I.Wide.WideIntNumber.width g.I.WideUInt.UIntNumber.natural (g.G.AsGraph.graph c.args.graph).fill_rule
     c.args.overlay_rule c.args.options in
-    let es = graph_edges c.args.graph.now in
+    let es = graph_edges (g.G.AsGraph.graph c.args.graph) in
     IfOk-weaker c.roled.result _ (λ cs. AreKeptResults q es (plain_contours whole cs.items))
     (λ cs are. kept_results q es (plain_contours whole cs.items)
     (kept_without q es (plain_walks whole c.in_ok-walks.walks.items) (plain_contours whole cs.items) c.if-options.false
@@ -81,9 +81,9 @@ pub returns-clause-long : goal.returns-clause-long
 returns-clause-long g c =
     let whole = g.I.IntNumber.whole in
     let limit = g.I.IntNumber.limit in
-    let q : Asked = asked g.I.Wide.WideIntNumber.width g.I.WideUInt.UIntNumber.natural c.args.graph.now.fill_rule
+    let q : Asked = asked g.I.Wide.WideIntNumber.width g.I.WideUInt.UIntNumber.natural (g.G.AsGraph.graph c.args.graph).fill_rule
     c.args.overlay_rule c.args.options in
-    let es = graph_edges c.args.graph.now in
+    let es = graph_edges (g.G.AsGraph.graph c.args.graph) in
     IfOk-weaker c.roled.result _ (λ cs. All (All (IsLong limit)) (walks_in (plain_contours whole cs.items)))
     (λ cs are. kept_are_long q es (plain_contours whole cs.items)
     (kept_without q es (plain_walks whole c.in_ok-walks.walks.items) (plain_contours whole cs.items) c.if-options.false

@@ -22,18 +22,18 @@ new-requires g c =
     let whole = g.I.IntNumber.whole in
     let filled = filled_hand c.args.direction in
     let vectors = c.edges-edges.ensures.filled in
-    let are = selected_in_room c.args.graph.now.fill_rule c.args.overlay_rule (graph_edges c.args.graph.now) filled _ _
+    let are = selected_in_room (g.G.AsGraph.graph c.args.graph).fill_rule c.args.overlay_rule (graph_edges (g.G.AsGraph.graph c.args.graph)) filled _ _
     _ (ap (plain_steps whole) c.requires) vectors c.in_ok-push_selected.ensures.ok in
     subst (All (IsLong g.I.IntNumber.limit)) (sym are)
-    (selected_are_long g.I.IntNumber.limit (graph_edges c.args.graph.now) c.edges-edges.ensures.arranged.content
-    (rules_hold c.args.graph.now.fill_rule c.args.overlay_rule) subj_of clip_of filled)
+    (selected_are_long g.I.IntNumber.limit (graph_edges (g.G.AsGraph.graph c.args.graph)) c.edges-edges.ensures.arranged.content
+    (rules_hold (g.G.AsGraph.graph c.args.graph).fill_rule c.args.overlay_rule) subj_of clip_of filled)
 
 pub returns-clause-selected : goal.returns-clause-selected
 returns-clause-selected g c =
     let whole = g.I.IntNumber.whole in
     let filled = filled_hand c.args.direction in
     let vectors = c.edges-edges.ensures.filled in
-    let are = selected_in_room c.args.graph.now.fill_rule c.args.overlay_rule (graph_edges c.args.graph.now) filled _ _
+    let are = selected_in_room (g.G.AsGraph.graph c.args.graph).fill_rule c.args.overlay_rule (graph_edges (g.G.AsGraph.graph c.args.graph)) filled _ _
     _ (ap (plain_steps whole) c.requires) vectors c.in_ok-push_selected.ensures.ok in
     IfOk-weaker c.new.result (λ o. IsPermutation c.push_selected.new.steps.items o) _
     (λ o moved. subst (λ ss. IsPermutation ss (plain_steps whole o)) are
@@ -43,11 +43,11 @@ returns-clause-selected g c =
 pub returns-clause-along : goal.returns-clause-along
 returns-clause-along g c =
     let whole = g.I.IntNumber.whole in
-    let es = graph_edges c.args.graph.now in
+    let es = graph_edges (g.G.AsGraph.graph c.args.graph) in
     let vectors = c.edges-edges.ensures.filled in
     let edges : map (λ v. ends (plain_vector whole v)) c.edges-edges.result.now ≡ all_ends es =
     sym (map-map ends (plain_vector whole) c.edges-edges.result.now) ∙ ap (map ends) vectors
-    ∙ map-map ends (vector_of c.args.graph.now.fill_rule es) es in
+    ∙ map-map ends (vector_of (g.G.AsGraph.graph c.args.graph).fill_rule es) es in
     let none = subst (All (RunsAlong whole (map (λ v. ends (plain_vector whole v)) c.edges-edges.result.now)))
     (sym c.requires) (All-nil _) in
     let pushed = subst (λ (fs : List Edge). All (RunsAlong whole fs) c.push_selected.new.steps.items) edges

@@ -2,7 +2,7 @@
 use Rattle.std.proofs.Common.{◌≡◌, IfSome, true, [], refl, sym, ap, subst, ◌∙◌}
 use Rattle.overlay_plane.specs.Carried.{edges_in}
 use Rattle.overlay_graph.specs.Graphs.{carried_vector, graph_edges}
-use Rattle.overlay_arrange.specs.Arranged.{IsArranged}
+use Rattle.overlay_graph.specs.Arranged.{IsArranged}
 use Rattle.overlay_string.specs.StringBuilder.{held_by}
 use Rattle.overlay_string.specs.StringViews.{IsStringView}
 use Rattle.overlay_builder.proofs.BuilderCalls.{view_ended}

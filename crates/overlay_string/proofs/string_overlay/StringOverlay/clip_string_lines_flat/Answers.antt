@@ -5,7 +5,7 @@ use Rattle.overlay_geom.specs.Settled.{IsSettled}
 use Rattle.overlay_plane.specs.Carried.{edges_in}
 use Rattle.overlay_order.specs.declared.string_count.ShapeCountString.{ShapeCountString}
 use Rattle.overlay_graph.specs.Graphs.{Graph, graph_edges}
-use Rattle.overlay_arrange.specs.Arranged.{IsArranged}
+use Rattle.overlay_graph.specs.Arranged.{IsArranged}
 use Rattle.overlay_string.specs.ClipPaths.{ArePathsOf}
 use Rattle.overlay_string.specs.ClipPieces.{clip_pieces}
 use Rattle.overlay_string.proofs.string_overlay.StringOverlay.clip_string_lines_flat.Goals as goal

@@ -3,7 +3,7 @@ use Rattle.std.proofs.Common.{inr, sym, subst}
 use Rattle.std.proofs.lemmas.Result.{IfOk-weaker, IfErr-weaker}
 use Rattle.overlay_geom.specs.Paths.{plain_shapes}
 use Rattle.overlay_graph.specs.Graphs.{graph_edges}
-use Rattle.overlay_arrange.specs.Arranged.{MayRefuseSplitting}
+use Rattle.overlay_graph.specs.Arranged.{MayRefuseSplitting}
 use Rattle.overlay_string.specs.StringSlices.{IsSlicedWhole}
 use Rattle.overlay_string.proofs.string_overlay.StringOverlay.into_slices.Goals as goal
 

@@ -12,7 +12,7 @@ use Rattle.overlay_walk.specs.Steps.{IsLong}
 use Rattle.overlay_extract.specs.Places.{place_lists, AreInside}
 use Rattle.overlay_extract.specs.Results.{asked}
 use Rattle.overlay_extract.proofs.Results.{result_shown}
-use Rattle.overlay_extract.proofs.extract.extract_flat_shapes_of.Goals as goal
+use Rattle.overlay_extract.proofs.extract.extract_flat_shapes.Goals as goal
 
 pub flat_assembled-requires-clause-long : goal.flat_assembled-requires-clause-long
 flat_assembled-requires-clause-long g c =

@@ -6,7 +6,7 @@ use Rattle.overlay_walk.specs.GroupedContours.{plain_contours}
 use Rattle.overlay_walk.specs.Steps.{filled_hand}
 use Rattle.overlay_extract.specs.Places.{place_lists}
 use Rattle.overlay_extract.specs.Placed.{ArePlacedSomehow}
-use Rattle.overlay_extract.proofs.binding.placed.places_found.Goals as goal
+use Rattle.overlay_extract.proofs.binding.placed.bound_places.Goals as goal
 
 pub shape_places-requires : goal.shape_places-requires
 shape_places-requires g c =
