@@ -30,6 +30,7 @@ BUILDER = ("i_overlay.specs.Builder", "Builder")
 HEAD = re.compile(r"(?:abbrev pub|pub record|pub data) (\w+)")
 IMPORT = re.compile(r"(?:pub |ghost )?use Rattle\.([\w.]+)\.\{(.*)\};?$")
 WORD = re.compile(r"[^\s(){};,.]+")
+SEEN = re.compile(r"^( *)(?:abbrev pub|pub) ")
 COLUMNS = 120
 
 # (heading, [(name, sentence)])
@@ -146,7 +147,8 @@ NOTATION = """## Notation
 
 A name that begins with a capital is a statement or a type; any other is a function or a value. `A → B` is a function,
 or "A implies B"; `(x : X) → ..` is "for each x"; `A × B` is "both". `λ x. ..` is a function. `record { .. }` is a
-record, and `r.f` its field f. The definitions take from Rattle's library, beside signs that mean the usual:
+record, and `r.f` its field f. `abbrev` and `pub` are left out. The definitions take from Rattle's library, beside signs
+that mean the usual:
 """
 TYPE = """## The coordinate type
 
@@ -231,17 +233,22 @@ def declared(module: str, name: str) -> list[str]:
 
 
 def told(specs: Specs, found: list[tuple[str, str]]) -> str:
-    """The definitions of the winding clauses, under their headings."""
+    """The definitions of the winding clauses, under their headings, each below its sentence."""
     names = {name: (module, name) for module, name in found}
     out = ""
     for heading, items in TOLD:
-        out += f"\n## {heading}\n"
+        texts = []
         for name, sentence in items:
-            module = names[name][0]
             block = specs.blocks.get(names[name])
-            kind, text = ("text", block.text) if block else ("rust", declared(module, name))
-            out += f"\n{wrapped(f'`{name}`: {sentence}')}\n\n```{kind}\n" + "\n".join(text) + "\n```\n"
+            text = block.text if block else declared(names[name][0], name)
+            texts.append("\n".join([wrapped(f"-- {sentence}", "-- "), *bare(text)]))
+        out += f"\n## {heading}\n\n```text\n" + "\n\n".join(texts) + "\n```\n"
     return out
+
+
+def bare(text: list[str]) -> list[str]:
+    """Lines of definitions without words on who may name them."""
+    return [SEEN.sub(r"\1", it) for it in text]
 
 
 def wrapped(text: str, dent: str = "") -> str:
@@ -311,7 +318,7 @@ def up_to_winds(block: Block) -> str:
     at = next(place for place, it in enumerate(lines) if it.startswith("pub winds ")) + 1
     while at < len(lines) and not lines[at].startswith(("pub ", "--")):
         at += 1
-    return "\n".join([*block.text[:at], *["  .."][: len(lines) - at]])
+    return "\n".join(bare([*block.text[:at], *["  .."][: len(lines) - at]]))
 
 
 def roots(specs: Specs) -> list[tuple[str, str]]:

@@ -60,6 +60,8 @@ BEGUN = re.compile(r"(?:By snap rounding take|Takes?) ")
 # first words of comments of laws that two answers are equal
 EQUAL = ("So ", "Two ")
 # a sentence of fewer words than this says what the law's name does
+SHORT = 14
+# a sentence ends at a colon or semicolon behind this many words
 FEW_WORDS = 12
 SENTENCES = re.compile(r"(?<=\.) (?=[A-Z])")
 TOP = """# Theorems
@@ -163,7 +165,7 @@ def says_equal(law: Law) -> bool:
 
 def is_short(law: Law) -> bool:
     """Whether a law's sentence is so short that it says what the name does."""
-    return len(first_of(law.comment).split()) < FEW_WORDS
+    return len(first_of(law.comment).split()) < SHORT
 
 
 def made() -> str:
