@@ -60,7 +60,7 @@ BEGUN = re.compile(r"(?:By snap rounding take|Takes?) ")
 # first words of comments of laws that two answers are equal
 EQUAL = ("So ", "Two ")
 # a sentence of fewer words than this says what the law's name does
-SHORT = 14
+SHORT = 15
 # a sentence ends at a colon or semicolon behind this many words
 FEW_WORDS = 12
 SENTENCES = re.compile(r"(?<=\.) (?=[A-Z])")
