@@ -36,8 +36,8 @@ use std::alloc::{AllocError, Allocator};
 /// Returns the shapes round the region where the graph's fill rule and the overlay rule hold of the windings of the
 /// graph's edges. Each shape is its outline and then its holes, both in the order in which they are found. With `ogc`
 /// no contour visits a point twice, and the holes of an outline's own group come before the other holes of its shape.
-/// Contours below the minimum area are left out; an outline left out takes the holes of its group with it. The graph, or
-/// the reference to it, is dropped once the steps are selected. The buffer lends its room.
+/// Contours below the minimum area are left out; an outline left out takes the holes of its group with it. The graph,
+/// or the reference to it, is dropped once the steps are selected. The buffer lends its room.
 pub fn extract_shapes<I: IntNumber, A: Allocator + Clone, G: AsGraph<I, A> + Drop>(
     graph: G,
     overlay_rule: OverlayRule,

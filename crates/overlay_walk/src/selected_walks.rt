@@ -95,8 +95,9 @@ fn open_selected<I: IntNumber, A: Allocator + Clone, G: AsGraph<I, A> + Drop>(
     mut steps: Vec<Step<I>, A>,
 ) -> Result<OpenSteps<I, A>, AllocError>
     requires { steps.items ≡ [] }
-    ensures selected { IfOk result (λ o. IsPermutation (selected_steps (rules_hold (G.graph graph).fill_rule overlay_rule)
-        subj_of clip_of (filled_hand direction) (graph_edges (G.graph graph))) (plain_steps I.whole o)) }
+    ensures selected { IfOk result (λ o. IsPermutation (selected_steps
+        (rules_hold (G.graph graph).fill_rule overlay_rule) subj_of clip_of (filled_hand direction)
+        (graph_edges (G.graph graph))) (plain_steps I.whole o)) }
     ensures along { IfOk result (All (RunsAlong I.whole (all_ends (graph_edges (G.graph graph))))) }
 {
     let edges = graph.edges();

@@ -31,13 +31,15 @@ pub returns : goal.returns
 returns g c = record {
   result = let whole = g.I.IntNumber.whole in
       let keep = c.args.options.preserve_output_collinear in
-      let q = asked g.I.Wide.WideIntNumber.width g.I.WideUInt.UIntNumber.natural (g.G.AsGraph.graph c.args.graph).fill_rule
+      let q = asked g.I.Wide.WideIntNumber.width g.I.WideUInt.UIntNumber.natural (g.G.AsGraph.graph
+      c.args.graph).fill_rule
       c.args.overlay_rule c.args.options in
       let cs = plain_contours whole c.in_ok-placed.placed.contours.items in
       let places = c.in_ok-placed.placed.places.items in
       let are = c.in_ok-placed.ensures.placed in
       IfOk-weaker c.assembled.result _ _
-      (λ v shown. result_shown q (graph_edges (g.G.AsGraph.graph c.args.graph)) cs are.kept are.shapes are.found (place_lists places)
+      (λ v shown. result_shown q (graph_edges (g.G.AsGraph.graph c.args.graph)) cs are.kept are.shapes are.found
+      (place_lists places)
       are.placed (plain_shapes whole v.items) shown)
       (subst (λ ps. IfOk c.assembled.result (λ v. AreKeptOrThinned keep
       (points_of_shapes (walks_at cs (place_lists ps))) (plain_shapes whole v.items)))

@@ -19,7 +19,8 @@ use Rattle.overlay_walk.proofs.kept_contours.kept_contours.Goals as goal
 pub returns-then-options-clause-kept : goal.returns-then-options-clause-kept
 returns-then-options-clause-kept g c =
     let whole = g.I.IntNumber.whole in
-    let q : Asked = asked g.I.Wide.WideIntNumber.width g.I.WideUInt.UIntNumber.natural (g.G.AsGraph.graph c.args.graph).fill_rule
+    let q : Asked = asked g.I.Wide.WideIntNumber.width g.I.WideUInt.UIntNumber.natural (g.G.AsGraph.graph
+    c.args.graph).fill_rule
     c.args.overlay_rule c.args.options in
     let es = graph_edges (g.G.AsGraph.graph c.args.graph) in
     let arranged = c.selected_contours.ensures.arranged in
@@ -34,7 +35,8 @@ pub returns-then-options-clause-long : goal.returns-then-options-clause-long
 returns-then-options-clause-long g c =
     let whole = g.I.IntNumber.whole in
     let limit = g.I.IntNumber.limit in
-    let q : Asked = asked g.I.Wide.WideIntNumber.width g.I.WideUInt.UIntNumber.natural (g.G.AsGraph.graph c.args.graph).fill_rule
+    let q : Asked = asked g.I.Wide.WideIntNumber.width g.I.WideUInt.UIntNumber.natural (g.G.AsGraph.graph
+    c.args.graph).fill_rule
     c.args.overlay_rule c.args.options in
     let es = graph_edges (g.G.AsGraph.graph c.args.graph) in
     let arranged = c.selected_contours.ensures.arranged in
@@ -66,7 +68,8 @@ returns-clause-along g c =
 pub returns-clause-kept : goal.returns-clause-kept
 returns-clause-kept g c =
     let whole = g.I.IntNumber.whole in
-    let q : Asked = asked g.I.Wide.WideIntNumber.width g.I.WideUInt.UIntNumber.natural (g.G.AsGraph.graph c.args.graph).fill_rule
+    let q : Asked = asked g.I.Wide.WideIntNumber.width g.I.WideUInt.UIntNumber.natural (g.G.AsGraph.graph
+    c.args.graph).fill_rule
     c.args.overlay_rule c.args.options in
     let es = graph_edges (g.G.AsGraph.graph c.args.graph) in
     IfOk-weaker c.roled.result _ (λ cs. AreKeptResults q es (plain_contours whole cs.items))
@@ -81,7 +84,8 @@ pub returns-clause-long : goal.returns-clause-long
 returns-clause-long g c =
     let whole = g.I.IntNumber.whole in
     let limit = g.I.IntNumber.limit in
-    let q : Asked = asked g.I.Wide.WideIntNumber.width g.I.WideUInt.UIntNumber.natural (g.G.AsGraph.graph c.args.graph).fill_rule
+    let q : Asked = asked g.I.Wide.WideIntNumber.width g.I.WideUInt.UIntNumber.natural (g.G.AsGraph.graph
+    c.args.graph).fill_rule
     c.args.overlay_rule c.args.options in
     let es = graph_edges (g.G.AsGraph.graph c.args.graph) in
     IfOk-weaker c.roled.result _ (λ cs. All (All (IsLong limit)) (walks_in (plain_contours whole cs.items)))

@@ -22,10 +22,12 @@ new-requires g c =
     let whole = g.I.IntNumber.whole in
     let filled = filled_hand c.args.direction in
     let vectors = c.edges-edges.ensures.filled in
-    let are = selected_in_room (g.G.AsGraph.graph c.args.graph).fill_rule c.args.overlay_rule (graph_edges (g.G.AsGraph.graph c.args.graph)) filled _ _
+    let are = selected_in_room (g.G.AsGraph.graph c.args.graph).fill_rule c.args.overlay_rule (graph_edges
+    (g.G.AsGraph.graph c.args.graph)) filled _ _
     _ (ap (plain_steps whole) c.requires) vectors c.in_ok-push_selected.ensures.ok in
     subst (All (IsLong g.I.IntNumber.limit)) (sym are)
-    (selected_are_long g.I.IntNumber.limit (graph_edges (g.G.AsGraph.graph c.args.graph)) c.edges-edges.ensures.arranged.content
+    (selected_are_long g.I.IntNumber.limit (graph_edges (g.G.AsGraph.graph c.args.graph))
+    c.edges-edges.ensures.arranged.content
     (rules_hold (g.G.AsGraph.graph c.args.graph).fill_rule c.args.overlay_rule) subj_of clip_of filled)
 
 pub returns-clause-selected : goal.returns-clause-selected
@@ -33,7 +35,8 @@ returns-clause-selected g c =
     let whole = g.I.IntNumber.whole in
     let filled = filled_hand c.args.direction in
     let vectors = c.edges-edges.ensures.filled in
-    let are = selected_in_room (g.G.AsGraph.graph c.args.graph).fill_rule c.args.overlay_rule (graph_edges (g.G.AsGraph.graph c.args.graph)) filled _ _
+    let are = selected_in_room (g.G.AsGraph.graph c.args.graph).fill_rule c.args.overlay_rule (graph_edges
+    (g.G.AsGraph.graph c.args.graph)) filled _ _
     _ (ap (plain_steps whole) c.requires) vectors c.in_ok-push_selected.ensures.ok in
     IfOk-weaker c.new.result (λ o. IsPermutation c.push_selected.new.steps.items o) _
     (λ o moved. subst (λ ss. IsPermutation ss (plain_steps whole o)) are

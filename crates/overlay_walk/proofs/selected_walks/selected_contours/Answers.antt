@@ -9,7 +9,8 @@ use Rattle.overlay_walk.proofs.SelectedGroups.{open_alternate, open_once, open_l
 use Rattle.overlay_walk.proofs.selected_walks.selected_contours.Goals as goal
 
 pub cut_in_groups-requires-clause-alternate : goal.cut_in_groups-requires-clause-alternate
-cut_in_groups-requires-clause-alternate g c = open_alternate g.I.IntNumber.limit (graph_edges (g.G.AsGraph.graph c.args.graph))
+cut_in_groups-requires-clause-alternate g c = open_alternate g.I.IntNumber.limit (graph_edges (g.G.AsGraph.graph
+    c.args.graph))
     c.allocator.ensures.arranged c.requires (g.G.AsGraph.graph c.args.graph).fill_rule c.args.overlay_rule
     (filled_hand c.args.direction) (plain_steps g.I.IntNumber.whole c.in_ok-open.open) c.in_ok-open.ensures.selected
 
@@ -27,7 +28,8 @@ pub returns-clause-cut : goal.returns-clause-cut
 returns-clause-cut g c =
     let keeps : List Step → Bool = λ w. reaches g.I.Wide.WideIntNumber.width
     (g.I.WideUInt.UIntNumber.natural c.args.min_output_area) w in
-    cut_of_selected g.I.IntNumber.limit (graph_edges (g.G.AsGraph.graph c.args.graph)) c.allocator.ensures.arranged c.requires
+    cut_of_selected g.I.IntNumber.limit (graph_edges (g.G.AsGraph.graph c.args.graph)) c.allocator.ensures.arranged
+    c.requires
     (g.G.AsGraph.graph c.args.graph).fill_rule c.args.overlay_rule (filled_hand c.args.direction)
     (plain_steps g.I.IntNumber.whole c.in_ok-open.open)
     c.in_ok-open.ensures.selected keeps (plain_contours g.I.IntNumber.whole c.in_ok-contours.contours.items)
@@ -38,9 +40,11 @@ returns-clause-simple g c =
     let keeps : List Step → Bool = λ w. reaches g.I.Wide.WideIntNumber.width
     (g.I.WideUInt.UIntNumber.natural c.args.min_output_area) w in
     let contours = plain_contours g.I.IntNumber.whole c.in_ok-contours.contours.items in
-    cut_is_simple g.I.IntNumber.limit (graph_edges (g.G.AsGraph.graph c.args.graph)) c.allocator.ensures.arranged c.requires
+    cut_is_simple g.I.IntNumber.limit (graph_edges (g.G.AsGraph.graph c.args.graph)) c.allocator.ensures.arranged
+    c.requires
     (g.G.AsGraph.graph c.args.graph).fill_rule c.args.overlay_rule (filled_hand c.args.direction) keeps contours
-    (cut_of_selected g.I.IntNumber.limit (graph_edges (g.G.AsGraph.graph c.args.graph)) c.allocator.ensures.arranged c.requires
+    (cut_of_selected g.I.IntNumber.limit (graph_edges (g.G.AsGraph.graph c.args.graph)) c.allocator.ensures.arranged
+    c.requires
     (g.G.AsGraph.graph c.args.graph).fill_rule c.args.overlay_rule (filled_hand c.args.direction)
     (plain_steps g.I.IntNumber.whole c.in_ok-open.open)
     c.in_ok-open.ensures.selected keeps contours c.in_ok-contours.ensures.cut)

@@ -16,9 +16,11 @@ pub cut_into_contours-requires-clause-cuttable : goal.cut_into_contours-requires
 cut_into_contours-requires-clause-cuttable g c =
     let es = graph_edges (g.G.AsGraph.graph c.args.graph) in
     let ruled = ruled_content g.I.IntNumber.limit es c.allocator.ensures.arranged.content
-    c.allocator.ensures.arranged.ascending c.allocator.ensures.arranged.settled c.requires (g.G.AsGraph.graph c.args.graph).fill_rule
+    c.allocator.ensures.arranged.ascending c.allocator.ensures.arranged.settled c.requires (g.G.AsGraph.graph
+    c.args.graph).fill_rule
     c.args.overlay_rule in
-    alternating (shuffled_alternate (rules_hold (g.G.AsGraph.graph c.args.graph).fill_rule c.args.overlay_rule) subj_of clip_of es
+    alternating (shuffled_alternate (rules_hold (g.G.AsGraph.graph c.args.graph).fill_rule c.args.overlay_rule)
+    subj_of clip_of es
     (filled_hand c.args.direction) ruled
     (plain_steps g.I.IntNumber.whole c.in_ok-open.open) c.in_ok-open.ensures.selected)
 
@@ -26,7 +28,8 @@ pub cut_into_contours-requires-clause-once : goal.cut_into_contours-requires-cla
 cut_into_contours-requires-clause-once g c =
     let es = graph_edges (g.G.AsGraph.graph c.args.graph) in
     let ruled = ruled_content g.I.IntNumber.limit es c.allocator.ensures.arranged.content
-    c.allocator.ensures.arranged.ascending c.allocator.ensures.arranged.settled c.requires (g.G.AsGraph.graph c.args.graph).fill_rule
+    c.allocator.ensures.arranged.ascending c.allocator.ensures.arranged.settled c.requires (g.G.AsGraph.graph
+    c.args.graph).fill_rule
     c.args.overlay_rule in
     shuffled_once (rules_hold (g.G.AsGraph.graph c.args.graph).fill_rule c.args.overlay_rule) subj_of clip_of es
     (filled_hand c.args.direction) ruled
@@ -36,7 +39,8 @@ pub returns-clause-cut : goal.returns-clause-cut
 returns-clause-cut g c =
     let es = graph_edges (g.G.AsGraph.graph c.args.graph) in
     let ruled = ruled_content g.I.IntNumber.limit es c.allocator.ensures.arranged.content
-    c.allocator.ensures.arranged.ascending c.allocator.ensures.arranged.settled c.requires (g.G.AsGraph.graph c.args.graph).fill_rule
+    c.allocator.ensures.arranged.ascending c.allocator.ensures.arranged.settled c.requires (g.G.AsGraph.graph
+    c.args.graph).fill_rule
     c.args.overlay_rule in
     shuffled_cut (rules_hold (g.G.AsGraph.graph c.args.graph).fill_rule c.args.overlay_rule) subj_of clip_of es
     (filled_hand c.args.direction) ruled
@@ -49,7 +53,8 @@ returns-clause-long g c =
     let holds = rules_hold (g.G.AsGraph.graph c.args.graph).fill_rule c.args.overlay_rule in
     let filled = filled_hand c.args.direction in
     let ruled = ruled_content g.I.IntNumber.limit es c.allocator.ensures.arranged.content
-    c.allocator.ensures.arranged.ascending c.allocator.ensures.arranged.settled c.requires (g.G.AsGraph.graph c.args.graph).fill_rule
+    c.allocator.ensures.arranged.ascending c.allocator.ensures.arranged.settled c.requires (g.G.AsGraph.graph
+    c.args.graph).fill_rule
     c.args.overlay_rule in
     let walks = plain_walks g.I.IntNumber.whole c.in_ok-walks.walks.items in
     walks_are_long g.I.IntNumber.limit es c.allocator.ensures.arranged.content holds subj_of clip_of filled walks

@@ -27,12 +27,14 @@ pub bound_places-requires-clause-placeable : goal.bound_places-requires-clause-p
 bound_places-requires-clause-placeable g c =
     let whole = g.I.IntNumber.whole in
     let filled = filled_hand c.args.options.output_direction in
-    let q = asked g.I.Wide.WideIntNumber.width g.I.WideUInt.UIntNumber.natural (g.G.AsGraph.graph c.args.graph).fill_rule
+    let q = asked g.I.Wide.WideIntNumber.width g.I.WideUInt.UIntNumber.natural (g.G.AsGraph.graph
+    c.args.graph).fill_rule
     c.args.overlay_rule c.args.options in
     let cs = c.in_ok-contours.contours.items in
     subst (λ ds. (shapes : _) → AreShapesFound filled (plain_contours whole ds) shapes
     → CanBePlaced (plain_contours whole ds) shapes) (sym c.deref.ensures.value)
-    (λ shapes found. can_be_placed q.ogc filled (is_kept q) (selected_of q (graph_edges (g.G.AsGraph.graph c.args.graph)))
+    (λ shapes found. can_be_placed q.ogc filled (is_kept q) (selected_of q (graph_edges (g.G.AsGraph.graph
+    c.args.graph)))
     (plain_contours whole cs) c.in_ok-contours.ensures.kept.cut shapes found)
 
 pub returns-clause-placed : goal.returns-clause-placed
