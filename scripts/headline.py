@@ -130,18 +130,17 @@ TOP = """# The headline, whole
 
 Made by `scripts/headline.py --write`. The gate compares this page with the sources.
 
-The headline of [README](../README.md#what-is-guaranteed) is two clauses of the contract of `Overlay::overlay`. Whoever
-believes the prover, and reads the definitions below, knows what they say of windings: all that they cite stands here,
-down to Rattle's library. The order is that of reading: each definition cites only those above it and that library.
+The headline of [README](../README.md#what-is-guaranteed) is two clauses of the contract of `Overlay::overlay`. All that
+they cite of windings stands here, down to Rattle's library: each definition cites only those above it and that library.
 
 ## The contract
 
-`self.old.edges` is what the builder holds before the call: the edges of the contours that were added, and where it was
-asked before, the arrangement that was left then. `self.new.edges` is the arrangement that it holds after the call, and
-`result` is the answer. Field `winds` of clause `result` speaks of the arrangement, and is the first sentence. Field
-`winds` of clause `given` speaks of the edges before, and is the second one. There k is the number of rounds that moved
-some point, at most one by snap rounding (field `few_moving` of `IsArranged`). The law `snapped_winds_far`
-(`crates/i_overlay/src/snapped_far.rt`) says it outright for snap rounding, also of calls that leave no builder.
+`self.old.edges` is what the builder holds before the call: the edges of the contours that were added, or the
+arrangement that an earlier query left. `self.new.edges` is the arrangement after the call, and `result` the answer.
+Field `winds` of clause `result` is the first sentence, of the arrangement. Field `winds` of clause `given` is the
+second one, of the edges before. There k is the number of rounds that moved some point, at most one by snap rounding
+(field `few_moving` of `IsArranged`). The law `snapped_winds_far` (`crates/i_overlay/src/snapped_far.rt`) says it
+outright for snap rounding, also of calls that leave no builder.
 """
 NOTATION = """## Notation
 
