@@ -39,9 +39,9 @@ pub struct OverlayGraph<'a, I: OverlayInt, D: OverlayEdgeData, A: Allocator> {
 }
 
 impl<I: OverlayInt, A: Allocator + Clone> OverlayGraph<'_, I, (), A> {
-    /// The contours round the region of the plane where the overlay rule holds, as shapes, as
-    /// `Overlay::overlay` gives them, by the options that the builder had when the view was made. The
-    /// buffer lends its room; what it holds changes no answer. The only refusal is `Memory`.
+    /// The contours round the region where the overlay rule holds, in shapes. They are those that `Overlay::overlay`
+    /// gives by the options that the builder had when the view was made. The buffer lends its room; what it holds
+    /// changes no answer. The only refusal is `Memory`.
     pub fn extract_shapes(
         &self,
         overlay_rule: OverlayRule,
@@ -101,12 +101,12 @@ impl<I: OverlayInt, A: Allocator + Clone> OverlayGraph<'_, I, (), A> {
 }
 
 impl<I: OverlayInt, D: OverlayEdgeData, A: Allocator + Clone> OverlayGraph<'_, I, D, A> {
-    /// The contours round the region of the plane where the overlay rule holds, cut without `ogc`, as shapes of
-    /// edges: each edge with the sides that the subject and the clip fill, seen on the way along the contour, and
-    /// with its data, `reversed` where the contour walks it from its larger end. Unless points on one line are kept,
-    /// by the options that the builder had when the view was made, neighbours on one line that have the same filled
-    /// sides and equal data are joined to one edge. A store is made for this call, and dropped after it. The buffer
-    /// lends its room; what it holds changes no answer. The only refusal is `Memory`.
+    /// The contours round the region where the overlay rule holds, cut without `ogc`, as shapes of edges. Each edge has
+    /// the sides that the subject and the clip fill, seen on the way along the contour. It has its data, `reversed`
+    /// where the contour walks it from its larger end. Unless the builder kept points on one line when the view was
+    /// made, neighbours on one line with the same filled sides and equal data are joined to one edge. A store is made
+    /// for this call, and dropped after it. The buffer lends its room; what it holds changes no answer. The only
+    /// refusal is `Memory`.
     pub fn extract_vector_shapes(
         &self,
         overlay_rule: OverlayRule,

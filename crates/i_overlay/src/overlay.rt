@@ -83,9 +83,9 @@ impl<I: OverlayInt, A: Allocator> Model for Overlay<I, A> {
 }
 
 impl<I: OverlayInt, A: Allocator + Clone> Overlay<I, A> {
-    /// Splits the edges where they meet, and gives every edge of this arrangement in order, by its
-    /// smaller and then its larger end, with the sides that the subject and the clip fill under the
-    /// rule, seen on the way from its smaller to its larger end.
+    /// Splits the edges where they meet, and gives every edge of this arrangement in order, by its smaller and then its
+    /// larger end. Each has the sides that the subject and the clip fill under the rule, seen on the way from its
+    /// smaller to its larger end.
     ///
     /// In each round equal edges are merged, and each edge is cut where others meet it; a meeting
     /// point that is not whole is rounded to one whole point, at most 1/2 away in x and in y. Edges
@@ -126,10 +126,10 @@ impl<I: OverlayInt, A: Allocator + Clone> Overlay<I, A> {
     /// hole begins there. Where outlines run clockwise it is the other way round. Where points are
     /// dropped a contour begins at the first one that is kept.
     ///
-    /// A hole that touches its outline in a point is a part of the outline, which visits that point
-    /// twice, and an island that touches the border of its hole is a part of the hole. With
-    /// `options.ogc` no contour visits a point twice: such a hole stands in its outline's shape, before
-    /// the other holes of it, and such an island is a shape of its own.
+    /// A hole that touches its outline in a point is a part of the outline, which visits that point twice. An island
+    /// that touches the border of its hole is a part of the hole. With `options.ogc` no contour visits a point twice:
+    /// such a hole stands in its outline's shape, before the other holes of it, and such an island is a shape of its
+    /// own.
     ///
     /// A contour is left out where its double area before points are dropped, wrapped to the wide
     /// type, without its sign and halved downwards, is below `options.min_output_area`. Of the holes
@@ -158,9 +158,9 @@ impl<I: OverlayInt, A: Allocator + Clone> Overlay<I, A> {
         shapes
     }
 
-    /// Splits the edges where they meet, as `build_separate_vectors` does, and writes the contours round
-    /// the region of the plane where the rules hold into the output, one behind the other, in the order
-    /// in which they are found. What the output held is dropped.
+    /// Splits the edges where they meet, as `build_separate_vectors` does, and writes the contours round the region
+    /// where the rules hold into the output. They stand one behind the other, in the order in which they are found.
+    /// What the output held is dropped.
     ///
     /// Contours are as those of `overlay`, but in one list: outlines and holes are not bound to shapes,
     /// so that none is left out but those below `options.min_output_area`. `options.ogc` is not read.

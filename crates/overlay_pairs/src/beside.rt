@@ -125,8 +125,8 @@ fn begins_beside<I: IntNumber, C: EdgeCount>(
     at % size == 0 && lies_beside(&bundles[at / size], size, e, of)
 }
 
-/// Returns whether the bundle of `size` edges lies apart from `of`, both ends of e lie beyond one of its lines, or its
-/// box lies beside the line of e.
+/// Returns whether e misses the bundle of `size` edges: it lies apart from `of`, both ends of e lie beyond one of its
+/// lines, or its box lies beside the line of e.
 fn lies_beside<I: IntNumber, C: EdgeCount>(
     bundle: &Bundle<I>,
     size: usize,

@@ -50,8 +50,8 @@ pub(crate) fn find_near_behind<I: IntNumber, C: EdgeCount, A: Allocator>(
     }
 }
 
-/// Finds the places of the edges from `from` on that start up to the right end of e, and whose heights are not apart
-/// from its own, by the strips of the edges. It leaves out edges of bundles that e misses.
+/// Finds, by the strips of the edges, the places of edges from `from` on that start up to the right end of e and whose
+/// heights are not apart from its own. It leaves out edges of bundles that e misses.
 pub(crate) fn find_by_strips<I: IntNumber, C: EdgeCount, A: Allocator>(
     near: &mut Vec<usize, A>,
     edges: &[CountedEdge<I, C>],

@@ -32,7 +32,7 @@ pub struct LiveEdge<I, V> {
     pub value: V,
 }
 
-/// A [`Scan`] that keeps its edges in a list. A look-up is a binary search that begins at an edge which ends where the
+/// A [`Scan`] that keeps its edges in a list. A look-up is a binary search. It begins at an edge which ends where the
 /// asked edge starts, if one is remembered, and else where the last search ended. An ended edge stays in the list until
 /// a new edge takes its place, or until many edges have ended.
 #[derive(Drop)]

@@ -20,9 +20,9 @@ pub struct Grid<I> {
     pub height: I,
 }
 
-/// Returns whether the resource can be sliced by the grid: width and height are at least 1 and in the coordinate range,
-/// and in each direction at most 1,000 lines pass strictly between the ends of the box of all points. The points are in
-/// the coordinate range. It takes no memory.
+/// Returns whether the resource can be sliced by the grid: width and height are at least 1 and in the coordinate range.
+/// In each direction at most 1,000 lines pass strictly between the ends of the box of all points. The points are in the
+/// coordinate range. It takes no memory.
 pub fn grid_fits<I: OverlayInt, R0: IntShapeResource<I>>(resource: &R0, grid: Grid<I>) -> bool
     requires { All (AllInRange I.limit) (R0.paths resource.now) }
     ensures { IsTrue result

@@ -15,9 +15,9 @@ use overlay_geom::point::IntPoint;
 use overlay_geom::resource::IntShapeResource;
 use std::alloc::{AllocError, Allocator};
 
-/// The lines of the grid across the box of all points: the upright ones from left to right, each from the bottom of the
-/// box to its top, and then the level ones from the lowest up, each from the left of the box to its right. Without
-/// points there is none. The points are in the coordinate range, and so are the lines.
+/// The lines of the grid across the box of all points. Upright ones come first, from left to right, each from the
+/// bottom of the box to its top. Then come the level ones from the lowest up, each from the left of the box to its
+/// right. Without points there is none. The points are in the coordinate range, and so are the lines.
 pub fn grid_lines<I: IntNumber, R0: IntShapeResource<I>, A: Allocator + Clone>(
     alloc: A,
     resource: &R0,

@@ -20,9 +20,9 @@ use overlay_string::lines::BorrowedLines;
 use overlay_string::slice::IntSlice;
 use std::alloc::Allocator;
 
-/// Slices the resource, whose paths are the closed contours of a shape, along the lines of the grid across the
-/// bounding box of all its points, as `slice_by_lines` does. Points of the contours on one line are dropped. The
-/// points are in the coordinate range, and the grid fits, as `grid_fits` tells.
+/// Slices the resource along the lines of the grid across the bounding box of all its points, as `slice_by_lines` does.
+/// Its paths are the closed contours of a shape. Points of the contours on one line are dropped. The points are in the
+/// coordinate range, and the grid fits, as `grid_fits` tells.
 ///
 /// Edges are split by `Solver::ABSOLUTE`. Refusals are `Memory`, `NotSettled` and `TooManyEdges`; nothing of the
 /// caller's is changed.

@@ -13,9 +13,9 @@ use overlay_order::edge::compare_points;
 use overlay_order::vector::DataVectorEdge;
 use std::alloc::{AllocError, Allocator};
 
-/// The closed contour in which each edge that goes straight on from the one before it, with equal filled sides and
-/// equal data, is joined with it, the first one with the last too, until none is left that can be. A joined edge has
-/// the data of the first of its edges.
+/// The closed contour with edges joined: each that goes straight on from the one before it, with equal filled sides and
+/// equal data, until none is left that can be. The first edge may be joined with the last. A joined edge has the data
+/// of the first of its edges.
 pub(crate) fn joined<I: IntNumber, D: OverlayEdgeData, A: Allocator>(
     alloc: A,
     vectors: &[DataVectorEdge<I, D>],

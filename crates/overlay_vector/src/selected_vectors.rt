@@ -15,8 +15,8 @@ use overlay_order::vector::{
 };
 use std::alloc::{AllocError, Allocator};
 
-/// Returns the edges of the graph with the region of its rule and the overlay rule on exactly one side, in order, each
-/// with its filled sides, seen from its smaller to its larger end, and its data.
+/// Returns the edges of the graph with the region of its rule and the overlay rule on exactly one side, in order. Each
+/// has its filled sides, seen from its smaller to its larger end, and its data.
 pub fn selected_vectors<I: IntNumber, D: OverlayEdgeData, A: Allocator + Clone>(
     graph: &Graph<I, CountWithData<D>, A>,
     overlay_rule: OverlayRule,

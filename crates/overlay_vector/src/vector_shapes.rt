@@ -24,11 +24,11 @@ use std::alloc::{AllocError, Allocator};
 /// which they are found. The contours are cut without groups, whatever `options.ogc` says; those below the
 /// minimum area are left out.
 ///
-/// Each contour is given by its edges on the way along it: each has the sides that are filled, as they are
-/// seen on this way, and the data of the arrangement's edge, `reversed` where it is walked from its larger
-/// end. Unless `options.preserve_output_collinear`, an edge that goes straight on from the one before it, with
-/// equal filled sides and equal data, is joined with it; the first one with the last too. The joined edge
-/// has the data of the first of them. The contours may begin anywhere.
+/// Each contour is given by its edges on the way along it. Each edge has the sides that are filled, as they are seen on
+/// this way. It has the data of the arrangement's edge, `reversed` where it is walked from its larger end. Unless
+/// `options.preserve_output_collinear`, an edge that goes straight on from the one before it, with equal filled sides
+/// and equal data, is joined with it. So is the first one with the last. The joined edge has the data of the first of
+/// them. The contours may begin anywhere.
 ///
 /// The graph's counts are balanced. The buffer lends its room. The store is handed to `reversed`.
 #[tactic(auto, using(overlay_arrange::proofs::ReachedStores::never_written))]

@@ -13,8 +13,8 @@ use polyover_calls::clip_options::ClipOptions;
 use polyover_calls::path_counts::PathCounts;
 use std::alloc::Global;
 
-/// The parts of the lines, which are open paths, that a clip by what the contours of the shape fill under the fill rule
-/// keeps, as the options ask, put into the arrays, and their counts: the code of a status.
+/// Puts the parts of the open lines that a clip keeps, as the options ask, into the arrays, with their counts. The
+/// shape is what the contours fill under the fill rule. It answers the code of a status.
 #[unsafe(no_mangle)]
 pub extern "C" fn polyover_clip_with(
     alloc: Global,

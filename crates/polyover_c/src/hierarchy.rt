@@ -16,8 +16,8 @@ use polyover_calls::links::Link;
 use polyover_calls::options::{Options32, Options64};
 use std::alloc::Global;
 
-/// The shapes of the overlay that the rules and options ask for, and for each of them that lies in a hole of another
-/// one the link that tells of it, put into the arrays, and their counts: the code of a status.
+/// Puts the shapes of the overlay that the rules and options ask for into the arrays, with their counts, and a link for
+/// each shape in a hole of another. It answers the code of a status.
 #[unsafe(no_mangle)]
 pub extern "C" fn polyover_hierarchy_with(
     alloc: Global,

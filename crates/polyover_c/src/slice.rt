@@ -13,8 +13,8 @@ use polyover_calls::counts::Counts;
 use polyover_calls::slice::slice_arrays;
 use std::alloc::Global;
 
-/// The shapes into which the lines, which are open paths, slice what the contours of the subject fill under the fill
-/// rule, put into the arrays, and their counts: the code of a status.
+/// Puts the shapes into which the open lines slice what the subject fills under the fill rule into the arrays, with
+/// their counts. It answers the code of a status.
 #[unsafe(no_mangle)]
 pub extern "C" fn polyover_slice(
     alloc: Global,

@@ -235,10 +235,10 @@ impl<I: OverlayInt, A: Allocator + Clone> Overlay<I, A> {
         self.add_source(buffer, shape_type)
     }
 
-    /// Drops the edges and mends a failed builder, adds the contours of all shapes as the subject, shape by
-    /// shape, and gives the answer of `overlay` with the rule `Subject`, also where they are one contour. The
-    /// points are in the coordinate range. After an answer the builder holds the arrangement of the contours
-    /// alone, and there is a buffer, `boolean_buffer`.
+    /// Drops the edges, mends a failed builder, and adds the contours of all shapes as the subject, shape by shape. The
+    /// answer is that of `overlay` with the rule `Subject`, also where they are one contour. The points are in the
+    /// coordinate range. After an answer the builder holds the arrangement of the contours alone, and there is a
+    /// buffer, `boolean_buffer`.
     ///
     /// Refusals, which leave the builder failed: `NotSettled`, `TooManyEdges`, also in adding, and `Memory`.
     ///

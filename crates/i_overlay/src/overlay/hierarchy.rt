@@ -22,15 +22,14 @@ use overlay_walk::buffer::BooleanExtractionBuffer;
 use std::alloc::Allocator;
 
 impl<I: OverlayInt, A: Allocator + Clone> Overlay<I, A> {
-    /// Splits the edges where they meet, and gives the shapes of `overlay` in one list, with nothing between them,
-    /// and a link for each shape that lies in a hole of another: the number of the other shape, the place of the
-    /// hole among the contours of all shapes, and the number of the shape. Links are in order, and no shape is the
-    /// child of two. `overlay` says where a contour begins, and what `options.ogc` does to a hole that touches its
-    /// outline.
+    /// Splits the edges where they meet, and gives the shapes of `overlay` in one list, with a link for each shape that
+    /// lies in a hole of another. A link has the number of the other shape, the place of the hole among the contours of
+    /// all shapes, and the number of the shape. Links are in order, and no shape is the child of two. `overlay` says
+    /// where a contour begins, and what `options.ogc` does to a hole that touches its outline.
     ///
-    /// A shape lies in a hole where the next edge below its outline's leftmost lowest point that is filled
-    /// below is one of the hole, or of the outline of another shape that lies in it. Contours are looked at as
-    /// they are before points on one line are dropped. After an answer there is a buffer, `boolean_buffer`.
+    /// A shape lies in a hole by the next edge below its outline's leftmost lowest point that is filled below. The edge
+    /// is one of the hole, or of the outline of another shape that lies in it. Contours are looked at as they are
+    /// before points on one line are dropped. After an answer there is a buffer, `boolean_buffer`.
     ///
     /// Refusals are those of `build_separate_vectors`.
     pub fn overlay_hierarchy(

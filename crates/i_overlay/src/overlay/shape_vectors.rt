@@ -20,10 +20,10 @@ use overlay_walk::buffer::BooleanExtractionBuffer;
 use std::alloc::Allocator;
 
 impl<I: OverlayInt, A: Allocator + Clone> Overlay<I, A> {
-    /// Splits the edges where they meet, as `build_separate_vectors` does, and gives the contours round the
-    /// region of the plane where the rules hold, as `overlay` does without `options.ogc`, which is not read: as
-    /// shapes, of each its outline first, and then its holes. Each contour is the list of its edges in order, each
-    /// with the sides that the subject and the clip fill under the rule, seen on the way along the contour.
+    /// Splits the edges where they meet, as `build_separate_vectors` does, and gives the contours round the region
+    /// where the rules hold, as `overlay` does without `options.ogc`, which is not read. They stand in shapes, of each
+    /// its outline first, and then its holes. Each contour is the list of its edges in order. Each edge has the sides
+    /// that the subject and the clip fill under the rule, seen on the way along the contour.
     ///
     /// Unless `options.preserve_output_collinear`, neighbours on one line that have the same filled sides are
     /// joined to one edge, the last of a contour and its first too. After an answer there is a buffer,

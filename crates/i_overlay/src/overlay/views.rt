@@ -21,10 +21,9 @@ use overlay_order::data::CountWithData;
 use std::alloc::Allocator;
 
 impl<I: OverlayInt, A: Allocator + Clone> Overlay<I, A> {
-    /// Splits the edges where they meet, as `build_separate_vectors` does, and gives a view of them with
-    /// their filled sides under the rule, that can be asked for contours again and again. `None` comes
-    /// exactly where no edge is left. The view borrows the builder: no contour can be added while it is
-    /// there.
+    /// Splits the edges where they meet, as `build_separate_vectors` does, and gives a view of them with their filled
+    /// sides under the rule. It can be asked for contours again and again. `None` comes exactly where no edge is left.
+    /// The view borrows the builder: no contour can be added while it is there.
     ///
     /// Refusals are those of `build_separate_vectors`.
     pub fn build_graph_view(

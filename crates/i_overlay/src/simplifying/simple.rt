@@ -26,9 +26,9 @@ use overlay_order::data::CountWithData;
 use overlay_walk::points_once::has_each_point_once;
 use std::alloc::{AllocError, Allocator};
 
-/// Drops what the core holds and mends it, adds the contour as the subject's, brings it into an
-/// arrangement by the solver, and tells what becomes of the contour where it is simplified. Points on one
-/// line stay, or are dropped first. The points are in the coordinate range.
+/// Drops what the core holds and mends it, adds the contour as the subject's, and brings it into an arrangement by the
+/// solver. The answer tells what becomes of the contour where it is simplified. Points on one line stay, or are dropped
+/// first. The points are in the coordinate range.
 ///
 /// It is simple where no point of it was left out in adding, none of its edges was cut, no point is visited
 /// twice, and some edge is left: whether it is does not depend on the solver.

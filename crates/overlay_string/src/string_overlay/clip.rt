@@ -34,9 +34,9 @@ impl<I: OverlayInt, A: Allocator + Clone> StringOverlay<I, A> {
     /// The shape is what the fill rule fills. A part of a string lies along an edge of the arrangement; it is passed
     /// once in each direction in which a string runs over it, however many strings do. The first edge in order, by its
     /// smaller and then its larger end, with a part that no path has yet, begins a path. If the part from its smaller
-    /// end is left, the path begins with that and goes on at its end, by the first edge in order with a part that
-    /// leaves this point, until there is none. Else the path ends with the other part, and goes on at its beginning, by
-    /// the first edge in order with a part that arrives there.
+    /// end is left, the path begins with that. It goes on at its end by the first edge in order with a part that leaves
+    /// this point, until there is none. Else the path ends with the other part, and goes on at its beginning, by the
+    /// first edge in order with a part that arrives there.
     ///
     /// Refusals: `Failed` before anything else; `NotSettled` where edges still meet in points that are no ends of both
     /// after 64 rounds; `TooManyEdges` where a round brings the weight to 2^31; `Memory`. The builder is dropped.

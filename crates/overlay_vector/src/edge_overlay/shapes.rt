@@ -29,12 +29,11 @@ impl<I: OverlayInt, D: OverlayEdgeData, A: Allocator + Clone> EdgeOverlay<I, D, 
     /// the plane where the rules hold, as shapes: of each its outline first, and then its holes. Shapes and
     /// holes stand in the order in which they are found, from left to right.
     ///
-    /// A contour is given by its edges on the way along it, each with the sides that the subject and the clip
-    /// fill, as they are seen on this way, and with its data; where an edge is walked from its larger end its
-    /// filled sides are turned round, and its data is `reversed`. Unless
-    /// `options.preserve_output_collinear`, an edge that goes straight on from the one before it, with equal
-    /// filled sides and equal data, is joined with it, the first one with the last too; the joined edge has
-    /// the data of the first of them. A contour may begin anywhere.
+    /// A contour is given by its edges on the way along it. Each has the sides that the subject and the clip fill, as
+    /// they are seen on this way, and its data. Where an edge is walked from its larger end its filled sides are turned
+    /// round, and its data is `reversed`. Unless `options.preserve_output_collinear`, an edge that goes straight on
+    /// from the one before it, with equal filled sides and equal data, is joined with it. So is the first one with the
+    /// last. The joined edge has the data of the first of them. A contour may begin anywhere.
     ///
     /// Outlines run in the direction `options.output_direction`, and holes against it. A hole that touches
     /// its outline is a part of it: `options.ogc` is not read. Contours below `options.min_output_area`,

@@ -20,9 +20,9 @@ use overlay_order::vector::DataVectorEdge;
 use std::alloc::{AllocError, Allocator};
 
 impl<I: OverlayInt, D: OverlayEdgeData, A: Allocator + Clone> EdgeOverlay<I, D, A> {
-    /// Splits the edges where they meet, and gives those with the region of the rules on exactly one side, in
-    /// order, by the smaller and then the larger end; each from its smaller to its larger end, with the sides that
-    /// the subject and the clip fill under the rule, seen on this way, and with its data.
+    /// Splits the edges where they meet, and gives those with the region of the rules on exactly one side, in order, by
+    /// the smaller and then the larger end. Each runs from its smaller to its larger end. It has the sides that the
+    /// subject and the clip fill under the rule, seen on this way, and its data.
     ///
     /// The edges are split by `solver`. By `Solver::ABSOLUTE` equal edges are merged in each round, and each
     /// edge is cut where others meet it; a meeting point that is not whole is rounded to one whole point, at
