@@ -11,7 +11,7 @@ pub enum OverlayError {
     Memory,
     /// A coordinate is more than 2^62 - 1 away from 0. Of `i16` and `i32` coordinates all are taken.
     OutOfRange,
-    /// A contour meets itself elsewhere than in its corners: the number of the first one that does.
+    /// A contour meets itself elsewhere than in its corners: the index, from 0, of the first one that does.
     NotResolved(usize),
     /// After 64 rounds of splitting edges still meet: of [`Solver::ROUNDS`](crate::core::solver::Solver::ROUNDS) alone.
     NotSettled,
@@ -43,7 +43,7 @@ impl fmt::Display for OverlayError {
         f.write_str(match *self {
             Self::Memory => text_of(sys::MEMORY),
             Self::OutOfRange => text_of(sys::OUT_OF_RANGE),
-            Self::NotResolved(contour) => return write!(f, "contour {contour}: {}", text_of(sys::NOT_RESOLVED)),
+            Self::NotResolved(contour) => return write!(f, "contour [{contour}]: {}", text_of(sys::NOT_RESOLVED)),
             Self::NotSettled => "edges still meet after 64 rounds of splitting; Solver::SNAPPED splits them",
             Self::TooManyEdges => text_of(sys::TOO_MANY_EDGES),
             Self::NotFinite => "a float is not a number, or infinite",
