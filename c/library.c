@@ -1,5 +1,5 @@
-/* The part of the library in C: default options for a null pointer, and the texts of statuses. The proved module
- * (crates/polyover_c) always takes a struct where C may pass a null pointer, and returns no pointer. */
+/* The part of the library in C: default options and an empty clip for a null pointer, and the texts of statuses. The
+ * proved module (crates/polyover_c) always takes a struct where C may pass a null pointer, and returns no pointer. */
 #include "polyover.h"
 
 #define NUMBER int64_t

@@ -14,8 +14,9 @@ polyover_status NAME(polyover_clip_result_with)(polyover_fill fill, const polyov
 polyover_status NAME(polyover_overlay_result)(polyover_rule rule, polyover_fill fill, const OPTIONS *options,
                                               const CONTOURS *subject, const CONTOURS *clip, RESULT *result) {
     const OPTIONS by_default = {0};
-    return NAME(polyover_overlay_result_with)(rule, fill, options ? options : &by_default, subject, clip,
-                                              result);
+    const CONTOURS none = {0};
+    return NAME(polyover_overlay_result_with)(rule, fill, options ? options : &by_default, subject,
+                                              clip ? clip : &none, result);
 }
 
 polyover_status NAME(polyover_simplify_result)(polyover_fill fill, const OPTIONS *options, const CONTOURS *contours,
@@ -27,8 +28,9 @@ polyover_status NAME(polyover_simplify_result)(polyover_fill fill, const OPTIONS
 polyover_status NAME(polyover_hierarchy_result)(polyover_rule rule, polyover_fill fill, const OPTIONS *options,
                                                 const CONTOURS *subject, const CONTOURS *clip, RESULT *result) {
     const OPTIONS by_default = {0};
-    return NAME(polyover_hierarchy_result_with)(rule, fill, options ? options : &by_default, subject, clip,
-                                                result);
+    const CONTOURS none = {0};
+    return NAME(polyover_hierarchy_result_with)(rule, fill, options ? options : &by_default, subject,
+                                                clip ? clip : &none, result);
 }
 
 polyover_status NAME(polyover_clip_result)(polyover_fill fill, const polyover_clip_options *options,

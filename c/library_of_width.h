@@ -24,8 +24,10 @@ polyover_status NAME(polyover_overlay)(polyover_rule rule, polyover_fill fill, c
                                        size_t coordinate_room, size_t *contour_ends, size_t contour_room,
                                        size_t *shape_ends, size_t shape_room, polyover_counts *counts) {
     const OPTIONS by_default = {0};
-    return NAME(polyover_overlay_with)(rule, fill, options ? options : &by_default, subject, clip, coordinates,
-                                       coordinate_room, contour_ends, contour_room, shape_ends, shape_room, counts);
+    const CONTOURS none = {0};
+    return NAME(polyover_overlay_with)(rule, fill, options ? options : &by_default, subject, clip ? clip : &none,
+                                       coordinates, coordinate_room, contour_ends, contour_room, shape_ends, shape_room,
+                                       counts);
 }
 
 polyover_status NAME(polyover_simplify)(polyover_fill fill, const OPTIONS *options, const CONTOURS *contours,
@@ -43,9 +45,10 @@ polyover_status NAME(polyover_hierarchy)(polyover_rule rule, polyover_fill fill,
                                          size_t *shape_ends, size_t shape_room, polyover_link *links, size_t link_room,
                                          polyover_counts *counts, size_t *link_count) {
     const OPTIONS by_default = {0};
-    return NAME(polyover_hierarchy_with)(rule, fill, options ? options : &by_default, subject, clip, coordinates,
-                                         coordinate_room, contour_ends, contour_room, shape_ends, shape_room, links,
-                                         link_room, counts, link_count);
+    const CONTOURS none = {0};
+    return NAME(polyover_hierarchy_with)(rule, fill, options ? options : &by_default, subject, clip ? clip : &none,
+                                         coordinates, coordinate_room, contour_ends, contour_room, shape_ends,
+                                         shape_room, links, link_room, counts, link_count);
 }
 
 polyover_status NAME(polyover_clip)(polyover_fill fill, const polyover_clip_options *options, const CONTOURS *shape,

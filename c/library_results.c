@@ -1,5 +1,5 @@
-/* The part of results in C: it replaces null options by the defaults, and frees the arrays of a result and of a
- * prepared shape. */
+/* The part of results in C: it replaces null options by the defaults, a null clip by an empty one, and frees the arrays
+ * of a result and of a prepared shape. */
 #include <stdlib.h>
 
 #include "polyover.h"

@@ -77,7 +77,7 @@ static void TEST(hierarchies)(void) {
           POLYOVER_OK);
     CHECK(TEST(has_counts)(&room.shapes, 8, 1, 1) && room.link_count == 0);
     TEST(squares_at)(coordinates, ends, beside, 4);
-    CHECK(TEST(hierarchy_asked)(&room, POLYOVER_SUBJECT, POLYOVER_EVEN_ODD, &by_default, &four, &none, TEST(ample)) ==
+    CHECK(TEST(hierarchy_asked)(&room, POLYOVER_SUBJECT, POLYOVER_EVEN_ODD, &by_default, &four, NULL, TEST(ample)) ==
           POLYOVER_OK);
     CHECK(TEST(has_counts)(&room.shapes, 32, 4, 3) && room.link_count == 2);
     CHECK(room.shapes.shape_ends[0] == 2 && room.shapes.shape_ends[1] == 3 && room.shapes.shape_ends[2] == 4);

@@ -175,6 +175,14 @@ static void TEST(results_by_default)(void) {
     CHECK(NAME(polyover_simplify_result)(POLYOVER_NON_ZERO, NULL, &subject, &result) == POLYOVER_OK);
     CHECK(TEST(are_same)(result.coordinates, result.coordinate_count, TEST(subject_at), 8, sizeof(NUMBER)));
     TEST(freed)(&result);
+    CHECK(NAME(polyover_overlay_result)(POLYOVER_UNION, POLYOVER_NON_ZERO, NULL, &subject, NULL, &result) ==
+          POLYOVER_OK);
+    CHECK(result.shape_count == 1 && result.contour_count == 1);
+    NAME(polyover_free)(&result);
+    CHECK(NAME(polyover_hierarchy_result)(POLYOVER_INTERSECT, POLYOVER_NON_ZERO, NULL, &subject, NULL, &result) ==
+          POLYOVER_OK);
+    CHECK(result.shape_count == 0 && result.link_count == 0);
+    NAME(polyover_free)(&result);
     CHECK(NAME(polyover_hierarchy_result)(POLYOVER_INTERSECT, POLYOVER_NON_ZERO, NULL, &subject, &clip, &result) ==
           POLYOVER_OK);
     CHECK(TEST(are_same)(result.coordinates, result.coordinate_count, common, 8, sizeof(NUMBER)));

@@ -168,6 +168,10 @@ static void TEST(refusals)(void) {
     CHECK(TEST(asked)(&room, 6, 3, &by_default, &far, &bad) == POLYOVER_OUT_OF_RANGE);
     CHECK(TEST(asked)(&room, 6, 3, &by_default, &square, &bad) == POLYOVER_BAD_ENDS);
     CHECK(TEST(asked)(&room, 6, 3, &by_default, &none, &far) == POLYOVER_OUT_OF_RANGE);
+    CHECK(TEST(asked)(&room, 6, 3, &by_default, &none, NULL) == POLYOVER_OK);
+    CHECK(TEST(asked)(&room, 6, 3, &by_default, &far, NULL) == POLYOVER_OUT_OF_RANGE);
+    CHECK(TEST(asked)(&room, POLYOVER_XOR, POLYOVER_NON_ZERO, NULL, &square, NULL) == POLYOVER_OK);
+    CHECK(TEST(has_counts)(&room, 8, 1, 1));
     CHECK(TEST(asked)(&room, 6, 3, &by_default, &none, &none) == POLYOVER_OK);
     CHECK(TEST(has_counts)(&room, 0, 0, 0));
     CHECK(TEST(asked)(&room, POLYOVER_UNION, POLYOVER_NEGATIVE, &by_default, &square, &none) == POLYOVER_OK);

@@ -235,6 +235,8 @@ polyover_status polyover_resolved_32(const polyover_contours_32 *contours);
 /* The shapes round the region where the rules hold of what the contours of the subject and those of the clip fill. A
  * shape is its outline and then its holes.
  *
+ * A null pointer to a clip stands for one without contours, here and in `polyover_hierarchy`.
+ *
  * On POLYOVER_OK the first counts->coordinates items of `coordinates` are the points, x before y, contour by contour
  * and shape by shape; the first counts->contours items of `contour_ends` are how many points there are up to the end of
  * each contour, and the first counts->shapes items of `shape_ends` how many contours up to the end of each shape. The
