@@ -1,0 +1,5 @@
+pub mod ExactArrangements
+pub mod Scaled
+pub mod ScaledPoints
+pub mod ScaledRelations
+pub mod WholeScales
