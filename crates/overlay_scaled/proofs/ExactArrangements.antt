@@ -27,6 +27,7 @@ use Rattle.overlay_plane.proofs.WholeCuts.{CutsWhole, ends_of_merged, forward_me
 use Rattle.overlay_plane.proofs.WholeCuts.{goes_forward, stops, stop_held, stops_rise}
 use Rattle.overlay_scaled.specs.ExactArrangements.{IsExactArrangement, ArrangesExactly, ExactArrangementsExist}
 use Rattle.overlay_scaled.specs.ExactArrangements.{ExactArrangementsArrange, ExactArrangementsAreFillable}
+use Rattle.overlay_scaled.specs.ExactArrangements.{MergingKeepsPointsOff}
 use Rattle.overlay_scaled.specs.Scaled.{scaled}
 use Rattle.overlay_scaled.proofs.MergedLists.{merged_of, is_merged}
 use Rattle.overlay_scaled.proofs.ScaledLists.{scaled_forward, scaled_balanced}
@@ -144,6 +145,19 @@ module _ (es : List CountedEdge) (forward : IsForwardBy ends_of es) where
     rounding = nearest_point-rounding;
     pieces = is_merged pieces;
   }
+
+-- ---- merging alone
+
+-- merged edges have no point off the edges, and wind as they do
+pub merging_keeps_points_off : MergingKeepsPointsOff
+merging_keeps_points_off content es merged p off = record {
+  off = All-map (λ f. ¬ (IsOn f p)) ends_of es (all_of_entries (λ e. ¬ (IsOn (ends_of e) p)) es
+      (λ e c on. let from = ends_of_merged content es merged e c in
+      All-contains (λ f. ¬ (IsOn f p)) (all_ends content) (ends_of from.0) off
+      (Contains-map ends_of content from.0 from.1) (subst (λ (f : Edge). IsOn f p) (sym from.2) on)));
+  subj = (windings_from_merged content es merged).subj p;
+  clip = (windings_from_merged content es merged).clip p;
+}
 
 pub exact_arrangements_exist : ExactArrangementsExist
 exact_arrangements_exist es forward = (_, _, exact_arrangement es forward)

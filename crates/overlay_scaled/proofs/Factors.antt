@@ -1,6 +1,7 @@
 -- Numbers that two positive factors bring to the same number: they have one order and one sign.
-use Rattle.std.proofs.Common.{◌≡◌, ℤ, pos, ◌*ℤ◌, ◌<ℤ◌, ◌≤ℤ◌, int_lt, int_le, sym}
+use Rattle.std.proofs.Common.{◌≡◌, ℤ, pos, ◌*ℤ◌, ◌<ℤ◌, ◌≤ℤ◌, int_lt, int_le, sym, ap}
 use Rattle.overlay_geom.proofs.Signs.{linear, mul-le, mul-lt, le_of_mul-le, lt_of_mul-lt, mul-zero, zero_of_mul-zero}
+use Rattle.overlay_geom.proofs.Signs.{eq_of_mul-eq}
 use Rattle.overlay_plane.proofs.Tests.{lt_from_test, test_from_lt, le_from_test, test_from_le, same_tests}
 
 -- k times u is m times v
@@ -35,3 +36,9 @@ pub zero_alike : (k m u w : ℤ) → pos 0 <ℤ m → k *ℤ u ≡ m *ℤ w → 
 zero_alike k m u w m_pos same zero =
     let none = mul-zero k u zero in
     zero_of_mul-zero m w m_pos (omega linear)
+
+-- they are equal where the others are
+pub eq_alike : (k m u v w z : ℤ) → pos 0 <ℤ m → k *ℤ u ≡ m *ℤ w → k *ℤ v ≡ m *ℤ z → u ≡ v → w ≡ z
+eq_alike k m u v w z m_pos first second same =
+    let both = ap (λ y. k *ℤ y) same in
+    eq_of_mul-eq m w z m_pos (omega linear)

@@ -4,7 +4,7 @@ use Rattle.std.specs.Ordering.{int_eq}
 use Rattle.std.proofs.lemmas.Bool.Decides.{Decides-int_eq}
 use Rattle.std.proofs.lemmas.List.Elements.{All-contains, All-map}
 use Rattle.overlay_geom.specs.Edges.{CountedEdge, ends_of, subj_of, clip_of}
-use Rattle.overlay_geom.specs.Plane.{Point, point_lt}
+use Rattle.overlay_geom.specs.Plane.{Point, point_lt, point_eq}
 use Rattle.overlay_geom.proofs.Identities.{solve, number, ◌⊗◌, ◌≗◌}
 use Rattle.overlay_geom.proofs.Signs.{eq_of_mul-eq}
 use Rattle.overlay_plane.specs.Balance.{HasBalancedCounts}
@@ -31,6 +31,10 @@ module _ (n : ℤ) (some : pos 0 <ℤ n) where
   pub same_point_lt : (v w : Point) → point_lt (scaled_point n v) (scaled_point n w) ≡ point_lt v w
   same_point_lt v w = ap₂ (λ s t. s || t) (same_int_lt v.x w.x)
       (ap₂ (λ s t. s && t) (same_int_eq v.x w.x) (same_int_lt v.y w.y))
+
+  -- and equal where they are
+  pub same_point_eq : (v w : Point) → point_eq (scaled_point n v) (scaled_point n w) ≡ point_eq v w
+  same_point_eq v w = ap₂ (λ s t. s && t) (same_int_eq v.x w.x) (same_int_eq v.y w.y)
 
   -- scaled edges lead forward
   pub scaled_forward : (es : List CountedEdge) → IsForwardBy ends_of es → IsForwardBy ends_of (scaled n es)

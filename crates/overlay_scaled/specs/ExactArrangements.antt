@@ -46,3 +46,7 @@ ExactArrangementsArrange = (n : ℤ) (es new : List CountedEdge) → IsForwardBy
 abbrev pub ExactArrangementsAreFillable : Type 0
 ExactArrangementsAreFillable = (n : ℤ) (es new : List CountedEdge) (filled : ℤ → Bool) →
     ArrangesExactly n es new → filled (pos 0) ≡ false → IsFillable filled new
+
+-- a merged list has no edge at a point off the list, and winds as the list
+abbrev pub MergingKeepsPointsOff : Type 0
+MergingKeepsPointsOff = (content es : List CountedEdge) → IsMerged content es → KeepsPointsOff content es

@@ -1,5 +1,10 @@
 pub mod ExactArrangements
+pub mod Pieces
+pub mod PlainContacts
+pub mod PlainPoints
+pub mod PlainRelations
 pub mod Scaled
 pub mod ScaledPoints
 pub mod ScaledRelations
+pub mod Through
 pub mod WholeScales

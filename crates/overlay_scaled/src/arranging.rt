@@ -1,7 +1,7 @@
 //! Exact arrangements: edges scaled so that they meet in whole points alone, cut at these.
 
 ghost use Rattle.overlay_scaled.specs.ExactArrangements.{ExactArrangementsExist, ExactArrangementsArrange};
-ghost use Rattle.overlay_scaled.specs.ExactArrangements.{ExactArrangementsAreFillable};
+ghost use Rattle.overlay_scaled.specs.ExactArrangements.{ExactArrangementsAreFillable, MergingKeepsPointsOff};
 
 /// Each list that leads forward has an exact arrangement.
 pub fn exact_arrangements_exist()
@@ -17,4 +17,9 @@ pub fn exact_arrangements_arrange()
 /// Fillings of an exact arrangement meet the premise of the laws on fillings.
 pub fn exact_arrangements_are_fillable()
     ensures { ExactArrangementsAreFillable }
+{}
+
+/// A merged list has no edge at a point off the list, and winds as the list.
+pub fn merging_keeps_points_off()
+    ensures { MergingKeepsPointsOff }
 {}

@@ -4,4 +4,5 @@
 #![tactic(auto)]
 
 pub mod arranging;
+pub mod plain;
 pub mod scaling;
