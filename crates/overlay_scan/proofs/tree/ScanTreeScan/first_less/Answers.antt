@@ -1,5 +1,5 @@
 -- The entries below the start of the edge.
-use Rattle.std.proofs.Common.{◌≡◌, not, rules, List, [], ◌∷◌, ap, ◌∙◌, arith}
+use Rattle.std.proofs.Common.{◌≡◌, ℤ, ◌≤ℤ◌, not, rules, List, [], ◌∷◌, ap, ◌∙◌, arith}
 use Rattle.std.proofs.lemmas.Int.{ints}
 use Rattle.std.specs.Ordering.{is_gt}
 use Rattle.overlay_geom.specs.Lines.{plain_line}
@@ -9,6 +9,10 @@ use Rattle.overlay_scan.specs.Lists.{plain_entry, IsComparable, is_lower}
 use Rattle.overlay_scan.proofs.Asked.{moved, value_is_below, may_compare}
 use Rattle.overlay_scan.proofs.Moving.{sweep_moved}
 use Rattle.overlay_scan.proofs.tree.ScanTreeScan.first_less.Goals as goal
+
+-- an edge that starts at x starts at or before x
+at_most : (a x : ℤ) → a ≡ x → a ≤ℤ x
+at_most a x starts = omega (arith, ints)
 
 pub look_up-found-requires : goal.look_up-found-requires
 look_up-found-requires g c k d lt a b at_a at_b =
@@ -20,7 +24,7 @@ look_up-found-requires g c k d lt a b at_a at_b =
     may_compare whole limit c.args.x old.entries old.reached asked (plain_line whole c.args.edge)
     (ap (λ n. n.edge) c.live_edge-asked.ensures) c.requires.state c.requires.moves
     (record { a = c.requires.asked.a_in_range; b = c.requires.asked.b_in_range })
-    (let starts = c.requires.asked.starts in omega (arith, ints))
+    (at_most _ _ c.requires.asked.starts)
     k d lt a b at_a at_b in
     search rules
 
@@ -53,3 +57,6 @@ returns-clause-state g c =
     let whole = g.I.IntNumber.whole in
     sweep_moved g.I.IntNumber.limit (whole c.args.x) (held_sweep whole c.args.self.now)
     (held_sweep whole c.look_up-found.new.self) c.requires.state c.requires.moves (returns-clause-content g c)
+
+pub returns-clause-quick : goal.returns-clause-quick
+returns-clause-quick g c = c.look_up-found.ensures.quick
