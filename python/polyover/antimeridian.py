@@ -15,10 +15,14 @@ from .geojson import POINTS, POLYGONS, Feature, Part
 from .scaled import Scaled
 from .systems import DEGREES
 from .text import SNAPPED
-from .told import Told
+from .told import Told, counted
 
 HALF, TURN = 180, 360
-WIDE = "# {} span more than 180 degrees, and coordinates are planar: --antimeridian cut cuts at 180"
+BEYOND = "more than 180 degrees, and coordinates are planar: --antimeridian cut cuts at 180"
+WIDE = {
+    kind: counted(f"# [{kind} spans|{kind}s span] {BEYOND}")
+    for kind in ("ring", "line")
+}
 # (longitudes and latitudes go no farther)
 FARTHEST, POLE = 720, 90
 
@@ -36,7 +40,7 @@ def tell_wide(feature: Feature, is_of_rings: bool, told: Told) -> None:
         for at, path in enumerate(part.paths, 1):
             if spans_much(path):
                 place = part.place._replace(ring=at) if is_of_rings else part.place
-                told.add(WIDE.format("rings" if is_of_rings else "lines"), place)
+                told.add(WIDE["ring" if is_of_rings else "line"], place)
 
 
 def unrolled(path: Sequence[Any]) -> tuple[list[Any], int]:

@@ -14,12 +14,12 @@ from .flat import Flat, FlatFloats, FlatShapes, whole_path
 from .geojson import is_geometry, points_of
 from .shapes import Paths, Shapes
 from .text import FILLS, LOCATIONS, RULES, SNAPPED, SOLVERS, Fill, Rule, Solver, coordinate, items_of, known
-from .told import Told
+from .told import Told, counted
 
 AREA_LIMIT = 2**127 - 1
 # (by how many powers of two relations are told coarser where rounds do not settle)
 COARSER = 8
-MORE = "members of # points beyond x and y are left out"
+MORE = counted("members of # [point|points] beyond x and y are left out")
 
 
 class Look(NamedTuple):

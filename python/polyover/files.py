@@ -17,11 +17,12 @@ from .progress import faults_of
 from .sequences import once, values_in
 from .streams import INPUT, closed, read_all
 from .systems import DEFAULT, DEGREES, crs_of, system_in
-from .told import Told
+from .told import Told, counted
 
 # members of a collection that an answer has anew
 OWN = ("type", "features", "bbox")
 NESTED = "too many lists or objects in one another"
+LEFT_OUT = counted("# [feature|features] without a geometry [is|are] left out")
 
 
 # ---- what a file holds
@@ -151,7 +152,7 @@ def features_of(reader: Reader, things: Iterable[tuple[int, Any]], name: str, te
     with naming(name):
         for each in reader.features(things):
             if each.is_null and tells_nulls:
-                reader.told.add("# features without a geometry are left out", each.place)
+                reader.told.add(LEFT_OUT, each.place)
             yield each
 
 

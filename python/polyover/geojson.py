@@ -10,7 +10,7 @@ from typing import Any, Iterable, Iterator, NamedTuple, Sequence
 from .errors import BadInput
 from .numbers import is_finite
 from .shapes import ring
-from .told import Told
+from .told import Told, counted
 
 POLYGONS = ("Polygon", "MultiPolygon")
 LINES = ("LineString", "MultiLineString")
@@ -20,10 +20,11 @@ KINDS = {*POLYGONS, *LINES, *POINTS}
 DEPTHS = {"Point": 0, "MultiPoint": 1, "LineString": 1, "MultiLineString": 2, "Polygon": 2, "MultiPolygon": 3}
 NESTED = 50
 LISTS, NUMBERS = {list, tuple}, {float, int}
-DROPPED = "members of # points beyond x and y are left out"
-PASSED_OVER = "# geometries that are no {} are passed over"
-SKIPPED = "# rings or lines with too few points are skipped"
-NULLS = "# features have no geometry"
+DROPPED = counted("members of # [point|points] beyond x and y are left out")
+PASSED_OVER = "# [geometry that is|geometries that are] no {} [is|are] passed over"
+SKIPPED = counted("# [ring or line|rings or lines] with too few points [is|are] skipped")
+HOLES = counted("# [hole of an outline that is skipped is|holes of outlines that are skipped are] skipped too")
+NULLS = counted("# [feature has|features have] no geometry")
 
 Point = Sequence[Any]
 Path = list[Any]
@@ -109,7 +110,7 @@ class Reader:
         if paths and paths[0] is None:
             holes = sum(path is not None for path in paths)
             if holes:
-                self.told.add("# holes of outlines that are skipped are skipped too", place, holes)
+                self.told.add(HOLES, place, holes)
         elif paths:
             yield Part(place, [path for path in paths if path is not None])
 
@@ -139,7 +140,7 @@ class Reader:
         if kind not in self.kinds:
             check_nested(place, coordinates, DEPTHS[kind])
             self.passed_over = self.passed_over or f"{place}: {kind} in the place of {self.wanted}"
-            self.told.add(PASSED_OVER.format(self.wanted), place)
+            self.told.add(counted(PASSED_OVER.format(self.wanted)), place)
             return
         self.finds_any = True
         name, read = self.readers[self.kinds[0]]

@@ -9,8 +9,9 @@ from .errors import BadInput
 from .formats import PLAIN, SEQUENCES, Format
 from .streams import OUTPUT
 from .systems import DEGREES, number_in, words_for
-from .told import Told
+from .told import Told, counted
 
+NUMBERS = "[number of a feature (fid) is|numbers of features (fid) are]"
 # members of a feature that are no properties
 OWN = ("type", "geometry", "properties")
 
@@ -27,7 +28,7 @@ class Holding:
         if not self.is_dropping:
             start = f"{self.told.source}: {self.form.name} does not hold {what}"
             raise BadInput(f"{start} ({place}); --drop leaves it out, with a warning")
-        self.told.add(f"{what}: left out # times", place)
+        self.told.add((f"{what}: left out once", f"{what}: left out # times"), place)
 
     def collection(self, file: File) -> int:
         """Leaves out what is not held of a collection. Returns the number of its system, where the format has numbers
@@ -51,7 +52,7 @@ class Holding:
             self.leave_out(f"the property {name!r}", place)
         for name in feature:
             if name == "id" and self.has_numbers:
-                self.told.add("# numbers of features (fid) are left out", place)
+                self.told.add(counted(f"# {NUMBERS} left out"), place)
             elif name not in OWN:
                 self.leave_out(f"the member {name!r}", place)
         if feature["geometry"] is None:

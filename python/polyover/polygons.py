@@ -12,10 +12,11 @@ from typing import Any, Sequence
 
 from . import calls
 from .contour import WholePath, box_of, double_area, is_flat, shifted, surplus_of, visits_once, without_repeats
-from .told import Told
+from .told import Told, counted
 
-COLLAPSED = "# {} collapse to lines or points, and are left out"
-CROSSED = "# rings cross or overlap themselves, and cover what they wind round"
+COLLAPSED = "# [{0} collapses to a line or a point, and is|{0}s collapse to lines or points, and are] left out"
+CROSSED = counted("# [ring crosses or overlaps itself, and covers what it winds|rings cross or overlap themselves, and "
+                  "cover what they wind] round")
 
 
 @dataclass
@@ -65,10 +66,10 @@ def without_flat(rings: Polygon, told: Told) -> Polygon:
         if not is_flat(ring.whole):
             left.append(ring)
         elif at == 0:
-            told.add(COLLAPSED.format("polygons"), ring.place)
+            told.add(counted(COLLAPSED.format("polygon")), ring.place)
             return []
         else:
-            told.add(COLLAPSED.format("holes"), ring.place)
+            told.add(counted(COLLAPSED.format("hole")), ring.place)
     return left
 
 

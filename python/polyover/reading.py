@@ -12,8 +12,9 @@ from .geojson import LINES, POLYGONS, Part, parts_of
 from .numbers import over_one_bottom
 from .polygons import Contour, Ring, contours_of_polygons
 from .text import LIMIT
-from .told import Told
+from .told import Told, counted
 
+COLLAPSED = counted("# [line collapses to a point, and is|lines collapse to points, and are] left out")
 Whole = Callable[[Sequence[Any]], WholePath]
 
 
@@ -73,7 +74,7 @@ class Lines:
         told = Told(self.source) if self.told is None else self.told
         for part, path in zip(self.parts, paths):
             if len(set(path)) < 2:
-                told.add("# lines collapse to points, and are left out", part.place)
+                told.add(COLLAPSED, part.place)
         if self.told is None:
             told.say()
         return paths

@@ -13,10 +13,11 @@ from .content import Content, File
 from .errors import BadInput
 from .formats import GEOPACKAGE, SHAPEFILE, Format, layer_in
 from .geojson import shown
-from .holding import Holding
+from .holding import NUMBERS, Holding
 from .interrupts import let_in
 from .leaving import is_plain
 from .systems import DEGREES, crs_of, number_in, words_for
+from .told import counted
 from .wkt import has_height
 
 DRIVERS = {GEOPACKAGE: "GPKG", SHAPEFILE: "ESRI Shapefile"}
@@ -169,7 +170,7 @@ class Table:
             self.features.sort(key=lambda each: int(each["id"]))
             return True
         if self.file.is_table and are_whole:
-            self.holding.told.add("# numbers of features (fid) are given anew", place_of(1), len(ids))
+            self.holding.told.add(counted(f"# {NUMBERS} given anew"), place_of(1), len(ids))
         else:
             once = ", which are no whole numbers that come once" if self.form is GEOPACKAGE else ""
             self.holding.leave_out(f"the ids of features{once}", place_of(1))

@@ -2,9 +2,27 @@
 
 from __future__ import annotations
 
+import re
 import warnings
+from functools import lru_cache
 
 from .errors import PolyoverWarning
+
+CHOICE = re.compile(r"\[([^|\]]*)\|([^|\]]*)\]")
+# what is said of one, and what of more, where the last sign # stands for their number
+What = tuple[str, str]
+
+
+@lru_cache(maxsize=64)
+def counted(text: str) -> What:
+    """What is said of one, and of more: of words as [is|are] the first, or the second."""
+    return CHOICE.sub(r"\1", text).replace("#", "1"), CHOICE.sub(r"\2", text)
+
+
+def said(what: What, count: int) -> str:
+    """What is said of that many."""
+    one, more = what
+    return one if count == 1 else f"{count:,}".join(more.rsplit("#", 1))
 
 
 class Told:
@@ -12,19 +30,19 @@ class Told:
 
     def __init__(self, source: str = "") -> None:
         self.source = source
-        self.counts: dict[str, int] = {}
-        self.first: dict[str, str] = {}
+        self.counts: dict[What, int] = {}
+        self.first: dict[What, str] = {}
 
-    def add(self, what: str, place: object, count: int = 1) -> None:
-        """Counts what there is at a place. In `what` the sign # stands for the count."""
+    def add(self, what: What, place: object, count: int = 1) -> None:
+        """Counts what there is at a place."""
         self.first.setdefault(what, str(place))
         self.counts[what] = self.counts.get(what, 0) + count
 
     def lines(self) -> list[str]:
         """What is to be said, a line each."""
         start = f"{self.source}: " if self.source else ""
-        told = ((what.replace("#", f"{count:,}"), self.first[what]) for what, count in self.counts.items())
-        return [f"{start}{what} (the first: {place})" for what, place in told]
+        told = ((said(what, count), self.first[what]) for what, count in self.counts.items())
+        return [f"{start}{words} (the first: {place})" for words, place in told]
 
     def say(self) -> None:
         """Says it by warnings, and begins anew."""

@@ -33,30 +33,30 @@ def boxes(left):
 class Told(unittest.TestCase):
     """What is said of wide rings."""
 
-    SAID = (" span more than 180 degrees, and coordinates are planar: --antimeridian cut cuts at 180 (the first:"
+    SAID = (" more than 180 degrees, and coordinates are planar: --antimeridian cut cuts at 180 (the first:"
             " feature 2, polygon 1, ring {})\n")
 
     def test_once_a_file(self):
         area = collection(feature("Polygon", [square(0, 0, 1, 1)]), feature("Polygon", [FIJI, HOLE]),
                           feature("Polygon", [FIJI]))
         status, _, said, _ = ran("simplify", area)
-        self.assertEqual((status, said), (0, "polyover: a.geojson: 3 rings" + self.SAID.format(1)))
+        self.assertEqual((status, said), (0, "polyover: a.geojson: 3 rings span" + self.SAID.format(1)))
         self.assertEqual(ran("simplify", area, words=["--quiet"])[2], "")
         wide = square(-90, 0, 90, 1), square(-90, 0, 91, 1)
         area = collection(*(feature("Polygon", [ring]) for ring in wide))
-        self.assertEqual(ran("simplify", area)[2], "polyover: a.geojson: 1 rings" + self.SAID.format(1))
+        self.assertEqual(ran("simplify", area)[2], "polyover: a.geojson: 1 ring spans" + self.SAID.format(1))
 
     def test_lines(self):
         line = feature("LineString", [[170, 0], [-170, 0]])
         said = ran("clip", collection(feature("Polygon", [square(0, 0, 1, 1)])), collection(line))[2]
-        self.assertIn("b.geojson: 1 lines span more than 180 degrees", said)
+        self.assertIn("b.geojson: 1 line spans more than 180 degrees", said)
 
     def test_other_systems(self):
         for code, is_told in (("urn:ogc:def:crs:EPSG::3857", False), ("EPSG:4326", True), ("EPSG:32633", False),
                               ("urn:ogc:def:crs:OGC:1.3:CRS84", True)):
             crs = {"type": "name", "properties": {"name": code}}
             said = ran("simplify", collection(feature("Polygon", [FIJI]), crs=crs))[2]
-            self.assertEqual("span more than 180" in said, is_told, code)
+            self.assertEqual("spans more than 180" in said, is_told, code)
         self.assertEqual(ran("simplify", collection(feature("Polygon", [FIJI]), crs=None))[2], "")
         # (these are no degrees)
         self.assertEqual(ran("simplify", collection(feature("Polygon", [square(0, 0, 5000, 5000)])))[2], "")
@@ -67,11 +67,11 @@ class Told(unittest.TestCase):
         for start, is_told in (("", False), ("SRID=3857;", False), ("SRID=4326;", True)):
             text.write_text(f"{start}POLYGON ((170 0, -170 0, -170 10, 170 0))\n")
             said = told("simplify", text, "--out", folder / "b.wkt")[1]
-            self.assertEqual("a.wkt: 1 rings span" in said and "(the first: line 1, polygon 1" in said, is_told)
+            self.assertEqual("a.wkt: 1 ring spans" in said and "(the first: line 1, polygon 1" in said, is_told)
         lines = folder / "a.geojsonl"
         lines.write_text(f"\n{json.dumps(feature('Polygon', [FIJI]))}\n")
         said = told("simplify", lines, "--out", folder / "b.geojsonl")[1]
-        self.assertIn("a.geojsonl: 1 rings span more than 180 degrees", said)
+        self.assertIn("a.geojsonl: 1 ring spans more than 180 degrees", said)
         self.assertIn("(the first: line 2, polygon 1, ring 1)", said)
 
 

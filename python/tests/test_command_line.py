@@ -147,7 +147,7 @@ class Polygons(unittest.TestCase):
         _, left, said, _ = ran("simplify", given)
         self.assertEqual(self.rings(left), [[1, 1], [1]])
         self.assertEqual([each["properties"]["name"] for each in left["features"]], ["bow", "box"])
-        self.assertIn("1 rings cross or overlap themselves, and cover what they wind round "
+        self.assertIn("1 ring crosses or overlaps itself, and covers what it winds round "
                       "(the first: feature 1, polygon 1, ring 1)", said)
         # (each half of the bow has an area of 4, the box 2)
         self.assertEqual(self.rings(ran("simplify", given, words=["--min-area", "3.5"])[1]), [[1, 1]])

@@ -147,7 +147,7 @@ class Said(unittest.TestCase):
         _, left, said, _ = ran("slice", collection(GOOD, empty), collection(feature("LineString", [[-1, 1], [1, 1]])))
         self.assertEqual((left["features"][1], said), (empty, ""))
         _, left, said, _ = ran("overlay", collection(GOOD, empty), collection(GOOD))
-        self.assertEqual(said.count("1 features without a geometry are left out (the first: feature 2)"), 1)
+        self.assertEqual(said.count("1 feature without a geometry is left out (the first: feature 2)"), 1)
 
     def test_geometries_of_other_kinds(self):
         mixed = {"type": "GeometryCollection", "geometries": [
@@ -158,7 +158,7 @@ class Said(unittest.TestCase):
             warnings.simplefilter("always")
             self.assertEqual(polyover.contours_of(mixed), [[(0, 0), (1, 0), (1, 1), (0, 1)]])
         self.assertEqual([str(each.message) for each in told], [
-            "1 geometries that are no Polygon or MultiPolygon are passed over (the first: feature 1, geometry 1)",
+            "1 geometry that is no Polygon or MultiPolygon is passed over (the first: feature 1, geometry 1)",
         ])
         with self.assertRaisesRegex(polyover.BadInput, "feature 1: LineString in the place of Polygon"):
             polyover.contours_of({"type": "LineString", "coordinates": [[0, 0], [1, 1]]})

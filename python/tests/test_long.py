@@ -69,7 +69,7 @@ class Said(unittest.TestCase):
 
     def test_warnings_stay(self):
         bow = collection(feature("Polygon", [[[0, 0], [4, 4], [4, 0], [0, 4], [0, 0]]]))
-        self.assertIn("1 rings cross or overlap themselves", ran("simplify", bow, words=["--quiet"])[2])
+        self.assertIn("1 ring crosses or overlaps itself", ran("simplify", bow, words=["--quiet"])[2])
 
     def shown(self, words):
         """What a command shows on a terminal."""

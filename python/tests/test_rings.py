@@ -53,7 +53,7 @@ class Closed(unittest.TestCase):
             polyover.contours_of(things)
         contours, told = silently(polyover.contours_of, things, skip_invalid=True)
         self.assertEqual(len(contours), 3)
-        self.assertEqual(told, ["1 rings or lines with too few points are skipped "
+        self.assertEqual(told, ["1 ring or line with too few points is skipped "
                                 "(the first: feature 2, polygon 2, ring 2)"])
 
     def test_lines_too(self):
@@ -71,7 +71,7 @@ class Closed(unittest.TestCase):
         self.assertIn("a.geojson: feature 1, polygon 1, ring 1: 2 points: ", said)
         status, left, said, _ = ran("overlay", bad, good, words=["--skip-invalid"])
         self.assertEqual((status, len(left["features"][0]["geometry"]["coordinates"])), (0, 2))
-        self.assertIn("1 rings or lines with too few points are skipped", said)
+        self.assertIn("1 ring or line with too few points is skipped", said)
 
 
 class Direction(unittest.TestCase):
@@ -112,8 +112,8 @@ class Direction(unittest.TestCase):
         shapes, told = silently(polyover.Scaled(1).overlay, thin)
         self.assertEqual(area_of(shapes), 80)
         self.assertEqual(told, [
-            "1 holes collapse to lines or points, and are left out (the first: feature 1, polygon 1, ring 2)",
-            "1 polygons collapse to lines or points, and are left out (the first: feature 1, polygon 2, ring 1)",
+            "1 hole collapses to a line or a point, and is left out (the first: feature 1, polygon 1, ring 2)",
+            "1 polygon collapses to a line or a point, and is left out (the first: feature 1, polygon 2, ring 1)",
         ])
 
     def test_decided_at_the_scale(self):
@@ -161,7 +161,7 @@ class Holes(unittest.TestCase):
             polyover.contours_of, {"type": "MultiPolygon", "coordinates": [[crossed], [square(0, 0, 4, 4)]]}
         )
         self.assertEqual(area_of(polyover.overlay(contours)), 16)
-        self.assertIn("1 rings cross or overlap themselves", told[0])
+        self.assertIn("1 ring crosses or overlaps itself", told[0])
 
     def test_a_ring_that_crosses_itself_alone(self):
         crossed = [[0, 0], [4, 4], [4, 0], [0, 4], [0, 0]]

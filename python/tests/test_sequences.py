@@ -142,8 +142,8 @@ class Files(unittest.TestCase):
 
     def test_what_is_left_out_is_told_once(self):
         self.roads.write_text(lines([feature("LineString", [[0, 0]]), *ROADS, feature("LineString", [[0, 0], [0, 0]])]))
-        told_of_both = ("polyover: roads.geojsonl: 1 rings or lines with too few points are skipped (the first: line 1,"
-                        " line 1)\npolyover: roads.geojsonl: 1 lines collapse to points, and are left out (the first: "
+        told_of_both = ("polyover: roads.geojsonl: 1 ring or line with too few points is skipped (the first: line 1,"
+                        " line 1)\npolyover: roads.geojsonl: 1 line collapses to a point, and is left out (the first: "
                         "line 6, line 1)\n")
         self.assertEqual(self.clipped("--skip-invalid"), (0, told_of_both))
 
@@ -160,7 +160,7 @@ class Files(unittest.TestCase):
             self.assertFalse(self.out.exists())
         status, said = self.clipped("--drop", roads=roads)
         self.assertEqual((status, len(self.left())), (0, 3))
-        self.assertIn("out.geojsonl: the system of coordinates that the member crs states: left out 1 times", said)
+        self.assertIn("out.geojsonl: the system of coordinates that the member crs states: left out once", said)
         crs["properties"]["name"] = "urn:ogc:def:crs:OGC:1.3:CRS84"
         roads.write_text(json.dumps(collection(*ROADS, crs=crs)))
         self.assertEqual(self.clipped(roads=roads), (0, ""))

@@ -234,7 +234,7 @@ class Tables(unittest.TestCase):
         out = self.path("out.wkt")
         status, said = told("simplify", table, "--out", out)
         self.assertEqual((status, out.read_text()), (0, "MULTIPOLYGON (((0 1, 0 0, 1 0, 1 1, 0 1)))\n"))
-        self.assertIn("out.wkt: 1 numbers of features (fid) are left out (the first: feature 1 of the answer)\n", said)
+        self.assertIn("out.wkt: 1 number of a feature (fid) is left out (the first: feature 1 of the answer)\n", said)
 
     def test_to_what_is_no_plain_file(self):
         pipe = self.path("pipe.gpkg")

@@ -195,7 +195,7 @@ class Files(unittest.TestCase):
                                    " --drop leaves it out, with a warning\n")
             self.assertEqual((status, self.out.exists()), (1, False))
             status, said = told("simplify", area, "--out", self.out, "--drop")
-            self.assertEqual((status, said), (0, f"polyover: {self.out.name}: {what}: left out 1 times (the first:"
+            self.assertEqual((status, said), (0, f"polyover: {self.out.name}: {what}: left out once (the first:"
                                                  " feature 2 of the answer)\n"))
             self.out.unlink()
 
