@@ -5,10 +5,10 @@ from __future__ import annotations
 from ctypes import c_size_t, c_uint32
 from functools import lru_cache
 from struct import iter_unpack
-from typing import Any, Callable, Sequence
+from typing import Any, Callable
 
 from .errors import LibraryMissing, NotResolved
-from .flat import Flat, FlatShapes, address_of
+from .flat import Flat, FlatShapes, address_of, parted
 from .grid import grid_lines
 from .library import ClipOptions, Held, HeldShape, Library, Options, Status, check
 from .library import library as found_library
@@ -64,11 +64,6 @@ def built() -> str:
 def points_in(numbers: Any) -> list[Any]:
     """The points of an array of coordinates."""
     return list(iter_unpack("2q", numbers))
-
-
-def parted(items: list[Any], ends: Sequence[int]) -> list[Any]:
-    """The parts of a list with these ends."""
-    return [items[start:end] for start, end in zip([0, *ends[:-1]], ends)]
 
 
 def paths_in(held: Held) -> list[Any]:

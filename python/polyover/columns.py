@@ -67,10 +67,17 @@ def whole_points(axes: Sequence[Any], points: Sequence[Any]) -> list[tuple[int, 
     return list(zip(xs, ys))
 
 
-def whole_columns(axes: Sequence[Any], xs: Sequence[float], ys: Sequence[float]) -> tuple[list[int], list[int]]:
-    """The whole numbers of two columns of floats. Raises ValueError or OverflowError where one is no number."""
-    numpy = numpy_for(len(xs))
-    if numpy is None or any(axis.floats is None for axis in axes):
-        return axes[0].column(xs), axes[1].column(ys)
-    floats = [numpy.array(column, numpy.float64) for column in (xs, ys)]
-    return whole_column(numpy, axes[0], floats[0]), whole_column(numpy, axes[1], floats[1])
+def whole_row(axes: Sequence[Any], numbers: Sequence[float]) -> list[int]:
+    """The whole numbers of coordinates in a row. Raises ValueError or OverflowError where one is no number."""
+    across, up = axes
+    numpy = numpy_for(len(numbers) // 2)
+    if numpy is None or across.floats is None or up.floats is None:
+        if across is up:
+            return across.column(numbers)  # type: ignore[no-any-return]
+        xs, ys = across.column(numbers[0::2]), up.column(numbers[1::2])
+    else:
+        floats = numpy.array(numbers, numpy.float64)
+        xs, ys = whole_column(numpy, across, floats[0::2]), whole_column(numpy, up, floats[1::2])
+    row = [0] * len(numbers)
+    row[0::2], row[1::2] = xs, ys
+    return row

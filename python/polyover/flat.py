@@ -5,7 +5,7 @@ from __future__ import annotations
 from array import array
 from ctypes import addressof, c_char
 from itertools import islice
-from typing import Any, Iterable, Iterator
+from typing import Any, Iterable, Iterator, Sequence
 
 from .errors import BadInput
 from .shapes import Paths, Shapes
@@ -48,8 +48,9 @@ def checked_buffer(what: str, thing: Any, formats: tuple[str, ...]) -> memoryvie
 
 def address_of(items: Any) -> tuple[int, Any]:
     """Where the numbers of an array or a buffer are, and what has to stay as long."""
-    if isinstance(items, array):
-        return items.buffer_info()[0], items
+    whole = items.obj if isinstance(items, memoryview) and items.c_contiguous else items
+    if isinstance(whole, array) and len(whole) == len(items) and whole.itemsize == items.itemsize:
+        return whole.buffer_info()[0], items
     if not len(items):
         return 0, items
     if isinstance(items, bytearray) or not items.readonly:
@@ -59,6 +60,11 @@ def address_of(items: Any) -> tuple[int, Any]:
         return int(found["data"][0]), items
     kept = bytearray(items.cast("B"))
     return addressof(c_char.from_buffer(kept)), kept
+
+
+def parted(items: list[Any], ends: Sequence[int]) -> list[Any]:
+    """The parts of a list with these ends."""
+    return [items[start:end] for start, end in zip([0, *ends[:-1]], ends)]
 
 
 def rows(buffer: memoryview, kind: str) -> memoryview:

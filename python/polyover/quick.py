@@ -6,21 +6,23 @@ from __future__ import annotations
 import sys
 from array import array
 from functools import lru_cache
-from operator import mul
+from itertools import chain
+from operator import attrgetter, mul
 from struct import unpack_from
-from typing import Any, Sequence
+from typing import Any, Callable, Sequence
 
 from . import calls
-from .columns import whole_columns
+from .columns import whole_row
 from .flat import Flat
 from .geojson import plain_points
-from .text import LIMIT
 
 LITTLE = sys.byteorder == "little"
 POLYGON, MULTIPOLYGON = 3, 6
-# (of a ring its x-coordinates and its y-coordinates, without the first ones again at the end)
-Columns = tuple[Sequence[float], Sequence[float]]
-Polygon = list[Columns]
+# (of each ring the coordinates in a row, without the first point again at the end)
+Polygon = list[Sequence[float]]
+Writer = Callable[[Any], bytes]
+# writers of shapely 1.8 that are not at work
+WRITERS: list[Writer] = []
 
 
 @lru_cache(maxsize=256)
@@ -29,14 +31,33 @@ def is_of_shapely(kind: Any) -> bool:
     return kind.__module__.startswith("shapely.") and kind.__name__ in ("Polygon", "MultiPolygon")
 
 
+def new_writer() -> Writer:
+    """What gives the bytes of a geometry of shapely's: a writer of version 1.8, and else its property."""
+    geos: Any = sys.modules.get("shapely.geos")
+    made = getattr(geos, "WKBWriter", None)
+    return made(geos.lgeos).write if made else attrgetter("wkb")  # type: ignore[no-any-return]
+
+
+def bytes_of(thing: Any) -> bytes:
+    """The bytes of a geometry of shapely's. (Its version 1.8 makes a writer each time, which takes longer than it
+    writes; here each is at work for one thread at a time.)"""
+    try:
+        write = WRITERS.pop()
+    except IndexError:
+        write = new_writer()
+    found = write(thing)
+    WRITERS.append(write)
+    return found
+
+
 # ---- rings
 
 
-def open_columns(numbers: Sequence[float]) -> Columns | None:
-    """The columns of a ring, whose coordinates are in a row; none where it is no ring."""
+def open_ring(numbers: Sequence[float]) -> Sequence[float] | None:
+    """The coordinates of a ring, which are in a row; none where it is no ring."""
     if len(numbers) < 8 or numbers[0] != numbers[-2] or numbers[1] != numbers[-1]:
         return None
-    return numbers[:-2:2], numbers[1:-2:2]
+    return numbers[:-2]
 
 
 def polygon_in_bytes(data: bytes, at: int) -> tuple[Polygon | None, int]:
@@ -50,7 +71,7 @@ def polygon_in_bytes(data: bytes, at: int) -> tuple[Polygon | None, int]:
         end = at + 4 + 16 * int(unpack_from("<I", data, at)[0])
         numbers = array("d")
         numbers.frombytes(data[at + 4 : end])
-        ring = open_columns(numbers)
+        ring = open_ring(numbers)
         if ring is None:
             return None, at
         rings.append(ring)
@@ -80,8 +101,7 @@ def plain_polygon(coordinates: Any) -> Polygon | None:
         points = plain_points(each)
         if points is None or len(points) < 4 or points[0] != points[-1]:
             return None
-        xs, ys = zip(*points[:-1])
-        rings.append((xs, ys))
+        rings.append(list(chain.from_iterable(points[:-1])))
     return rings
 
 
@@ -89,7 +109,7 @@ def polygons_of(thing: Any) -> list[Polygon] | None:
     """The polygons of a geometry, if it is one of those that are taken here."""
     kind: Any = type(thing)
     if is_of_shapely(kind):
-        return polygons_in_bytes(thing.wkb)
+        return polygons_in_bytes(bytes_of(thing))
     if not isinstance(thing, dict) or not isinstance(thing.get("coordinates"), (list, tuple)):
         return None
     if thing.get("type") == "Polygon":
@@ -105,15 +125,15 @@ def polygons_of(thing: Any) -> list[Polygon] | None:
 # ---- contours
 
 
-def directed(xs: list[int], ys: list[int], is_outline: bool) -> list[int] | None:
+def directed(row: list[int], is_outline: bool) -> list[int] | None:
     """The coordinates of a ring in a row, in the direction that it is to have: outlines run counterclockwise. None
-    where it visits a point twice, has no area, or is out of range."""
-    area = sum(map(mul, xs, ys[1:] + ys[:1])) - sum(map(mul, ys, xs[1:] + xs[:1]))
-    extent = max(-min(xs), max(xs), -min(ys), max(ys))
-    if not area or extent > LIMIT or len(set(zip(xs, ys))) < len(xs):
+    where it visits a point twice, or has no area."""
+    xs, ys = row[0::2], row[1::2]
+    area = sum(map(mul, xs, ys[1:])) - sum(map(mul, ys, xs[1:])) + xs[-1] * ys[0] - ys[-1] * xs[0]
+    if not area or len(set(zip(xs, ys))) < len(xs):
         return None
-    row = [0] * (2 * len(xs))
-    row[0::2], row[1::2] = (xs, ys) if (area > 0) == is_outline else (xs[::-1], ys[::-1])
+    if (area > 0) != is_outline:
+        row[0::2], row[1::2] = xs[::-1], ys[::-1]
     return row
 
 
@@ -124,8 +144,8 @@ def contours_of(polygons: Sequence[Polygon], axes: Sequence[Any]) -> Flat | None
         return None
     numbers, ends = array("q"), array("Q")
     for rings in polygons:
-        for at, columns in enumerate(rings):
-            row = directed(*whole_columns(axes, *columns), at == 0)
+        for at, ring in enumerate(rings):
+            row = directed(whole_row(axes, ring), at == 0)
             if row is None:
                 return None
             numbers.extend(row)
@@ -153,5 +173,5 @@ def region(thing: Any, axes: Sequence[Any], is_one: bool) -> Flat | None:
     try:
         return contours_of(polygons, axes)
     except (ValueError, OverflowError):
-        # (a number that is none: the reading of features names its place)
+        # (a number that is none, or out of range: the reading of features names its place)
         return None

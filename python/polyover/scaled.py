@@ -7,13 +7,13 @@ from fractions import Fraction
 from itertools import islice
 from math import ceil
 from operator import sub
-from typing import Any, Iterable, Sequence
+from typing import Any, Callable, Iterable, Sequence
 
 from . import calls, quick
 from .columns import ERROR, EXACT, LEAST, whole_points
 from .contour import WholePath, WholePoint
 from .errors import BadInput
-from .flat import Flat, FlatFloats, FlatShapes, copied
+from .flat import Flat, FlatFloats, FlatShapes, copied, parted
 from .geojson import is_geometry, points_of
 from .numbers import ratio_of
 from .prepared import Prepared
@@ -24,6 +24,9 @@ from .rules_at_scale import Group, RulesAtScale
 from .shapes import Paths, Shapes
 from .text import SNAPPED, Fill, Rule, Solver, items_of
 from .told import Told
+
+# (ties go to the even number)
+NEAREST: Callable[[float], int] = round
 
 
 class Axis:
@@ -37,6 +40,7 @@ class Axis:
         self.floats = None if None in exact else exact
         self.start, self.scale = (0.0, 0.0) if None in exact else (float(start), float(scale))
         self.error, self.far = self.scale * ERROR, abs(self.start)
+        self.least_error = self.far * self.error + LEAST
 
     def whole(self, value: Any) -> int:
         """The whole number nearest to a number; of two equally near ones the even one."""
@@ -45,7 +49,7 @@ class Axis:
             # (as floats have it, unless it is near a half or large)
             if -EXACT < found < EXACT:
                 near = round(found)
-                if abs(found - near) + (abs(value) + self.far) * self.error + LEAST < 0.5:
+                if abs(found - near) + abs(value) * self.error + self.least_error < 0.5:
                     return near
         top, bottom = ratio_of(value)
         # (of the number and a half, which is a whole number just where two are equally near)
@@ -58,18 +62,27 @@ class Axis:
         if not self.scale or not values:
             return list(map(self.whole, values))
         start, scale = self.start, self.scale
-        found = [(value - start) * scale for value in values]
+        found = [(value - start) * scale for value in values] if start else [value * scale for value in values]
         # (as floats have them, unless one is near a half or large)
-        if largest(found) < EXACT:
-            near = [round(value) for value in found]
+        size = largest(found)
+        if size < EXACT:
+            near = list(map(NEAREST, found))
             lost = largest(list(map(sub, found, near)))
-            if lost + (largest(values) + self.far) * self.error + LEAST < 0.5:
+            # (a value times the scale is at most as large as what is found and the start times the scale)
+            if lost + size * ERROR + 2 * self.least_error < 0.5:
                 return near
         return list(map(self.whole, values))
 
     def number(self, whole: int) -> float:
         """The float nearest to the number that a whole one stands for."""
         return (whole * self.over + self.less) / self.times
+
+    def numbers(self, whole: Sequence[int]) -> list[float]:
+        """The floats nearest to the numbers that some whole ones stand for."""
+        times, over, less = self.times, self.over, self.less
+        if over == 1 and not less:
+            return [value / times for value in whole]
+        return [(value * over + less) / times for value in whole]
 
 
 class Scaled(RulesAtScale):
@@ -88,7 +101,9 @@ class Scaled(RulesAtScale):
         if len(origin) != 2:
             raise BadInput(f"the origin {origin!r} is no point of two numbers")
         self.origin = tuple(fraction_of(value, "the origin") for value in origin)
-        self.axes = [Axis(start, self.scale) for start in self.origin]
+        across, up = self.origin
+        axis = Axis(across, self.scale)
+        self.axes = [axis, axis if up == across else Axis(up, self.scale)]
 
     def __repr__(self) -> str:
         scale, *origin = (value.numerator if value.denominator == 1 else value for value in (self.scale, *self.origin))
@@ -176,7 +191,7 @@ class Scaled(RulesAtScale):
         if isinstance(paths, Flat):
             numbers = array("d", bytes(paths.numbers.nbytes))
             for at, axis in enumerate(self.axes):
-                numbers[at::2] = array("d", map(axis.number, paths.numbers[at::2]))
+                numbers[at::2] = array("d", axis.numbers(paths.numbers[at::2]))
             return FlatFloats(numbers, copied("Q", paths.counts))
         return Paths([[self.point(whole) for whole in path] for path in paths])
 
@@ -185,6 +200,19 @@ class Scaled(RulesAtScale):
         if isinstance(shapes, FlatShapes):
             return FlatShapes(self.paths(shapes.contours), copied("Q", shapes.shape_ends))
         return Shapes([self.paths(shape) for shape in shapes])
+
+    def answered(self, shapes: FlatShapes, arrays: bool) -> Any:
+        """The shapes of an answer with points of floats, in arrays where these are wanted, and else in lists."""
+        if arrays:
+            return self.shapes(shapes)
+        (across, up), flat = self.axes, shapes.contours
+        if across is up:
+            numbers = iter(across.numbers(flat.numbers))
+            points = list(zip(numbers, numbers))
+        else:
+            points = list(zip(across.numbers(flat.numbers[0::2]), up.numbers(flat.numbers[1::2])))
+        contours = parted(points, flat.counts.tolist())
+        return Shapes(map(Paths, parted(contours, shapes.shape_ends.tolist())))
 
     def filled(self, edges: Any) -> Any:
         """Edges with points of floats."""
@@ -235,11 +263,13 @@ class Scaled(RulesAtScale):
         *,
         minimum_area: Any = 0,
         solver: Solver = SNAPPED,
+        arrays: bool = False,
         **look: bool,
     ) -> Any:
         """As `polyover.overlay`; the minimum area is in squares of the floats' unit."""
         both, area = self._both(subject, clip, fill, solver), self.area(minimum_area)
-        return self.shapes(calls.overlay(*both, rule, fill, minimum_area=area, solver=solver, **look))
+        shapes = calls.overlay(*both, rule, fill, minimum_area=area, solver=solver, arrays=True, **look)
+        return self.answered(shapes, arrays)
 
     def union_all(
         self,
@@ -283,11 +313,13 @@ class Scaled(RulesAtScale):
         *,
         minimum_area: Any = 0,
         solver: Solver = SNAPPED,
+        arrays: bool = False,
         **look: bool,
     ) -> Any:
         """As `polyover.simplify`; the minimum area is in squares of the floats' unit."""
         region, area = self.region("subject", subject, fill, solver), self.area(minimum_area)
-        return self.shapes(calls.simplify(region, fill, minimum_area=area, solver=solver, **look))
+        shapes = calls.simplify(region, fill, minimum_area=area, solver=solver, arrays=True, **look)
+        return self.answered(shapes, arrays)
 
     def edges(self, subject: Group, clip: Group = (), fill: Fill = "nonzero", *, solver: Solver = SNAPPED) -> Any:
         """As `polyover.edges`; the polygons of a geometry are joined first."""
@@ -310,11 +342,11 @@ class Scaled(RulesAtScale):
         return self.paths(calls.clip(region, paths, fill, solver=solver, **options))
 
     def slice(
-        self, shape: Group, lines: Group, fill: Fill = "nonzero", *, solver: Solver = SNAPPED, **options: bool
+        self, shape: Group, lines: Group, fill: Fill = "nonzero", *, solver: Solver = SNAPPED, arrays: bool = False
     ) -> Any:
         """As `polyover.slice`; the polygons of a geometry are joined first, so that they do not cut one another."""
         region, paths = self.region("shape", shape, fill, solver, True), self._taken("lines", lines)
-        return self.shapes(calls.slice(region, paths, fill, solver=solver, **options))
+        return self.answered(calls.slice(region, paths, fill, solver=solver, arrays=True), arrays)
 
     def tiles(
         self,
@@ -324,12 +356,12 @@ class Scaled(RulesAtScale):
         fill: Fill = "nonzero",
         *,
         solver: Solver = SNAPPED,
-        **options: bool,
+        arrays: bool = False,
     ) -> Any:
         """As `polyover.tiles`: a cell's width and height, times the scale, are rounded, and a node is at the origin.
         The polygons of a geometry are joined first, so that they do not cut one another."""
         region, sides = self.region("shape", shape, fill, solver, True), self.sides(width, height)
-        return self.shapes(calls.tiles(region, *sides, fill, solver=solver, **options))
+        return self.answered(calls.tiles(region, *sides, fill, solver=solver, arrays=True), arrays)
 
     def sides(self, width: Any, height: Any) -> WholePoint:
         """The whole width and height of a cell."""
