@@ -1,0 +1,11 @@
+pub mod AddedMet
+pub mod CrossingParts
+pub mod MetOrder
+pub mod MovedParts
+pub mod Overlaps
+pub mod PartOrder
+pub mod PartPoints
+pub mod PushedMet
+pub mod Quotients
+pub mod WholeParts
+pub mod WidenedProducts

@@ -1,0 +1,10 @@
+//! Exact places of meeting points along edges, compared without rounding: nothing here moves a point.
+#![tactic(auto)]
+
+pub mod along;
+pub mod exact_int;
+mod fraction;
+pub mod laws;
+pub mod met;
+pub mod part;
+pub mod place;
