@@ -23,8 +23,8 @@ use Rattle.overlay_plane.proofs.LinesWithin.{on_holder}
 use Rattle.overlay_plane.proofs.OneArrangement.{pieces_forward}
 use Rattle.overlay_plane.proofs.PieceCounts.{subj_of_piece, clip_of_piece}
 use Rattle.overlay_plane.proofs.SettledPieces.{pieces_settled}
-use Rattle.overlay_plane.proofs.WholeCuts.{CutsWhole, ends_of_merged, forward_merged, whole_meetings_merged, same_merged}
-use Rattle.overlay_plane.proofs.WholeCuts.{goes_forward, stops, stop_held, stops_rise}
+use Rattle.overlay_plane.proofs.WholeCuts.{CutsWhole, ends_of_merged, forward_merged, whole_meetings_merged}
+use Rattle.overlay_plane.proofs.WholeCuts.{same_merged, goes_forward, stops, stop_held, stops_rise}
 use Rattle.overlay_scaled.specs.ExactArrangements.{IsExactArrangement, ArrangesExactly, ExactArrangementsExist}
 use Rattle.overlay_scaled.specs.ExactArrangements.{ExactArrangementsArrange, ExactArrangementsAreFillable}
 use Rattle.overlay_scaled.specs.ExactArrangements.{MergingKeepsPointsOff}
@@ -73,8 +73,8 @@ module _ (n : ℤ) (es new : List CountedEdge) (forward : IsForwardBy ends_of es
         (e : CountedEdge) × Contains arranged.round.edges e × IsLink (stops arranged.round e) (ends_of g)
     link_of g has =
         let from = ends_of_merged (pieces_of arranged.round) new arranged.pieces g has in
-        let of_edge = Contains-from_flat_map (pieces_through (whole_cuts arranged.round)) arranged.round.edges from.0 from.1
-        in
+        let of_edge = Contains-from_flat_map (pieces_through (whole_cuts arranged.round)) arranged.round.edges from.0
+        from.1 in
         let e : CountedEdge = of_edge.0 in
         let of_step = Contains-from_map (piece_along e) (chain_of arranged.round e) from.0 of_edge.2 in (
           e,
@@ -106,7 +106,8 @@ module _ (n : ℤ) (es new : List CountedEdge) (forward : IsForwardBy ends_of es
     off_new : (p : PlanePoint) → IsOff (all_ends given) p → IsOff (all_ends new) p
     off_new p off = All-map (λ f. ¬ (IsOn f p)) ends_of new (all_of_entries (λ g. ¬ (IsOn (ends_of g) p)) new
         (λ g has on. let at = on_given g has p on in
-        All-contains (λ f. ¬ (IsOn f p)) (all_ends given) (ends_of at.0) off (Contains-map ends_of given at.0 at.1) at.2))
+        All-contains (λ f. ¬ (IsOn f p)) (all_ends given) (ends_of at.0) off (Contains-map ends_of given at.0 at.1)
+        at.2))
 
     pub arranges : HasBalancedCounts es → ArrangesExactly n es new
     arranges balanced = record {

@@ -1,7 +1,8 @@
--- Of the steps of a chain along an edge's line, those that pass a point back and forth cancel out: their signs add up to
--- 1 for a point of the edge, else to 0, where no stop of the chain is at the point.
+-- Of the steps of a chain along an edge's line, those that pass a point back and forth cancel out. Their signs add up
+-- to 1 for a point of the edge, else to 0, where no stop of the chain is at the point.
 use lib.IntN.{+ℤ_idr}
-use Rattle.std.proofs.Common.{◌≡◌, Bool, true, false, cond, ℤ, pos, negsuc, ◌-ℤ◌, List, [], ◌∷◌, ◌++◌, refl, sym, ap, ap₂}
+use Rattle.std.proofs.Common.{◌≡◌, Bool, true, false, cond, ℤ, pos, negsuc, ◌-ℤ◌, List, [], ◌∷◌, ◌++◌, refl, sym, ap}
+use Rattle.std.proofs.Common.{ap₂}
 use Rattle.std.proofs.Common.{◌∙◌, arith, Contains}
 use Rattle.std.specs.List.{All}
 use Rattle.std.specs.Ordering.{int_eq}

@@ -1,6 +1,7 @@
 -- The sides of a piece have one winding each: the exact arrangement of the list with a mark on each edge has an edge
 -- along each piece, also where the counts of overlapping edges cancel out.
-use Rattle.std.proofs.Common.{◌≡◌, Bool, true, false, cond, ℤ, pos, negsuc, ◌<ℤ◌, List, [], ◌∷◌, ◌++◌, Contains, refl, sym, ap}
+use Rattle.std.proofs.Common.{◌≡◌, Bool, true, false, cond, ℤ, pos, negsuc, ◌<ℤ◌, List, [], ◌∷◌, ◌++◌, Contains, refl}
+use Rattle.std.proofs.Common.{sym, ap}
 use Rattle.std.proofs.Common.{◌+ℤ◌, ap₂, ◌∙◌, subst}
 use Rattle.overlay_geom.specs.Counts.{reversed_counts}
 use Rattle.overlay_geom.specs.Edges.{CountedEdge, ends_of, subj_of, clip_of, goes_along, winding_by, winding_below}

@@ -1,5 +1,6 @@
 -- The pieces of a merged list's edges are the links of the chains by which its exact arrangement replaces them.
-use Rattle.std.proofs.Common.{◌≡◌, ◌⊎◌, inl, inr, ⊎_elim, false, ℤ, pos, ◌*ℤ◌, ◌<ℤ◌, List, [], ◌∷◌, ◌++◌, Contains, sym, subst}
+use Rattle.std.proofs.Common.{◌≡◌, ◌⊎◌, inl, inr, ⊎_elim, false, ℤ, pos, ◌*ℤ◌, ◌<ℤ◌, List, [], ◌∷◌, ◌++◌, Contains, sym}
+use Rattle.std.proofs.Common.{subst}
 use Rattle.std.proofs.Common.{◌∙◌}
 use Rattle.std.proofs.lemmas.Int.{by_lt_z}
 use Rattle.std.proofs.lemmas.List.Elements.{Contains-append_right}
@@ -180,7 +181,8 @@ module _ (n : ℤ) (content es new : List CountedEdge) (merged : IsMerged conten
     pub is_link : IsLink (stops r large) link_between
     is_link = record {
       forward = before_of_smaller from.0 to.0 (further n l) (further n m) from.2 to.2
-          (smaller_forth n arranged.scale l (further n l) m (further n m) (is_further n l) (is_further n m) piece.before);
+          (smaller_forth n arranged.scale l (further n l) m (further n m) (is_further n l) (is_further n m)
+          piece.before);
       from = from.1;
       to = to.1;
       clear = λ v has after before. piece.clear (point_of v) (place_of_stop v has)
@@ -236,12 +238,14 @@ module _ (n : ℤ) (content es new : List CountedEdge) (merged : IsMerged conten
       inside_link (inl at_a) = not_at from.0 at_a after
         where
           not_at : (v : Point) → IsAt v q → IsSmaller (in_plane v) q → ⊥
-          not_at v is (inl less) = let x = is.0 in let once = solve 1 (λ z. z ⊗ number (pos 1) ≗ z) tt q.x in omega linear
+          not_at v is (inl less) =
+              let x = is.0 in let once = solve 1 (λ z. z ⊗ number (pos 1) ≗ z) tt q.x in omega linear
           not_at v is (inr (same, less)) =
               let y = is.1 in let once = solve 1 (λ z. z ⊗ number (pos 1) ≗ z) tt q.y in omega linear
       inside_link (inr at_b) = not_at to.0 at_b before
         where
           not_at : (v : Point) → IsAt v q → IsSmaller q (in_plane v) → ⊥
-          not_at v is (inl less) = let x = is.0 in let once = solve 1 (λ z. z ⊗ number (pos 1) ≗ z) tt q.x in omega linear
+          not_at v is (inl less) =
+              let x = is.0 in let once = solve 1 (λ z. z ⊗ number (pos 1) ≗ z) tt q.x in omega linear
           not_at v is (inr (same, less)) =
               let y = is.1 in let once = solve 1 (λ z. z ⊗ number (pos 1) ≗ z) tt q.y in omega linear

@@ -1,5 +1,6 @@
 -- How shapes meet in the exact arrangement of a merged list, told by the list's plain points and pieces.
-use Rattle.std.proofs.Common.{◌≡◌, ◌⊎◌, ◌↔◌, inl, inr, ⊎_elim, Bool, true, false, cond, not, ◌&&◌, ◌||◌, ℤ, pos, ◌+ℤ◌, ◌*ℤ◌}
+use Rattle.std.proofs.Common.{◌≡◌, ◌⊎◌, ◌↔◌, inl, inr, ⊎_elim, Bool, true, false, cond, not, ◌&&◌, ◌||◌, ℤ, pos, ◌+ℤ◌}
+use Rattle.std.proofs.Common.{◌*ℤ◌}
 use Rattle.std.proofs.Common.{List, Contains, refl, sym, ap, ap₂, ◌∙◌, subst}
 use Rattle.std.specs.List.{All}
 use Rattle.std.proofs.lemmas.Bool.{and_parts, false≢true}
@@ -15,7 +16,8 @@ use Rattle.overlay_geom.proofs.Signs.{eq_of_mul-eq}
 use Rattle.overlay_plane.specs.Balance.{HasBalancedCounts}
 use Rattle.overlay_plane.specs.EdgeLists.{IsForwardBy}
 use Rattle.overlay_plane.specs.EdgePredicates.{SomeEdge, HasSharedEnd, EndsAt, EdgesTell}
-use Rattle.overlay_plane.specs.Predicates.{fills_at, fills_above, fills_below, Intersects, InteriorsIntersect, IsFillable}
+use Rattle.overlay_plane.specs.Predicates.{fills_at, fills_above, fills_below, Intersects, InteriorsIntersect}
+use Rattle.overlay_plane.specs.Predicates.{IsFillable}
 use Rattle.overlay_plane.specs.Rounds.{Round}
 use Rattle.overlay_plane.proofs.ChainStops.{IsLink}
 use Rattle.overlay_plane.proofs.EdgesTell.{edges_tell_predicates}

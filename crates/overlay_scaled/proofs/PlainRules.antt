@@ -1,6 +1,7 @@
 -- A rule holds beside a plain point of a merged list exactly where it holds beside an edge of its exact arrangement.
 use lib.IntN.{+ℤ_idr}
-use Rattle.std.proofs.Common.{◌≡◌, ◌⊎◌, ◌↔◌, inl, inr, ⊎_elim, Bool, true, false, cond, ◌||◌, ℤ, pos, ◌+ℤ◌, ◌<ℤ◌, List, Contains}
+use Rattle.std.proofs.Common.{◌≡◌, ◌⊎◌, ◌↔◌, inl, inr, ⊎_elim, Bool, true, false, cond, ◌||◌, ℤ, pos, ◌+ℤ◌, ◌<ℤ◌, List}
+use Rattle.std.proofs.Common.{Contains}
 use Rattle.std.proofs.Common.{sym, ap, ap₂, ◌∙◌, subst}
 use Rattle.std.specs.List.{All, Any}
 use Rattle.std.proofs.lemmas.Bool.{or_cases}

@@ -91,7 +91,8 @@ module _ (n : ℤ) (some : pos 0 <ℤ n) where
         (sym (of_product p.x q.x at.0)) (sym (of_second r.x s.x also.0)) less)
     smaller_forth (inr (level, less)) = inr (
       eq_alike after before (p.x *ℤ r.d) (r.x *ℤ p.d) (q.x *ℤ s.d) (s.x *ℤ q.d)
-          (mul-pos p.d r.d p.positive r.positive) (sym (of_product p.x q.x at.0)) (sym (of_second r.x s.x also.0)) level,
+          (mul-pos p.d r.d p.positive r.positive) (sym (of_product p.x q.x at.0)) (sym (of_second r.x s.x also.0))
+          level,
       lt_alike after before (mul-pos (n *ℤ q.d) s.d (mul-pos n q.d some q.positive) s.positive)
           (mul-pos p.d r.d p.positive r.positive) (p.y *ℤ r.d) (r.y *ℤ p.d) (q.y *ℤ s.d) (s.y *ℤ q.d)
           (sym (of_product p.y q.y at.1)) (sym (of_second r.y s.y also.1)) less,

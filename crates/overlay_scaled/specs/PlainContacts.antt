@@ -49,7 +49,7 @@ pub record PassesToward (test : Bool → Bool → Bool → Bool → Bool) (fille
   pub at : SamePlace place from ⊎ SamePlace place to
   pub passes : passes_at test filled es inside ≡ true
 
--- a shared end: a piece where the subject alone fills exactly one side, and a piece where the clip alone does, end there
+-- a shared end: a piece ends there where the subject alone fills exactly one side, and one where the clip alone does
 abbrev pub HasSharedPlace : (ℤ → Bool) → List CountedEdge → Type 0
 HasSharedPlace filled es = (place : PlanePoint) × PassesToward border_subject filled es place
     × PassesToward border_clip filled es place

@@ -29,8 +29,8 @@ holds_beside holds es p = holds (winding_over subj_of es p) (winding_over clip_o
 
 -- ---- laws
 
--- where the merged edges lead forward and have balanced counts, a rule that fails for two windings 0 holds somewhere off
--- the edges of the content exactly where it holds beside a plain point of the merged edges
+-- where the merged edges lead forward and have balanced counts, a rule that fails for two windings 0 holds somewhere
+-- off the edges of the content exactly where it holds beside a plain point of the merged edges
 abbrev pub PlainPointsTellRules : Type 0
 PlainPointsTellRules = (holds : ℤ → ℤ → Bool) (content es : List CountedEdge) → IsMerged content es →
     IsForwardBy ends_of es → HasBalancedCounts es → holds (pos 0) (pos 0) ≡ false →

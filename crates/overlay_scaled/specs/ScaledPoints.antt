@@ -1,4 +1,4 @@
--- A point of the plane and the point n times as far: the scaled edges lie round the second as the edges round the first.
+-- A point of the plane and the point n times as far: scaled edges lie round the second as edges round the first.
 use Rattle.std.specs.Prelude.{◌≡◌, ◌↔◌, ℤ, pos, ◌<ℤ◌, List}
 use Rattle.overlay_geom.specs.Counts.{Counts}
 use Rattle.overlay_geom.specs.Edges.{CountedEdge, ends_of, all_ends, winding_by}

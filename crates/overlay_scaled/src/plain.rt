@@ -15,7 +15,8 @@ pub fn pieces_have_one_winding()
     ensures { PiecesHaveOneWinding }
 {}
 
-/// A rule on the windings holds somewhere off the edges exactly where it holds beside a plain point of the merged edges.
+/// A rule on the windings holds somewhere off the edges exactly where it holds beside a plain point of the merged
+/// edges.
 pub fn plain_points_tell_rules()
     ensures { PlainPointsTellRules }
 {}
