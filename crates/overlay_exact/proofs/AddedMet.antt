@@ -62,7 +62,8 @@ module _ (e f : Edge) (other : ℕ) (old : List Met) where
   -- edges that meet at two
   pub adds_two : (s t : Fraction) → AreMetAt e f s → AreMetAt e f t →
       ((p : PlanePoint) → IsMeetingPoint e f p → LiesAt e s p ⊎ LiesAt e t p) → IsLess s t →
-      AddsMet e f other old ((old ++ record { part = s; other = other } ∷ []) ++ record { part = t; other = other } ∷ [])
+      AddsMet e f other old ((old ++ record { part = s; other = other } ∷ []) ++ record { part = t; other = other } ∷
+      [])
   adds_two s t met_s met_t lies less =
       let m : Met = record { part = s; other = other } in
       let n : Met = record { part = t; other = other } in
