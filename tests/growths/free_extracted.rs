@@ -19,9 +19,7 @@ use overlay_extract::binding::bind::{bind_contours, bind_from};
 use overlay_extract::binding::islands::{hole_places, holes_round};
 use overlay_extract::binding::placed::{bound_places, placed_contours};
 use overlay_extract::binding::places::shape_places;
-use overlay_extract::extract::{
-    extract_contours, extract_flat_shapes, extract_shapes,
-};
+use overlay_extract::extract::{extract_contours, extract_flat_shapes, extract_shapes};
 use overlay_extract::flat_shapes::flat_assembled;
 use overlay_extract::hierarchy::extract_shape_hierarchy;
 use overlay_extract::in_shapes::in_shapes;
@@ -54,9 +52,7 @@ use overlay_walk::kept_contours::kept_contours;
 use overlay_walk::open_steps::{OpenSteps, sort_steps};
 use overlay_walk::points_once::has_each_point_once;
 use overlay_walk::selected_steps::push_selected;
-use overlay_walk::selected_walks::{
-    selected_contours, selected_walks,
-};
+use overlay_walk::selected_walks::{selected_contours, selected_walks};
 use overlay_walk::step::Step;
 use std::alloc::AllocError;
 use std::process::Abort;

@@ -32,6 +32,7 @@ mod edges;
 mod figures;
 mod flat;
 mod free_arranged;
+mod free_exact;
 mod free_extracted;
 mod free_pairs;
 mod limits;

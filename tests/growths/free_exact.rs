@@ -1,0 +1,61 @@
+//! Free functions of `overlay_exact`.
+
+use crate::figures::{Width, point};
+use crate::refusals::{Answer, Memory, Trial};
+use overlay_exact::along::{push_met, sort_along};
+use overlay_exact::exact_int::ExactInt;
+use overlay_exact::met::MetAlong;
+use overlay_geom::edge::IntEdge;
+use std::process::Abort;
+use std::test::Fail;
+
+// Number of edges that cross a level one, so many that sorting takes memory.
+const COUNT: usize = 100;
+
+// The meeting points of a level edge with upright ones, from right to left.
+fn all_met<I: Width + ExactInt>(memory: Memory<'_>) -> Answer<Vec<MetAlong<I::Wide>, Memory<'_>>> {
+    let level = IntEdge {
+        a: point::<I>(0, 0),
+        b: point(200, 0),
+    };
+    let mut met = Vec::new(memory);
+    let mut x = 150;
+    for other in 0..COUNT {
+        let upright = IntEdge {
+            a: point(x, -1),
+            b: point(x, 1),
+        };
+        push_met(&mut met, level, upright, other)?;
+        x -= 1;
+    }
+    Ok(met)
+}
+
+fn check_along<I: Width + ExactInt>(trial: &Trial<'_, impl Abort>) -> Result<(), Fail> {
+    let memory = trial.memory;
+    let level = IntEdge {
+        a: point::<I>(0, 0),
+        b: point(4, 0),
+    };
+    let upright = IntEdge {
+        a: point(1, -1),
+        b: point(1, 1),
+    };
+    trial.refuse_each(
+        "overlay_exact::push_met",
+        || Ok(Vec::new(memory)),
+        |met| push_met(met, level, upright, 3),
+        |met| Ok(met.is_empty()),
+    )?;
+    trial.refuse_each(
+        "overlay_exact::sort_along",
+        || all_met::<I>(memory),
+        |met| sort_along::<I, _>(met),
+        |met| Ok(met.len() == COUNT),
+    )
+}
+
+#[test]
+fn functions_of_meeting_points(rt: HostRuntime) -> Result<(), Fail> {
+    at_a_width!(rt, check_along)
+}
