@@ -1,0 +1,2 @@
+pub mod GivenContacts
+pub mod ScaledClosures
