@@ -1,7 +1,6 @@
 -- Contacts of shapes as given: the closures of their interiors are those of the merged, the scaled and the arranged
 -- edges, where they are the closed regions.
 use Rattle.std.proofs.Common.{◌≡◌, ◌↔◌, Bool, false, ℤ, pos, ◌<ℤ◌, List, sym, ap, ◌∙◌}
-use Rattle.std.proofs.lemmas.List.Elements.{All-contains, All-map}
 use Rattle.overlay_geom.specs.Counts.{Counts}
 use Rattle.overlay_geom.specs.Edges.{CountedEdge, ends_of, subj_of, clip_of}
 use Rattle.overlay_geom.specs.Merged.{IsMerged}
@@ -9,20 +8,18 @@ use Rattle.overlay_geom.specs.Plane.{PlanePoint}
 use Rattle.overlay_plane.specs.Balance.{HasBalancedCounts}
 use Rattle.overlay_plane.specs.EdgeLists.{IsForwardBy}
 use Rattle.overlay_plane.specs.GivenPredicates.{KeepsPointsOff}
-use Rattle.overlay_plane.specs.Predicates.{Intersects, Touches, PointIntersects, IsDisjoint, IsFillable}
 use Rattle.overlay_relate.specs.Closures.{IsInInterior, ClosuresMeet, ClosuresTouch, ClosuresMeetInPoints}
-use Rattle.overlay_relate.specs.Closures.{AreClosuresApart, ClosuresTell}
+use Rattle.overlay_relate.specs.Closures.{ClosuresTell}
 use Rattle.overlay_relate.proofs.Closures.{closures_tell}
-use Rattle.overlay_relate.proofs.GivenClosures.{joined, kept_meeting, kept_touch, kept_points, kept_apart}
+use Rattle.overlay_relate.proofs.GivenClosures.{joined, kept_meeting, kept_touch, kept_points}
 use Rattle.overlay_scaled.specs.ExactArrangements.{IsExactArrangement, ArrangesExactly}
-use Rattle.overlay_scaled.specs.PlainContacts.{PlainPointsTellContacts, passes_at, fill_both, fill_one, HasSharedPlace}
-use Rattle.overlay_scaled.specs.PlainPoints.{SomePlain}
+use Rattle.overlay_scaled.specs.PlainContacts.{PlainPointsTellContacts}
 use Rattle.overlay_scaled.specs.Scaled.{scaled}
 use Rattle.overlay_scaled.proofs.ExactArrangements.{arranges, exact_arrangements_exist, merging_keeps_points_off}
 use Rattle.overlay_scaled.proofs.PlainContacts.{exact_contacts}
 use Rattle.overlay_scaled.proofs.ScaledRelations.{far, near}
 use Rattle.overlay_contacts.specs.GivenContacts.{MeetPlainly, TellContacts, GivenContacts}
-use Rattle.overlay_contacts.proofs.ScaledClosures.{AreTimes, scaled_meeting, scaled_touch, scaled_points, scaled_apart}
+use Rattle.overlay_contacts.proofs.ScaledClosures.{AreTimes, scaled_meeting, scaled_touch, scaled_points}
 
 -- the interior of a shape of the scaled edges has the points n times as far as that of the edges
 scaled_interior : (n : ℤ) (some : pos 0 <ℤ n) (filled : ℤ → Bool) (es : List CountedEdge) (count : Counts → ℤ) →

@@ -1,13 +1,12 @@
 -- Closures of sets of points, and of the sets of the points n times as far: a point is in the first exactly where the
 -- point n times as far is in the second.
-use Rattle.std.proofs.Common.{◌≡◌, ◌↔◌, ℕ, ◌*◌, ℤ, pos, negsuc, nat_abs, ◌-ℤ◌, ◌*ℤ◌, ◌<ℤ◌, ◌≤ℤ◌, sym, ap, ◌∙◌, arith}
+use Rattle.std.proofs.Common.{◌≡◌, ◌↔◌, ℕ, ◌*◌, ℤ, pos, negsuc, nat_abs, ◌-ℤ◌, ◌*ℤ◌, ◌<ℤ◌, ◌≤ℤ◌, ap, arith}
 use Rattle.std.proofs.lemmas.Int.{ints}
-use Rattle.overlay_geom.specs.Plane.{PlanePoint, SamePlace}
+use Rattle.overlay_geom.specs.Plane.{PlanePoint}
 use Rattle.overlay_geom.proofs.Identities.{solve, number, ◌⊗◌, ◌⊖◌, ◌≗◌}
 use Rattle.overlay_geom.proofs.Signs.{linear, mul-le, mul-pos}
 use Rattle.overlay_relate.specs.Closures.{AreWithinPart, IsInClosure, ClosuresMeet, ClosuresTouch}
 use Rattle.overlay_relate.specs.Closures.{ClosuresMeetInPoints, AreClosuresApart}
-use Rattle.overlay_scaled.specs.Scaled.{IsTimes}
 use Rattle.overlay_scaled.proofs.ScaledMeetings.{place_forth, place_back}
 use Rattle.overlay_scaled.proofs.ScaledPoints.{further, is_further, nearer, is_nearer}
 
