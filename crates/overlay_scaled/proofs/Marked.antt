@@ -1,11 +1,11 @@
 -- A list with a mark on each edge: merging drops none of its pieces, and subject and clip wind as before.
-use Rattle.std.proofs.Common.{◌≡◌, Bool, true, false, ℤ, pos, ◌-ℤ◌, ◌*ℤ◌, cond, List, Contains, map, refl, sym, ap, ◌∙◌}
+use Rattle.std.proofs.Common.{◌≡◌, true, false, ◌-ℤ◌, ◌*ℤ◌, List, Contains, map, refl, sym, ◌∙◌}
 use Rattle.std.proofs.Common.{subst, inl, inr, ⊎_elim}
 use Rattle.std.proofs.lemmas.Bool.{false≢true, false_from_ne_true}
-use Rattle.std.proofs.lemmas.List.Elements.{All-contains, All-map}
+use Rattle.std.proofs.lemmas.List.Elements.{All-map}
 use Rattle.overlay_geom.specs.Edges.{CountedEdge, ends_of, subj_of, clip_of, goes_along, counts_nothing}
 use Rattle.overlay_geom.specs.Merged.{IsMerged}
-use Rattle.overlay_geom.specs.Plane.{PlanePoint, edge_eq, point_lt, is_strictly_below}
+use Rattle.overlay_geom.specs.Plane.{PlanePoint, edge_eq, point_lt}
 use Rattle.overlay_geom.proofs.Merging.{ComesBefore, IsMerged-from_alike}
 use Rattle.overlay_plane.specs.Balance.{HasBalancedCounts}
 use Rattle.overlay_plane.specs.EdgeLists.{IsForwardBy}

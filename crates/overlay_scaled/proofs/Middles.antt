@@ -2,9 +2,9 @@
 use Rattle.std.proofs.Common.{◌≡◌, inl, inr, ℤ, pos, ◌+ℤ◌, ◌*ℤ◌}
 use Rattle.std.proofs.lemmas.Int.{by_lt_z}
 use Rattle.overlay_geom.specs.Plane.{Edge, IsOn, IsEnd, midpoint, in_plane}
-use Rattle.overlay_geom.proofs.AlongEdge.{over, place_of, on_of_order}
+use Rattle.overlay_geom.proofs.AlongEdge.{on_of_order}
 use Rattle.overlay_geom.proofs.Identities.{solve, number, ◌⊗◌, ◌≗◌}
-use Rattle.overlay_geom.proofs.PointOrder.{IsBefore, IsUpTo, before_is_other}
+use Rattle.overlay_geom.proofs.PointOrder.{IsBefore, before_is_other}
 use Rattle.overlay_geom.proofs.Products.{doubled}
 use Rattle.overlay_geom.proofs.Signs.{linear}
 use Rattle.overlay_plane.specs.Rounds.{IsSmaller}

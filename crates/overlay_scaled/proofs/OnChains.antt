@@ -11,9 +11,9 @@ use Rattle.std.proofs.lemmas.Bool.Decides.{Decides-int_eq}
 use Rattle.std.proofs.lemmas.Int.{ints}
 use Rattle.std.proofs.lemmas.List.Elements.{Contains-append_right}
 use Rattle.overlay_geom.specs.Plane.{Point, PlanePoint, Step, Edge, IsOn, IsAt, side, cross_at, point_eq, point_lt}
-use Rattle.overlay_geom.specs.Plane.{is_forward, edge_of, sign_of, steps_between, steps_through, total}
+use Rattle.overlay_geom.specs.Plane.{edge_of, sign_of, steps_between, steps_through, total}
 use Rattle.overlay_geom.proofs.AlongEdge.{over, place_of, on_of_order, order_of_on, over_up_to}
-use Rattle.overlay_geom.proofs.OneLine.{along_exchanged, holds_start, holds_end}
+use Rattle.overlay_geom.proofs.OneLine.{along_exchanged}
 use Rattle.overlay_geom.proofs.Orders.{point_eq-same, point_lt-back}
 use Rattle.overlay_geom.proofs.PointOrder.{IsBefore, Decides-point_lt, by_order, before_up_to, up_to_both}
 use Rattle.overlay_geom.proofs.PointOrder.{up_to_through, not_before_up_to}
@@ -25,7 +25,7 @@ use Rattle.overlay_plane.proofs.Telescopes.{rises_along, last_from-append}
 use Rattle.overlay_plane.proofs.Totals.{Contains-head, Contains-later}
 use Rattle.overlay_plane.proofs.WholeOnEdges.{by_test}
 use Rattle.overlay_scaled.specs.Through.{is_on}
-use Rattle.overlay_scaled.proofs.OnTests.{test_from_on, test_from_off, on_from_test}
+use Rattle.overlay_scaled.proofs.OnTests.{test_from_on, test_from_off}
 
 -- the sign of a step through q, and 0 for other steps
 abbrev pub passing : PlanePoint → Step → ℤ

@@ -1,7 +1,6 @@
 -- The test whether a point lies on an edge, and points on an edge in order along its line.
-use Rattle.std.proofs.Common.{◌≡◌, ◌⊎◌, inl, inr, Bool, true, false, ◌&&◌, ◌||◌, ℤ, pos, ◌*ℤ◌, int_le, sym}
+use Rattle.std.proofs.Common.{◌≡◌, ◌⊎◌, inl, inr, true, false, ℤ, pos, ◌*ℤ◌}
 use Rattle.std.specs.Bool.{Decides}
-use Rattle.std.specs.Ordering.{int_eq}
 use Rattle.std.proofs.lemmas.Bool.{false_from_ne_true}
 use Rattle.std.proofs.lemmas.Bool.Decides.{Decides-int_eq, Decides-and, Decides-or}
 use Rattle.overlay_geom.specs.Plane.{PlanePoint, Edge, IsOn, IsBetween, side}

@@ -7,25 +7,25 @@ use Rattle.overlay_geom.specs.Counts.{reversed_counts}
 use Rattle.overlay_geom.specs.Edges.{CountedEdge, ends_of, subj_of, clip_of, goes_along, winding_by, winding_below}
 use Rattle.overlay_geom.specs.Edges.{winding_above}
 use Rattle.overlay_geom.specs.Merged.{IsMerged}
-use Rattle.overlay_geom.specs.Plane.{PlanePoint, Step, Edge, IsOn, IsEnd, is_forward, edge_of, sign_of, total}
+use Rattle.overlay_geom.specs.Plane.{PlanePoint, Step, Edge, IsOn, IsEnd, is_forward, edge_of, total}
 use Rattle.overlay_geom.specs.Plane.{is_strictly_below}
 use Rattle.overlay_plane.specs.Balance.{HasBalancedCounts}
 use Rattle.overlay_plane.specs.Cutting.{piece_along, pieces_through}
 use Rattle.overlay_plane.specs.EdgeLists.{IsForwardBy}
 use Rattle.overlay_plane.specs.Regions.{one_if}
 use Rattle.overlay_plane.specs.Rounds.{chain_of, pieces_of, whole_cuts}
-use Rattle.overlay_plane.proofs.ChainStops.{IsLink, links_of_chain}
-use Rattle.overlay_plane.proofs.EdgeMarks.{HasMarked, marked_held}
+use Rattle.overlay_plane.proofs.ChainStops.{links_of_chain}
+use Rattle.overlay_plane.proofs.EdgeMarks.{marked_held}
 use Rattle.overlay_plane.proofs.Entries.{Contains-map, Contains-flat_map}
 use Rattle.overlay_plane.proofs.JoinedLists.{total-map}
 use Rattle.overlay_plane.proofs.RisesRound.{some_positive}
 use Rattle.overlay_plane.proofs.Totals.{total-same}
-use Rattle.overlay_plane.proofs.WholeCuts.{CutsWhole, stops, stop_held, stops_rise, goes_forward}
+use Rattle.overlay_plane.proofs.WholeCuts.{CutsWhole, stop_held, stops_rise, goes_forward}
 use Rattle.overlay_scaled.specs.ExactArrangements.{IsExactArrangement}
 use Rattle.overlay_scaled.specs.Pieces.{IsPiece, IsWithinPiece, HaveSameSides, PiecesHaveOneWinding}
 use Rattle.overlay_scaled.specs.PlainPoints.{IsPlain}
 use Rattle.overlay_scaled.specs.Scaled.{scaled_edge}
-use Rattle.overlay_scaled.specs.Through.{is_on, total_through, winding_over}
+use Rattle.overlay_scaled.specs.Through.{is_on, winding_over}
 use Rattle.overlay_scaled.proofs.ExactArrangements.{exact_arrangements_exist, whole_cut}
 use Rattle.overlay_scaled.proofs.Marked.{marked, all_marked, marked_merged, marked_forward, marked_balanced}
 use Rattle.overlay_scaled.proofs.Marked.{each_marked, piece_marked}

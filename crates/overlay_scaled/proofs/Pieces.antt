@@ -1,12 +1,12 @@
 -- The pieces of a merged list's edges are the links of the chains by which its exact arrangement replaces them.
-use Rattle.std.proofs.Common.{◌≡◌, ◌⊎◌, inl, inr, ⊎_elim, false, ℤ, pos, ◌*ℤ◌, ◌<ℤ◌, List, [], ◌∷◌, ◌++◌, Contains, sym}
+use Rattle.std.proofs.Common.{◌≡◌, inl, inr, ⊎_elim, false, ℤ, pos, ◌*ℤ◌, List, [], ◌∷◌, ◌++◌, Contains, sym}
 use Rattle.std.proofs.Common.{subst}
 use Rattle.std.proofs.Common.{◌∙◌}
 use Rattle.std.proofs.lemmas.Int.{by_lt_z}
 use Rattle.std.proofs.lemmas.List.Elements.{Contains-append_right}
 use Rattle.overlay_geom.specs.Edges.{CountedEdge, ends_of}
 use Rattle.overlay_geom.specs.Merged.{IsMerged}
-use Rattle.overlay_geom.specs.Plane.{Point, PlanePoint, Edge, SamePlace, IsOn, IsAt, IsEnd, in_plane, side}
+use Rattle.overlay_geom.specs.Plane.{Point, PlanePoint, Edge, IsOn, IsAt, IsEnd, in_plane, side}
 use Rattle.overlay_geom.specs.Plane.{edge_eq}
 use Rattle.overlay_geom.proofs.AlongEdge.{over, place_of, on_of_order}
 use Rattle.overlay_geom.proofs.Identities.{solve, number, ◌⊗◌, ◌≗◌}

@@ -1,7 +1,7 @@
 -- How shapes meet in the exact arrangement of a merged list, told by the list's plain points and pieces.
-use Rattle.std.proofs.Common.{◌≡◌, ◌⊎◌, ◌↔◌, inl, inr, ⊎_elim, Bool, true, false, cond, not, ◌&&◌, ◌||◌, ℤ, pos, ◌+ℤ◌}
+use Rattle.std.proofs.Common.{◌≡◌, ◌⊎◌, inl, inr, ⊎_elim, Bool, true, false, cond, not, ◌&&◌, ◌||◌, ℤ, pos, ◌+ℤ◌}
 use Rattle.std.proofs.Common.{◌*ℤ◌}
-use Rattle.std.proofs.Common.{List, Contains, refl, sym, ap, ap₂, ◌∙◌, subst}
+use Rattle.std.proofs.Common.{List, Contains, refl, sym, ap, ◌∙◌, subst}
 use Rattle.std.specs.List.{All}
 use Rattle.std.proofs.lemmas.Bool.{and_parts, false≢true}
 use Rattle.std.proofs.lemmas.List.Elements.{All-contains, All-map}
@@ -18,11 +18,10 @@ use Rattle.overlay_plane.specs.EdgeLists.{IsForwardBy}
 use Rattle.overlay_plane.specs.EdgePredicates.{SomeEdge, HasSharedEnd, EndsAt, EdgesTell}
 use Rattle.overlay_plane.specs.Predicates.{fills_at, fills_above, fills_below, Intersects, InteriorsIntersect}
 use Rattle.overlay_plane.specs.Predicates.{IsFillable}
-use Rattle.overlay_plane.specs.Rounds.{Round}
 use Rattle.overlay_plane.proofs.ChainStops.{IsLink}
 use Rattle.overlay_plane.proofs.EdgesTell.{edges_tell_predicates}
 use Rattle.overlay_plane.proofs.WholeCuts.{CutsWhole, stops}
-use Rattle.overlay_plane.proofs.WholeOnEdges.{forward_from_test, at_itself, same_place_at}
+use Rattle.overlay_plane.proofs.WholeOnEdges.{forward_from_test}
 use Rattle.overlay_plane.proofs.WholePlaces.{at_moved}
 use Rattle.overlay_scaled.specs.ExactArrangements.{IsExactArrangement, ArrangesExactly}
 use Rattle.overlay_scaled.specs.Pieces.{IsPiece, IsWithinPiece}
@@ -33,7 +32,7 @@ use Rattle.overlay_scaled.specs.Scaled.{scaled_edge, IsTimes}
 use Rattle.overlay_scaled.specs.Through.{winding_over}
 use Rattle.overlay_scaled.proofs.ExactArrangements.{arranges, link_of, whole_cut}
 use Rattle.overlay_scaled.proofs.Middles.{middle_on, middle_no_end, from_start, to_end}
-use Rattle.overlay_scaled.proofs.Pieces.{pieces_are_plain, piece_of_link, point_of, link_between, is_link, on_link}
+use Rattle.overlay_scaled.proofs.Pieces.{pieces_are_plain, piece_of_link, link_between, is_link, on_link}
 use Rattle.overlay_scaled.proofs.Pieces.{inside_link, from_at, to_at}
 use Rattle.overlay_scaled.proofs.PlainPoints.{from_scaled, has_scaled, no_meeting}
 use Rattle.overlay_scaled.proofs.PlainRules.{by_subj, by_clip, subj_at, clip_at, subj_over, clip_over, above_edge}

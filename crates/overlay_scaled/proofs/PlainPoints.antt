@@ -1,15 +1,12 @@
 -- Plain points of a merged list are the inner points of the pieces of its exact arrangement.
-use Rattle.std.proofs.Common.{◌≡◌, ◌⊎◌, ◌↔◌, inl, inr, ⊎_elim, Bool, true, false, cond, ◌||◌, ℤ, pos, ◌+ℤ◌, List, []}
+use Rattle.std.proofs.Common.{◌≡◌, inl, inr, ⊎_elim, false, ℤ, List, []}
 use Rattle.std.proofs.Common.{◌∷◌, ◌++◌, Contains}
-use Rattle.std.proofs.Common.{refl, sym, ap, ap₂, ◌∙◌, subst}
-use Rattle.std.proofs.lemmas.Bool.{cases_Bool, or_cases, or_left, or_right}
+use Rattle.std.proofs.Common.{sym, ◌∙◌, subst}
+use Rattle.std.proofs.lemmas.Bool.{cases_Bool}
 use Rattle.std.proofs.lemmas.List.Elements.{Contains-append_right}
-use Rattle.overlay_geom.specs.Counts.{Counts}
-use Rattle.overlay_geom.specs.Edges.{CountedEdge, ends_of, all_ends, subj_of, clip_of, winding_by, winding_below}
+use Rattle.overlay_geom.specs.Edges.{CountedEdge, ends_of}
 use Rattle.overlay_geom.specs.Merged.{IsMerged}
-use Rattle.overlay_geom.specs.Plane.{Point, PlanePoint, Edge, SamePlace, IsOn, IsOff, IsAt, IsEnd, edge_eq, midpoint}
-use Rattle.overlay_geom.proofs.PointOrder.{IsBefore}
-use Rattle.overlay_plane.specs.Balance.{HasBalancedCounts}
+use Rattle.overlay_geom.specs.Plane.{Point, PlanePoint, Edge, SamePlace, IsOn, IsAt, IsEnd, edge_eq}
 use Rattle.overlay_plane.specs.EdgeLists.{IsForwardBy}
 use Rattle.overlay_plane.specs.Meetings.{IsMeetingPoint, MeetsAnother}
 use Rattle.overlay_plane.specs.Rounds.{Round, whole_cuts}

@@ -3,13 +3,13 @@ use lib.IntN.{+ℤ_idr}
 use Rattle.std.proofs.Common.{◌≡◌, ◌⊎◌, ◌↔◌, inl, inr, ⊎_elim, Bool, true, false, cond, ◌||◌, ℤ, pos, ◌+ℤ◌, ◌<ℤ◌, List}
 use Rattle.std.proofs.Common.{Contains}
 use Rattle.std.proofs.Common.{sym, ap, ap₂, ◌∙◌, subst}
-use Rattle.std.specs.List.{All, Any}
+use Rattle.std.specs.List.{All}
 use Rattle.std.proofs.lemmas.Bool.{or_cases}
 use Rattle.std.proofs.lemmas.List.Elements.{All-contains, All-map}
 use Rattle.overlay_geom.specs.Counts.{Counts}
 use Rattle.overlay_geom.specs.Edges.{CountedEdge, ends_of, subj_of, clip_of, winding_by, winding_below, winding_above}
 use Rattle.overlay_geom.specs.Merged.{IsMerged}
-use Rattle.overlay_geom.specs.Plane.{Point, PlanePoint, Edge, IsOn, IsAt, IsEnd, midpoint, point_lt}
+use Rattle.overlay_geom.specs.Plane.{PlanePoint, IsOn, IsEnd, midpoint, point_lt}
 use Rattle.overlay_geom.proofs.PointOrder.{IsBefore}
 use Rattle.overlay_plane.specs.Balance.{HasBalancedCounts}
 use Rattle.overlay_plane.specs.EdgeLists.{IsForwardBy}

@@ -1,5 +1,5 @@
 -- Links of chains that share an inner point which is n times as far as a plain point are one edge.
-use Rattle.std.proofs.Common.{◌≡◌, inl, inr, Bool, true, false, ℤ, List, Contains, sym, subst}
+use Rattle.std.proofs.Common.{◌≡◌, inl, inr, false, Contains, sym, subst}
 use Rattle.std.proofs.lemmas.Bool.{cases_Bool}
 use Rattle.overlay_geom.specs.Edges.{CountedEdge, ends_of}
 use Rattle.overlay_geom.specs.Placed.{IsAlong}

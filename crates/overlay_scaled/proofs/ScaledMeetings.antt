@@ -1,5 +1,5 @@
 -- Scaled edges meet in the points n times as far as those where the edges meet.
-use Rattle.std.proofs.Common.{◌≡◌, ◌↔◌, inl, inr, ⊎_elim, ℤ, pos, ◌*ℤ◌, ◌<ℤ◌, sym, ap, ap₂, ◌∙◌}
+use Rattle.std.proofs.Common.{◌≡◌, inl, inr, ⊎_elim, ℤ, pos, ◌*ℤ◌, ◌<ℤ◌, sym, ap, ◌∙◌}
 use Rattle.overlay_geom.specs.Edges.{CountedEdge, ends_of}
 use Rattle.overlay_geom.specs.Plane.{Point, PlanePoint, SamePlace, IsAt, IsEnd}
 use Rattle.overlay_geom.proofs.Identities.{solve, ◌⊗◌, ◌≗◌}

@@ -1,13 +1,13 @@
 -- A merged list, scaled, is merged. So an exact arrangement of it cuts the scaled edges themselves.
-use Rattle.std.proofs.Common.{◌≡◌, true, false, ◌&&◌, ◌||◌, ℤ, pos, ◌<ℤ◌, List, Contains, refl, ap₂, ◌∙◌}
+use Rattle.std.proofs.Common.{◌≡◌, false, ◌&&◌, ◌||◌, ℤ, pos, ◌<ℤ◌, List, refl, ap₂, ◌∙◌}
 use Rattle.std.proofs.lemmas.List.Elements.{All-contains, All-map}
 use Rattle.overlay_geom.specs.Edges.{CountedEdge, ends_of, counts_nothing}
 use Rattle.overlay_geom.specs.Merged.{IsMerged, joined_edge}
-use Rattle.overlay_geom.specs.Plane.{edge_lt, edge_eq, point_eq}
+use Rattle.overlay_geom.specs.Plane.{edge_lt, edge_eq}
 use Rattle.overlay_geom.proofs.MergedOnce.{IsMerged-unique}
 use Rattle.overlay_geom.proofs.Merging.{ComesBefore, IsMerged-from_alike}
 use Rattle.overlay_plane.proofs.Entries.{all_of_entries}
-use Rattle.overlay_plane.proofs.LaterEntries.{Each, Each-map, Each-from_all_pairs, AllPairs-from_each}
+use Rattle.overlay_plane.proofs.LaterEntries.{Each-map, Each-from_all_pairs, AllPairs-from_each}
 use Rattle.overlay_scaled.specs.ExactArrangements.{IsExactArrangement}
 use Rattle.overlay_scaled.specs.Scaled.{scaled_edge, scaled}
 use Rattle.overlay_scaled.proofs.ScaledLists.{same_point_lt, same_point_eq}

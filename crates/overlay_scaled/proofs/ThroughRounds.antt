@@ -9,7 +9,7 @@ use Rattle.overlay_geom.proofs.Merging.{IsMerged-alike}
 use Rattle.overlay_geom.proofs.Orders.{edge_eq-same}
 use Rattle.overlay_geom.proofs.Sums.{sum_where-agree}
 use Rattle.overlay_plane.specs.Cutting.{piece_along, pieces_through}
-use Rattle.overlay_plane.specs.Regions.{IsPlanar, one_if}
+use Rattle.overlay_plane.specs.Regions.{IsPlanar}
 use Rattle.overlay_plane.specs.Rounds.{Round, chain_of, pieces_of, whole_cuts}
 use Rattle.overlay_plane.proofs.JoinedLists.{total-map, total-flat_map, total-times, taken_out}
 use Rattle.overlay_plane.proofs.NodeWindings.{count-times}
@@ -19,7 +19,7 @@ use Rattle.overlay_plane.proofs.Totals.{total-same, total-zero}
 use Rattle.overlay_plane.proofs.WholeCuts.{CutsWhole, stops, stop_held, goes_forward}
 use Rattle.overlay_scaled.specs.Through.{is_on, total_through}
 use Rattle.overlay_scaled.proofs.OnChains.{passing, chain_passes}
-use Rattle.overlay_scaled.proofs.OnTests.{on_from_test, test_from_on, test_from_off}
+use Rattle.overlay_scaled.proofs.OnTests.{test_from_on, test_from_off}
 
 -- the two sides have one sum each in both lists
 pub record HaveSameThrough (old new : List CountedEdge) (q : PlanePoint) : Type 0 where

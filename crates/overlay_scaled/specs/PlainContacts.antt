@@ -5,7 +5,7 @@ use Rattle.overlay_geom.specs.Merged.{IsMerged}
 use Rattle.overlay_geom.specs.Plane.{PlanePoint, SamePlace}
 use Rattle.overlay_plane.specs.Balance.{HasBalancedCounts}
 use Rattle.overlay_plane.specs.EdgeLists.{IsForwardBy}
-use Rattle.overlay_plane.specs.Predicates.{fills_at, Intersects, InteriorsIntersect, Touches, PointIntersects}
+use Rattle.overlay_plane.specs.Predicates.{fills_at, Intersects, Touches, PointIntersects}
 use Rattle.overlay_scaled.specs.ExactArrangements.{IsExactArrangement}
 use Rattle.overlay_scaled.specs.Pieces.{IsPiece, IsWithinPiece}
 use Rattle.overlay_scaled.specs.PlainPoints.{SomePlain}
