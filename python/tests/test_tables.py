@@ -180,7 +180,7 @@ class Tables(unittest.TestCase):
             self.assertEqual((status, self.path(name).exists()), (1, False))
             self.assertIn(f"{name}: {what} does not hold", said)
         wide = self.made("wide.gpkg", {}, ({}, self.polygon(-170, 0, 170, 1)), crs="EPSG:4326")
-        self.assertIn("wide.gpkg: 1 rings span more than 180 degrees", told("simplify", wide, "--out", out)[1])
+        self.assertIn("wide.gpkg: 1 ring spans more than 180 degrees", told("simplify", wide, "--out", out)[1])
 
     def test_what_is_not_held(self):
         cases = (

@@ -10,23 +10,23 @@ use std::process::Abort;
 use std::test::Fail;
 
 // Number of edges that cross a level one, so many that sorting takes memory.
-const COUNT: usize = 100;
+const COUNT: usize = 640;
 
-// The meeting points of a level edge with upright ones, from right to left.
+// The meeting points of a level edge with upright ones, out of their order.
 fn all_met<I: Width + ExactInt>(memory: Memory<'_>) -> Answer<Vec<MetAlong<I::Wide>, Memory<'_>>> {
     let level = IntEdge {
         a: point::<I>(0, 0),
-        b: point(200, 0),
+        b: point(700, 0),
     };
     let mut met = Vec::new(memory);
-    let mut x = 150;
+    let mut x = 0;
     for other in 0..COUNT {
+        x = (x + 37) % 641;
         let upright = IntEdge {
             a: point(x, -1),
             b: point(x, 1),
         };
         push_met(&mut met, level, upright, other)?;
-        x -= 1;
     }
     Ok(met)
 }
