@@ -1,3 +1,7 @@
+pub mod AlongALine
+pub mod AlongPieces
+pub mod BesidePieces
+pub mod CrossedLines
 pub mod ExactArrangements
 mod Factors
 mod Marked
@@ -7,6 +11,7 @@ pub mod OnChains
 pub mod OnTests
 pub mod OneWinding
 pub mod Pieces
+pub mod PastPlaces
 pub mod PlainContacts
 pub mod PlainPoints
 pub mod PlainRelations

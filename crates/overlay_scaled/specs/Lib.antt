@@ -1,3 +1,4 @@
+pub mod BesidePieces
 pub mod ExactArrangements
 pub mod Pieces
 pub mod PlainContacts

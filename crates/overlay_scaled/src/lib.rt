@@ -4,5 +4,6 @@
 #![tactic(auto)]
 
 pub mod arranging;
+pub mod beside;
 pub mod plain;
 pub mod scaling;
