@@ -4,7 +4,6 @@ pub mod BesidePieces
 pub mod CrossedLines
 pub mod ExactArrangements
 mod Factors
-mod Marked
 pub mod MergedLists
 mod Middles
 pub mod OnChains
