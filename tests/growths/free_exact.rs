@@ -12,7 +12,13 @@ use std::test::Fail;
 // Number of edges that cross a level one, so many that sorting takes memory.
 const COUNT: usize = 640;
 
-// The meeting points of a level edge with upright ones, out of their order.
+// Distance from each to the next, modulo the span.
+const STRIDE: i16 = 37;
+
+// Width of the span in which they stand.
+const SPAN: i16 = 101;
+
+// The meeting points of a level edge with upright ones, neither from left to right nor from right to left.
 fn all_met<I: Width + ExactInt>(memory: Memory<'_>) -> Answer<Vec<MetAlong<I::Wide>, Memory<'_>>> {
     let level = IntEdge {
         a: point::<I>(0, 0),
@@ -27,6 +33,7 @@ fn all_met<I: Width + ExactInt>(memory: Memory<'_>) -> Answer<Vec<MetAlong<I::Wi
             b: point(x, 1),
         };
         push_met(&mut met, level, upright, other)?;
+        x = (x + STRIDE) % SPAN;
     }
     Ok(met)
 }
