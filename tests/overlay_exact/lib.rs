@@ -3,3 +3,4 @@
 mod along;
 mod fractions;
 mod parts;
+mod winding;

@@ -1,3 +1,4 @@
 pub mod Along
 pub mod PartLaws
 pub mod Parts
+pub mod WindingSteps

@@ -8,3 +8,4 @@ pub mod laws;
 pub mod met;
 pub mod part;
 pub mod place;
+pub mod winding;
