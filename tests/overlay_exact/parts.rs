@@ -60,6 +60,9 @@ fn whole_points(rt: HostRuntime) {
     assert_eq!(rt; (start.n, start.d), (0, 45));
     let end = part_of_point(e, e.b);
     assert_eq!(rt; (end.n, end.d), (45, 45));
+    assert!(rt; start.is_start() && !start.is_end());
+    assert!(rt; end.is_end() && !end.is_start());
+    assert!(rt; !third.is_start() && !third.is_end());
     let upright = edge(1i64, -4, 1, 4);
     let half = part_of_point(upright, IntPoint::new(1, 0));
     assert_eq!(rt; (half.n, half.d), (32, 64));

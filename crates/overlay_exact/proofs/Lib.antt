@@ -1,8 +1,10 @@
 pub mod AddedMet
 pub mod CrossingParts
+pub mod GroupEnds
 pub mod MetOrder
 pub mod MovedParts
 pub mod Overlaps
+pub mod PartEnds
 pub mod PartOrder
 pub mod PartPoints
 pub mod PushedMet

@@ -1,4 +1,5 @@
 pub mod Along
+pub mod Groups
 pub mod PartLaws
 pub mod Parts
 pub mod WindingSteps

@@ -26,6 +26,13 @@ IsLess s t = (s.n *ℤ t.d) <ℤ (t.n *ℤ s.d)
 abbrev pub AreEqual : Fraction → Fraction → Type 0
 AreEqual s t = s.n *ℤ t.d ≡ t.n *ℤ s.d
 
+-- the parts at which an edge's ends lie: nothing of the way, and all of it
+abbrev pub start_part : Fraction
+start_part = record { n = pos 0; d = pos 1 }
+
+abbrev pub end_part : Fraction
+end_part = record { n = pos 1; d = pos 1 }
+
 -- p lies this part of the way from e's smaller end to its larger
 pub record LiesAt (e : Edge) (s : Fraction) (p : PlanePoint) : Type 0 where
   pub x : p.x *ℤ s.d ≡ (e.a.x *ℤ s.d +ℤ (e.b.x -ℤ e.a.x) *ℤ s.n) *ℤ p.d

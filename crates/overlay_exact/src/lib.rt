@@ -4,6 +4,7 @@
 pub mod along;
 pub mod exact_int;
 mod fraction;
+pub mod group;
 pub mod laws;
 pub mod met;
 pub mod part;
