@@ -4,8 +4,11 @@ use crate::figures::{Width, point};
 use crate::refusals::{Answer, Memory, Trial};
 use overlay_exact::along::{push_met, sort_along};
 use overlay_exact::exact_int::ExactInt;
+use overlay_exact::meetings::find_meetings;
 use overlay_exact::met::MetAlong;
 use overlay_geom::edge::IntEdge;
+use overlay_order::count::ShapeCountBoolean;
+use overlay_order::edge::CountedEdge;
 use std::process::Abort;
 use std::test::Fail;
 
@@ -60,6 +63,34 @@ fn check_along<I: Width + ExactInt>(trial: &Trial<'_, impl Abort>) -> Result<(),
         |met| sort_along::<I, _>(met),
         |met| Ok(met.len() == COUNT),
     )
+}
+
+// The edge of a subject between these points.
+fn counted<I: Width>(ax: i16, ay: i16, bx: i16, by: i16) -> CountedEdge<I, ShapeCountBoolean> {
+    CountedEdge {
+        a: point(ax, ay),
+        b: point(bx, by),
+        count: ShapeCountBoolean { subj: 1, clip: 0 },
+    }
+}
+
+fn check_meetings<I: Width + ExactInt>(trial: &Trial<'_, impl Abort>) -> Result<(), Fail> {
+    let memory = trial.memory;
+    let edges = [
+        counted::<I>(0, 0, 4, 4),
+        counted(0, 4, 4, 0),
+        counted(2, 0, 2, 4),
+    ];
+    let found = trial.refuse_call("overlay_exact::find_meetings", || {
+        find_meetings(memory, &edges)
+    })?;
+    assert!(trial.rt; found.met.len() == 6);
+    Ok(())
+}
+
+#[test]
+fn functions_of_lists_of_edges(rt: HostRuntime) -> Result<(), Fail> {
+    at_a_width!(rt, check_meetings)
 }
 
 #[test]

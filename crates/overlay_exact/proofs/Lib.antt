@@ -1,6 +1,8 @@
 pub mod AddedMet
 pub mod CrossingParts
+pub mod GatheredMet
 pub mod GroupEnds
+pub mod MetByStarts
 pub mod MetOrder
 pub mod MovedParts
 pub mod Overlaps

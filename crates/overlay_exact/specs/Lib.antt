@@ -1,3 +1,4 @@
+pub mod AllMet
 pub mod Along
 pub mod Groups
 pub mod PartLaws

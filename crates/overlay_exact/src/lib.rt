@@ -6,6 +6,7 @@ pub mod exact_int;
 mod fraction;
 pub mod group;
 pub mod laws;
+pub mod meetings;
 pub mod met;
 pub mod part;
 pub mod place;
