@@ -11,5 +11,6 @@ pub mod PartOrder
 pub mod PartPoints
 pub mod PushedMet
 pub mod Quotients
+pub mod ToldMeetings
 pub mod WholeParts
 pub mod WidenedProducts
