@@ -13,7 +13,7 @@ use std::process::Abort;
 use std::test::Fail;
 
 // Number of edges that cross a level one, so many that sorting takes memory.
-const COUNT: usize = 640;
+const COUNT: usize = 100;
 
 // Distance from each to the next, modulo the span.
 const STRIDE: i16 = 37;
@@ -25,12 +25,11 @@ const SPAN: i16 = 101;
 fn all_met<I: Width + ExactInt>(memory: Memory<'_>) -> Answer<Vec<MetAlong<I::Wide>, Memory<'_>>> {
     let level = IntEdge {
         a: point::<I>(0, 0),
-        b: point(700, 0),
+        b: point(200, 0),
     };
     let mut met = Vec::new(memory);
     let mut x = 0;
     for other in 0..COUNT {
-        x = (x + 37) % 641;
         let upright = IntEdge {
             a: point(x, -1),
             b: point(x, 1),
