@@ -35,7 +35,7 @@ const char *polyover_status_text(polyover_status status) {
         case POLYOVER_BAD_FILL:
             return "no fill rule has the number";
         case POLYOVER_BAD_OPTION:
-            return "an option or a solver has a number that stands for nothing";
+            return "an option or a solver has a number that stands for nothing, or a grid does not fit";
         case POLYOVER_NOT_SETTLED:
             return "edges still meet after 64 rounds of splitting; the solver POLYOVER_SNAPPED splits them";
         case POLYOVER_TOO_MANY_EDGES:

@@ -51,6 +51,8 @@ void lines() {
     const given<Coordinate> it;
     const auto halves = value_of(slice(fill::non_zero, it.subject, it.line));
     CHECK(is(halves.contour_ends(), {4, 8}) && is(halves.shape_ends(), {1, 2}));
+    const auto quarters = value_of(tiles(fill::non_zero, it.subject, 2, 2));
+    CHECK(is(quarters.contour_ends(), {4, 8, 12, 16}) && is(quarters.shape_ends(), {1, 2, 3, 4}));
     const auto inside = value_of(clip(fill::non_zero, it.subject, it.line));
     CHECK(is(inside.coordinates(), {0, 2, 4, 2}) && is(inside.contour_ends(), {2}) && inside.shape_ends().empty());
     polyover::clip_options outside;
@@ -230,6 +232,7 @@ void refusals() {
     CHECK(is_refused(status::bad_fill, [&] { return simplify(bad_fill, it.subject); }));
     CHECK(is_refused(status::bad_option, [&] { return clip(fill::non_zero, it.subject, it.line, unknown); }));
     CHECK(is_refused(status::bad_option, [&] { return slice(fill::non_zero, it.subject, it.line, unknown.solver); }));
+    CHECK(is_refused(status::bad_option, [&] { return tiles(fill::non_zero, it.subject, 0, 2); }));
     CHECK(is_refused(status::bad_ends, [&] { return overlay(rule::clip, fill::non_zero, it.subject, short_ends); }));
     CHECK(is_refused(status::bad_ends, [&] { return resolved(short_ends); }));
     CHECK(is_refused(status::out_of_range, [&] { return relate(fill::non_zero, it.subject, beyond); }));

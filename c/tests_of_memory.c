@@ -54,6 +54,7 @@ typedef struct {
     polyover_contours clip;
     size_t point_coordinates;
     size_t location_room;
+    int64_t cell;
 } asked;
 
 /* Arrays for any answer, filled with a pattern before each call. */
@@ -165,6 +166,12 @@ static polyover_status edges_result(const asked *of, room *to) {
     return let_go(polyover_edges_result(of->fill, of->solver, &of->subject, &of->clip, &result), &result);
 }
 
+static polyover_status tiles_result(const asked *of, room *to) {
+    (void)to;
+    polyover_result result;
+    return let_go(polyover_tiles_result(of->fill, of->solver, &of->subject, of->cell, of->cell, &result), &result);
+}
+
 /* Prepares the subject, asks where points lie, and frees the prepared shape. To ask takes no memory: after the shape is
  * prepared each request is refused. */
 static polyover_status prepare(const asked *of, room *to) {
@@ -236,7 +243,7 @@ static void choose_solver(asked *of, polyover_solver solver) {
 }
 
 static asked squares_at(const int64_t *subject, const int64_t *clip) {
-    asked of = {.rule = POLYOVER_XOR, .fill = POLYOVER_NON_ZERO, .point_coordinates = 6, .location_room = 3};
+    asked of = {.rule = POLYOVER_XOR, .fill = POLYOVER_NON_ZERO, .point_coordinates = 6, .location_room = 3, .cell = 3};
     of.subject = (polyover_contours){subject, 8, four, 1};
     of.clip = (polyover_contours){clip, 8, four, 1};
     return of;
@@ -249,7 +256,7 @@ static asked squares(void) {
 static void answered(void) {
     const call all[] = {overlay, hierarchy, simplify, slice, clip, relate, edges, locate, resolved, overlay_result,
                         hierarchy_result, simplify_result, slice_result, clip_result, edges_result, prepare,
-                        relate_one};
+                        relate_one, tiles_result};
     const call with_more[] = {overlay, hierarchy, simplify, slice, clip, relate, edges, overlay_result,
                               hierarchy_result, simplify_result, slice_result, clip_result, edges_result,
                               relate_one};
@@ -286,14 +293,14 @@ static void numbers(void) {
     choose_solver(&of, 2);
     const call by_solver[] = {overlay, hierarchy, simplify, slice, clip, relate, edges, overlay_result,
                               hierarchy_result, simplify_result, slice_result, clip_result, edges_result, prepare,
-                              relate_one};
+                              relate_one, tiles_result};
     for (size_t at = 0; at < COUNT(by_solver); at++) {
         TESTED_FIRST(by_solver[at], &of, POLYOVER_BAD_OPTION);
     }
     of.fill = 4;
     const call filled[] = {overlay, hierarchy, simplify, slice, clip, relate, edges, overlay_result,
                            hierarchy_result, simplify_result, slice_result, clip_result, edges_result, prepare,
-                           relate_one};
+                           relate_one, tiles_result};
     for (size_t at = 0; at < COUNT(filled); at++) {
         TESTED_FIRST(filled[at], &of, POLYOVER_BAD_FILL);
     }
@@ -304,7 +311,7 @@ static void numbers(void) {
 
 /* Tests contours with faults: those of the subject come first. */
 static void faults(void) {
-    const call one[] = {simplify, locate, resolved, simplify_result, prepare};
+    const call one[] = {simplify, locate, resolved, simplify_result, prepare, tiles_result};
     const call two[] = {overlay, hierarchy, slice, clip, relate, edges, overlay_result, hierarchy_result,
                         slice_result, clip_result, edges_result, relate_one};
     asked of = squares();
@@ -337,11 +344,22 @@ static void points(void) {
     TESTED_FIRST(locate, &of, POLYOVER_BAD_ENDS);
 }
 
+/* Tests cells of no size, and more than a thousand lines. */
+static void grids(void) {
+    asked of = squares(), wide = squares_at(wide_left, wide_right);
+    of.cell = 0;
+    TESTED_FIRST(tiles_result, &of, POLYOVER_BAD_OPTION);
+    TESTED_FIRST(tiles_result, &wide, POLYOVER_BAD_OPTION);
+    wide.cell = 3 * WIDE;
+    REFUSE_EACH(tiles_result, &wide);
+}
+
 int main(void) {
     answered();
     numbers();
     faults();
     points();
+    grids();
     printf("c, memory refused: %d passed, %d failed\n", passed, failed);
     return failed == 0 ? 0 : 1;
 }

@@ -98,6 +98,11 @@ static polyover_status TEST(slice)(const TEST(question) *of, RESULT *result) {
     return NAME(polyover_slice_result)(of->fill, of->solver, &of->subject, &of->clip, result);
 }
 
+/* (without a line, since all coordinates are 0 or greater) */
+static polyover_status TEST(tiles)(const TEST(question) *of, RESULT *result) {
+    return NAME(polyover_tiles_result)(of->fill, of->solver, &of->subject, LIMIT, LIMIT, result);
+}
+
 static polyover_status TEST(clip)(const TEST(question) *of, RESULT *result) {
     const polyover_clip_options options = TEST(clip_options_of)(of);
     return NAME(polyover_clip_result)(of->fill, &options, &of->subject, &of->clip, result);
@@ -317,6 +322,26 @@ static void TEST(many_lines)(polyover_solver solver) {
     TEST(let_go)(&rows);
 }
 
+/* 4,225 squares, of which each is cut in four. */
+static void TEST(many_tiles)(polyover_solver solver) {
+    const size_t side = 65;
+    TEST(made) shape = TEST(none)();
+    TEST(squares)(&shape, side, 4, 1, 3);
+    const CONTOURS given = TEST(given)(&shape);
+    RESULT result;
+    CHECK(NAME(polyover_tiles_result)(POLYOVER_NON_ZERO, solver, &given, 2, 2, &result) == POLYOVER_OK);
+    int same = result.shape_count == 4 * side * side && result.contour_count == result.shape_count &&
+               result.coordinate_count == 8 * result.contour_count;
+    for (size_t at = 0; same && at < result.contour_count; at++) {
+        const NUMBER *it = result.coordinates + 8 * at;
+        same = result.contour_ends[at] == 4 * (at + 1) && result.shape_ends[at] == at + 1 &&
+               (it[4] - it[0]) * (it[7] - it[3]) - (it[6] - it[2]) * (it[5] - it[1]) == 2;
+    }
+    CHECK(same);
+    NAME(polyover_free)(&result);
+    TEST(let_go)(&shape);
+}
+
 /* One contour of 50,000 points, counter-clockwise: a level edge, and teeth above it. */
 static void TEST(one_contour)(polyover_solver solver) {
     const size_t count = 49998;
@@ -430,6 +455,7 @@ static void TEST(limits)(polyover_solver solver) {
     TEST(limit_of)(TEST(edges), solver, 0, 0);
     TEST(limit_of)(TEST(relate), solver, 0, 0);
     TEST(limit_of)(TEST(slice), solver, 1, 0);
+    TEST(limit_of)(TEST(tiles), solver, 0, 1);
     TEST(limit_of)(TEST(clip), solver, 1, 0);
     TEST(limit_in_arrays)(TEST(overlay_in_arrays), solver, 0, 0);
     TEST(limit_in_arrays)(TEST(hierarchy_in_arrays), solver, 0, 0);
@@ -448,6 +474,7 @@ static void TEST(sizes)(void) {
         TEST(many_islands)(solver);
         TEST(many_edges)(solver);
         TEST(many_lines)(solver);
+        TEST(many_tiles)(solver);
         TEST(one_contour)(solver);
         TEST(limits)(solver);
         TEST(prepared_sizes)(solver);

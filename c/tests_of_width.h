@@ -265,6 +265,8 @@ static void TEST(simplifying)(void) {
 
 #include "tests_of_results.h"
 
+#include "tests_of_tiles.h"
+
 #include "tests_of_prepared.h"
 
 static void TEST(all)(void) {
@@ -296,6 +298,10 @@ static void TEST(all)(void) {
     TEST(results_by_default)();
     TEST(results_refused)();
     TEST(results_not_settled)();
+    TEST(tiles)();
+    TEST(far_tiles)();
+    TEST(tiles_refused)();
+    TEST(tiles_not_settled)();
     TEST(prepared_under_rules)();
     TEST(prepared_contours)();
     TEST(prepared_bare)();

@@ -55,8 +55,8 @@ enum {
     POLYOVER_NOT_RESOLVED = 4, /* two steps of a contour share a point that is not an end of both */
     POLYOVER_BAD_RULE = 5,     /* no overlay rule has the number */
     POLYOVER_BAD_FILL = 6,     /* no fill rule has the number */
-    /* a direction, keep, touching, invert, boundary or solver that is neither 0 nor 1, or a number that is not the bit
-     * of a relation */
+    /* a direction, keep, touching, invert, boundary or solver that is neither 0 nor 1, a number that is not the bit of
+     * a relation, or a grid that does not fit */
     POLYOVER_BAD_OPTION = 7,
     /* after 64 rounds of splitting edges still meet in points that are no ends of both: some that cross very flatly do.
      * It comes of POLYOVER_ROUNDS alone; POLYOVER_SNAPPED splits these edges too. */
@@ -464,6 +464,22 @@ polyover_status polyover_edges_result(polyover_fill fill, polyover_solver solver
                                       const polyover_contours *clip, polyover_result *result);
 polyover_status polyover_edges_result_32(polyover_fill fill, polyover_solver solver,
                                          const polyover_contours_32 *subject, const polyover_contours_32 *clip,
+                                         polyover_result_32 *result);
+
+/* The tiles into which the lines of a grid cut what the contours of the subject fill, split by the solver. Cells are
+ * `width` wide and `height` high, and a node of each grid is at (0, 0): lines are at the multiples of both that lie
+ * strictly between the ends of the box of all points. A tile is a shape as `polyover_slice` gives it along these lines,
+ * and its points lie in one cell. Tiles on both sides of a line share their points on it.
+ *
+ * *result is the answer, or none, as of the calls above. Tested first, in this order: POLYOVER_BAD_FILL;
+ * POLYOVER_BAD_OPTION, for the solver, and for a width or height below 1 or above the coordinate range;
+ * POLYOVER_BAD_ENDS and POLYOVER_OUT_OF_RANGE; POLYOVER_BAD_OPTION, where more than 1,000 lines cross the box in a
+ * direction. POLYOVER_NOT_SETTLED, by POLYOVER_ROUNDS alone, POLYOVER_TOO_MANY_EDGES, which counts the lines too, and
+ * POLYOVER_MEMORY are left. */
+polyover_status polyover_tiles_result(polyover_fill fill, polyover_solver solver, const polyover_contours *subject,
+                                      int64_t width, int64_t height, polyover_result *result);
+polyover_status polyover_tiles_result_32(polyover_fill fill, polyover_solver solver,
+                                         const polyover_contours_32 *subject, int32_t width, int32_t height,
                                          polyover_result_32 *result);
 
 /* Gives back the memory of a result, by free, and leaves it without items: to free it twice does no harm. A null

@@ -278,6 +278,7 @@ struct width<std::int64_t> {
     static constexpr auto hierarchy_result = polyover_hierarchy_result;
     static constexpr auto slice = polyover_slice;
     static constexpr auto slice_result = polyover_slice_result;
+    static constexpr auto tiles_result = polyover_tiles_result;
     static constexpr auto clip = polyover_clip;
     static constexpr auto clip_result = polyover_clip_result;
     static constexpr auto edges = polyover_edges;
@@ -310,6 +311,7 @@ struct width<std::int32_t> {
     static constexpr auto hierarchy_result = polyover_hierarchy_result_32;
     static constexpr auto slice = polyover_slice_32;
     static constexpr auto slice_result = polyover_slice_result_32;
+    static constexpr auto tiles_result = polyover_tiles_result_32;
     static constexpr auto clip = polyover_clip_32;
     static constexpr auto clip_result = polyover_clip_result_32;
     static constexpr auto edges = polyover_edges_32;
@@ -637,6 +639,18 @@ template <class Coordinate>
                                                        polyover::solver solver = polyover::solver::snapped) {
     return detail::result_of<Coordinate>(detail::width<Coordinate>::slice_result, detail::number(fill),
                                          detail::number(solver), &subject.raw(), &lines.raw());
+}
+
+/// Returns the tiles into which the lines of a grid cut the filled region of the subject. Cells are `width` wide and
+/// `height` high, and a node of each grid is at (0, 0). Refused as `slice` is, and by `bad_option` where a side is
+/// below 1 or out of range, or more than 1,000 lines cross the box of all points in a direction.
+template <class Coordinate>
+[[nodiscard]] returned<basic_result<Coordinate>> tiles(polyover::fill fill, basic_contours<Coordinate> subject,
+                                                       detail::same<Coordinate> width,
+                                                       detail::same<Coordinate> height,
+                                                       polyover::solver solver = polyover::solver::snapped) {
+    return detail::result_of<Coordinate>(detail::width<Coordinate>::tiles_result, detail::number(fill),
+                                         detail::number(solver), &subject.raw(), width, height);
 }
 
 /// Returns the parts of open paths that a clip by the shape keeps, as paths: `contour_ends()` has their ends. Refused

@@ -50,11 +50,14 @@ const RESULT = 2 * SIZE * ARRAYS.length;
 const PREPARED = 6 * SIZE;
 const MOST_64 = 2n ** 64n - 1n;
 
-/** Raises what a status stands for, if it is not OK. */
-function check(status) {
+/** Raises what a status stands for, if it is not OK; with the words, if there are any, for a bad option. */
+function check(status, words) {
   const name = STATUSES[status];
   if (name === "OK") {
     return;
+  }
+  if (name === "BAD_OPTION" && words !== undefined) {
+    throw new BadInput(words);
   }
   if (name in FAULTS) {
     throw new FAULTS[name]();
@@ -247,13 +250,13 @@ export class Library {
     return found;
   }
 
-  /** The arrays that a call answers whose arguments before its groups are given. */
-  answer(name, asked, before) {
+  /** The arrays that a call answers whose arguments before its groups, and behind them, are given. */
+  answer(name, asked, before, behind = [], words = undefined) {
     return this.hold((held) => {
       const given = before(held);
       const groups = asked.groups.map((group) => this.contours(held, group, asked.grid));
       const at = held.take(RESULT);
-      check(this.calls[suffixed(name, asked.kind)](...given, ...groups, BigInt(at)));
+      check(this.calls[suffixed(name, asked.kind)](...given, ...groups, ...behind, BigInt(at)), words);
       try {
         return this.arrays(at, asked);
       } finally {
@@ -287,6 +290,14 @@ export class Library {
 
   slice(asked, fill, solver) {
     return this.answer("polyover_slice_result", asked, () => [fill, solver]);
+  }
+
+  /** The tiles of a grid whose cells have these sides, from 1 on. (A wider cell than the range has the same lines.) */
+  tiles(asked, fill, solver, sides, words) {
+    const least = (side, limit) => (side < limit ? side : limit);
+    const isNarrow = asked.kind === Int32Array;
+    const behind = sides.map((side) => (isNarrow ? Number(least(side, BigInt(LIMIT_32))) : least(side, LIMIT)));
+    return this.answer("polyover_tiles_result", asked, () => [fill, solver], behind, words);
   }
 
   clip(asked, fill, how) {

@@ -3,6 +3,7 @@
 import { FILLS, LIMIT, Library, RELATIONS, RULES, SOLVERS } from "./abi.js";
 import { edgesIn, linesIn, linksIn, locationsIn, shapesIn } from "./answers.js";
 import { BadInput } from "./errors.js";
+import { misfit, sideOf } from "./cells.js";
 import { isGeometry, partsOf } from "./geojson.js";
 import { alike, askedOf, chosen, grouped, listed, pointsOf } from "./given.js";
 import { Prepared } from "./prepared.js";
@@ -106,6 +107,15 @@ export class Polyover {
     const { fill, solver, answer } = chosen(options, FILLED);
     return this.#filled({ shape, lines }, { fill, solver, isJoined: true }, answer, (asked, form) =>
       shapesIn(this.#library.slice(asked, fill, solver), form),
+    );
+  }
+
+  /** The shapes into which the cells of a grid cut a shape, each in one cell. A node of the grid is at the origin. */
+  tiles(shape, width, height, options = {}) {
+    const { fill, solver, answer } = chosen(options, FILLED);
+    const sides = [sideOf("width", width, this.#grid), sideOf("height", height, this.#grid)];
+    return this.#filled({ shape }, { fill, solver, isJoined: true }, answer, (asked, form) =>
+      shapesIn(this.#library.tiles(asked, fill, solver, sides, misfit(width, height)), form),
     );
   }
 

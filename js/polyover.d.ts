@@ -211,6 +211,16 @@ export class Polyover {
     options?: FillOptions & AnswerOptions<F>,
   ): ShapesAs<NumberOf<P> | NumberOf<Q>>[F];
   /**
+   * The shapes into which the cells of a grid cut a shape, each in one cell. A node of the grid is at the origin.
+   * Raises BadInput where a side is below 1, or more than 1,000 lines cross the shape in a direction.
+   */
+  tiles<P extends Paths, F extends Form = FormOf<P>>(
+    shape: P,
+    width: Coordinate,
+    height: Coordinate,
+    options?: FillOptions & AnswerOptions<F>,
+  ): ShapesAs<NumberOf<P>>[F];
+  /**
    * Where each point lies in contours, which are joined by exclusive or, or in the region that a geometry covers.
    * NotResolved comes where a contour that is given in lists or arrays meets itself.
    */
@@ -289,6 +299,12 @@ export class RemotePolyover {
     lines: Q,
     options?: FillOptions & AnswerOptions<F>,
   ): Promise<ShapesAs<NumberOf<P> | NumberOf<Q>>[F]>;
+  tiles<P extends Paths, F extends Form = FormOf<P>>(
+    shape: P,
+    width: Coordinate,
+    height: Coordinate,
+    options?: FillOptions & AnswerOptions<F>,
+  ): Promise<ShapesAs<NumberOf<P>>[F]>;
   locate<P extends Points, F extends Form = FormOfPoints<P>>(
     shape: Paths,
     points: P,

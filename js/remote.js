@@ -6,7 +6,10 @@ import { packed, unpacked } from "./packing.js";
 // (bundlers for browsers leave a name in a variable alone)
 const THREADS = "node:worker_threads";
 const OF_PREPARED = ["locate", "contains"];
-const CALLS = ["overlay", "hierarchy", "simplify", "relate", "clip", "slice", "locate", "edges", "isResolved", "built"];
+const CALLS = [
+  ...["overlay", "hierarchy", "simplify", "relate", "clip", "slice", "tiles", "locate", "edges"],
+  ...["isResolved", "built"],
+];
 
 /** A worker of Node with a browser's ways. */
 export function ofNode(worker) {

@@ -22,6 +22,7 @@ const CALLS = {
   relate: (it) => it.relate([SQUARE], [OTHER]),
   clip: (it) => it.clip(HALL, WALLS),
   slice: (it) => it.slice(HALL, WALLS, { fill: "evenodd" }),
+  tiles: (it) => it.tiles([SQUARE, OTHER], 1, 3),
   edges: (it) => it.edges([SQUARE], [OTHER]),
   isResolved: (it) => it.isResolved([SQUARE, OTHER]),
   locate: (it) => it.locate([SQUARE], [[2, 2], [4, 1], [9, 9]]),

@@ -2,7 +2,7 @@
 
 import assert from "node:assert/strict";
 import test from "node:test";
-import { NotSettled } from "../polyover.js";
+import { Flat, NotSettled } from "../polyover.js";
 import { doubleArea, polyover, printedPath, printedShapes, rows } from "./there.js";
 
 const { SQUARE, OTHER, FRAME, BAR, NESTED, HALL, WALLS, UNSETTLED } = rows;
@@ -122,6 +122,21 @@ test("slice", () => {
     "shape\n8 0 8 5 8 8 4 8 4 4 4 0\n5 3 5 5 7 5 7 3\n" +
     "shape\n10 0 12 0 12 5 8 5 8 0\nshape\n12 5 12 8 8 8 8 5\n";
   assert.equal(printedShapes(polyover.slice(HALL, WALLS, { fill: "evenodd" })), rooms);
+});
+
+test("tiles", () => {
+  const quarters =
+    "shape\n2 0 2 2 0 2 0 0\nshape\n2 2 2 4 0 4 0 2\nshape\n4 0 4 2 2 2 2 0\nshape\n4 2 4 4 2 4 2 2\n";
+  const square = [[0, 0], [4, 0], [4, 4], [0, 4]];
+  assert.equal(printedShapes(polyover.tiles([square], 2, 2n)), quarters);
+  const narrow = new Flat(Int32Array.from(square.flat()), [4]);
+  const [at32, at64] = [polyover.tiles(narrow, 2, 2), polyover.tiles([square], 2, 2, { answer: "arrays" })];
+  assert.ok(at32.contours.coordinates instanceof Int32Array);
+  assert.deepEqual([...at32.contours.coordinates], [...at64.contours.coordinates]);
+  // (no line of a cell that is wider than the range crosses the square)
+  assert.equal(polyover.tiles(narrow, 2 ** 40, 2n ** 70n).length, 1);
+  assert.equal(polyover.scaled(10).tiles([[[0, 0], [0.4, 0], [0.4, 0.4], [0, 0.4]]], 0.2, 0.4).length, 2);
+  assert.deepEqual(polyover.tiles([], 1, 1), []);
 });
 
 test("locations", () => {

@@ -28,6 +28,7 @@ export async function asked(): Promise<unknown[]> {
   const big: Shapes<bigint> = polyover.overlay([[[0n, 0n], [4n, 0n], [4n, 4n]]]);
   const edges: Edge[] = polyover.edges([square]);
   const parts: Flat = polyover.clip(arrays.contours, [square], { invert: true });
+  const tiles: Shapes = polyover.tiles([square], 2, 2n);
   const is: boolean = polyover.isResolved([square]);
   const prepared: Prepared = polyover.prepare([square], { fill: "evenodd", solver: "rounds" });
   const asked: Location[] = prepared.locate([[1, 1]]);
@@ -66,7 +67,7 @@ export async function asked(): Promise<unknown[]> {
 
   return [
     ...[asked, inside, truths, answered, lists, named, other, found, relations, places, numbers, edges, parts, is],
-    ...[later, big, built, kind, bytes, there, multiPolygon(lists)],
+    ...[tiles, later, big, built, kind, bytes, there, multiPolygon(lists)],
   ];
 }
 

@@ -75,6 +75,7 @@ workerTest("arrays go to a worker and come back", async (remote) => {
     // (the given arrays are here still)
     assert.equal(given.coordinates.length, 8);
     assert.deepEqual(await remote.edges(given), polyover.edges(given));
+    assert.deepEqual(await remote.tiles([SQUARE], 3, 3), polyover.tiles([SQUARE], 3, 3));
     const points = kind.from([2, 2, 9, 9], kind === BigInt64Array ? BigInt : Number);
     assert.deepEqual(await remote.locate([SQUARE], points), polyover.locate([SQUARE], points));
   }

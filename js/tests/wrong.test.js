@@ -94,6 +94,21 @@ test("values are told as a program has them", () => {
   refused(() => polyover.overlay([looped]), "is no point of two numbers");
 });
 
+test("cells that do not fit", () => {
+  for (const side of [0, -1, 0n]) {
+    refused(() => polyover.tiles([SQUARE], side, 1), `width: ${side}`);
+    refused(() => polyover.tiles([SQUARE], 1, side), `height: ${side}`);
+  }
+  for (const side of [0.5, NaN, "1", null, 2 ** 60]) {
+    refused(() => polyover.tiles([SQUARE], 1, side), "is no whole number");
+  }
+  refused(() => polyover.scaled(10).tiles([SQUARE], 0.04, 1), "width: 0.04 at this scale is not at least 1");
+  refused(() => polyover.scaled(10).tiles([SQUARE], Infinity, 1), "width: Infinity is no finite number");
+  const long = [[[0, 0], [1002, 0], [0, 1]]];
+  refused(() => polyover.tiles(long, 1, 1), "cells of 1 by 1 do not fit: more than 1,000 lines in a direction");
+  refused(() => polyover.tiles([SQUARE, [[0, 0], [0.5, 1]]], 1, 1), "shape: contour 2, point 2: 0.5 is no whole");
+});
+
 test("arrays that are detached", () => {
   for (const kind of [BigInt64Array, Int32Array, Float64Array]) {
     const numbers = new kind(8);

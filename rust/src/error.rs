@@ -17,6 +17,8 @@ pub enum OverlayError {
     NotSettled,
     /// The edges weigh 2^31 or more.
     TooManyEdges,
+    /// A grid does not fit: a side of its cells is below 1, or more than 1,000 lines cross the contours in a direction.
+    BadGrid,
     /// A float is not a number, or infinite.
     NotFinite,
     /// An option that this version has not yet: its name.
@@ -31,6 +33,8 @@ impl OverlayError {
         match status {
             sys::MEMORY => Self::Memory,
             sys::OUT_OF_RANGE => Self::OutOfRange,
+            // (all other numbers of options are of types that have no others)
+            sys::BAD_OPTION => Self::BadGrid,
             sys::NOT_SETTLED => Self::NotSettled,
             sys::TOO_MANY_EDGES => Self::TooManyEdges,
             other => Self::Other(other),
@@ -46,6 +50,7 @@ impl fmt::Display for OverlayError {
             Self::NotResolved(contour) => return write!(f, "contour [{contour}]: {}", text_of(sys::NOT_RESOLVED)),
             Self::NotSettled => "edges still meet after 64 rounds of splitting; Solver::SNAPPED splits them",
             Self::TooManyEdges => text_of(sys::TOO_MANY_EDGES),
+            Self::BadGrid => "a grid does not fit: cells from 1 on, at most 1,000 lines in a direction",
             Self::NotFinite => "a float is not a number, or infinite",
             Self::NotHad(name) => return write!(f, "this version does not have the option {name}"),
             Self::Other(status) => text_of(status),

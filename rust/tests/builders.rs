@@ -177,6 +177,33 @@ fn lines_over_a_square() {
     assert_eq!(shape.slice_by_line(line, FillRule::NonZero).len(), 2);
 }
 
+/// Tiles at each width, and grids that do not fit.
+#[test]
+fn a_square_in_cells() {
+    let shape = square(0, 4);
+    let quarters = shape.slice_by_grid(2, 2, FillRule::NonZero);
+    assert_eq!(quarters.len(), 4);
+    assert!(quarters.iter().all(|tile| tile.area() == 4_i64));
+    assert_eq!(shape.slice_by_grid(i32::MAX, 3, FillRule::NonZero).len(), 2);
+    let small = [[0_i16, 0], [4, 0], [4, 4], [0, 4]].map(IntPoint::from);
+    assert_eq!(small.slice_by_grid(i16::MAX, 1, FillRule::NonZero).len(), 4);
+    // (beyond the range of the calls at 32 bits)
+    let wide = square(i32::MIN, i32::MAX);
+    assert_eq!(wide.slice_by_grid(i32::MAX, i32::MAX, FillRule::NonZero).len(), 9);
+    let long = [[0_i64, 0], [1002, 0], [1002, 1], [0, 1]].map(IntPoint::from);
+    assert_eq!(long.slice_by_grid(2, i64::MAX, FillRule::NonZero).len(), 501);
+    for (width, height) in [(1, 1), (0, 1), (2, -1)] {
+        let answer = long.try_slice_by_grid(width, height, FillRule::NonZero);
+        assert_eq!(answer, Err(OverlayError::BadGrid));
+    }
+    assert!(OverlayError::BadGrid.to_string().contains("grid"));
+    let beyond = [[0_i64, 0], [i64::MAX, 0], [0, 1]].map(IntPoint::from);
+    assert_eq!(
+        beyond.try_slice_by_grid(1, 1, FillRule::NonZero),
+        Err(OverlayError::OutOfRange)
+    );
+}
+
 #[test]
 fn the_outcome_of_a_contour_is_told() {
     let mut overlay = Overlay::<i32>::new(0);

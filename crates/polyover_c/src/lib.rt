@@ -13,3 +13,4 @@ pub mod relate;
 pub mod simplify;
 pub mod slice;
 pub mod test;
+pub mod tiles;

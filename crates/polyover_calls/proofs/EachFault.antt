@@ -8,6 +8,7 @@ use Rattle.overlay_geom.specs.declared.error.OverlayError.{OverlayError}
 use Rattle.overlay_relate.specs.Prepared.{MayRefusePreparing}
 use Rattle.i_overlay.specs.Alone.{MayRefuseAlone}
 use Rattle.overlay_string.specs.OneShot.{MayRefusePaths as MayRefuseStrings}
+use Rattle.overlay_tiles.specs.Tiles.{MayRefuseTiles}
 use Rattle.polyover_calls.specs.Asked.{solver_of, AreKnown, IsUnknown}
 use Rattle.polyover_calls.specs.Clipped.{AreClips, AreClipChoices, AreClipNumbers, IsUnknownClip}
 use Rattle.polyover_calls.specs.Determined.{TellsOfArguments}
@@ -29,6 +30,7 @@ use Rattle.polyover_calls.specs.RelatedOne.{AreRelationChoices, AreRelationNumbe
 use Rattle.polyover_calls.specs.Simplified.{IsSimplification}
 use Rattle.polyover_calls.specs.Sliced.{AreSlices}
 use Rattle.polyover_calls.specs.Statuses.{ReadsAs, status_of_fault}
+use Rattle.polyover_calls.specs.Tiled.{AreTileChoices, AreTileNumbers, AreTilesOfContours, IsUnknownTiling}
 use Rattle.polyover_calls.specs.Written.{IsFlat, ArePut}
 use Rattle.polyover_calls.specs.WrittenPaths.{AreFlatPaths, ArePathsPut}
 use Rattle.polyover_calls.specs.declared.fault.Fault.{Fault}
@@ -224,6 +226,18 @@ module _ {I U : Type 0} (whole : I → ℤ) (limit : ℕ) (width : Width) (natur
       (one_of_two fill (2 ≤ solver) (solver < 2) (few_or_many solver))
       (not_both fill (2 ≤ solver) (solver < 2) (few_or_many solver))
 
+  -- and after those of tiles
+  pub with_grid : (fill solver : ℕ) (wide high : ℤ) (subject : Contours I) →
+      FaultsAreApart (IsUnknownTiling whole limit fill solver wide high subject)
+      (AreTileNumbers whole limit fill solver wide high subject) (IsFaulty whole limit subject)
+      (AreGiven whole limit subject)
+  with_grid fill solver wide high subject =
+      let Choices = AreTileChoices whole limit solver wide high subject in
+      given_apart (IsUnknownTiling whole limit fill solver wide high subject)
+      (AreTileNumbers whole limit fill solver wide high subject)
+      (one_of_two fill (¬ Choices) Choices (λ none are. none are))
+      (not_both fill (¬ Choices) Choices (λ none are. none are)) subject
+
   -- that it may be refused is told where it is given
   abbrev pub MayAlone : OptionNumbers U → Contours I → OverlayError → Type 0
   MayAlone options given e = AreGiven whole limit given
@@ -331,6 +345,13 @@ module _ {I U : Type 0} (whole : I → ℤ) (limit : ℕ) (width : Width) (natur
         (MayRefusePaths (solver_of solver) (paths_given whole subject clip))
         (AreEdgesIn whole limit fill solver subject clip) edge_arrays
         (λ f is. (is.known, (is.subject_given, is.clip_given)));
+    tiled = λ fill solver wide high subject. one_held (IsUnknownTiling whole limit fill solver wide high subject)
+        (AreTileNumbers whole limit fill solver wide high subject) (IsFaulty whole limit subject)
+        (AreGiven whole limit subject) (with_grid fill solver wide high subject)
+        (λ e. AreGiven whole limit subject
+        × MayRefuseTiles (solver_of solver) wide high (paths_of whole subject) e) (λ e m. m.0)
+        (IsFlat (AreTilesOfContours whole limit width fill solver wide high subject) whole) shape_arrays
+        (λ f is. (is.answer.known, is.answer.subject_given));
     prepared = λ fill solver given parts others. one_telling (IsUnknownQuery fill solver)
         (AreQueryNumbers fill solver) (IsFaulty whole limit given) (AreGiven whole limit given)
         (in_query fill solver given)

@@ -9,7 +9,8 @@ use Rattle.overlay_geom.specs.declared.options.ShapeType.TheVariants.{Subject}
 use Rattle.overlay_builder.specs.GivenPaths.{paths_for}
 use Rattle.overlay_relate.specs.Bounded.{Bounds}
 use Rattle.overlay_relate.specs.Prepared.{MayRefusePreparing}
-use Rattle.overlay_string.specs.OneShot.{MayRefusePaths as MayRefuseStrings}
+use Rattle.overlay_string.specs.OneShot.{MayRefusePaths as MayRefuseStrings, shape_and_strings}
+use Rattle.overlay_tiles.specs.Tiles.{MayRefuseTiles}
 use Rattle.i_overlay.specs.Alone.{MayRefuseAlone}
 use Rattle.i_overlay.specs.OneShot.{MayRefusePaths}
 use Rattle.i_overlay.proofs.OneAnswer.{one_arrangement_of_paths}
@@ -34,6 +35,7 @@ use Rattle.polyover_calls.specs.RelatedOne.{AreRelationNumbers, IsRelatedSo, IsU
 use Rattle.polyover_calls.specs.Simplified.{IsSimplification}
 use Rattle.polyover_calls.specs.Sliced.{AreSlices}
 use Rattle.polyover_calls.specs.Statuses.{IsRefused}
+use Rattle.polyover_calls.specs.Tiled.{AreTileNumbers, AreTilesOfContours, IsTilingRefused, IsUnknownTiling}
 use Rattle.polyover_calls.specs.Written.{Flat, IsFlat, ArePut}
 use Rattle.polyover_calls.specs.WrittenPaths.{FlatPaths, AreFlatPaths, ArePathsPut}
 use Rattle.polyover_calls.specs.declared.clip_options.ClipOptions.{ClipOptions}
@@ -41,17 +43,17 @@ use Rattle.polyover_calls.specs.declared.fault.Fault.{Fault}
 use Rattle.polyover_calls.specs.declared.numbers.OptionNumbers.{OptionNumbers}
 use Rattle.polyover_calls.specs.declared.status.Status.{Status}
 use Rattle.polyover_calls.specs.declared.status.Status.TheVariants.{Done, Memory}
-use Rattle.polyover_calls.proofs.EachFault.{one_of_two, not_both, few_or_many, with_options, MayAlone}
+use Rattle.polyover_calls.proofs.EachFault.{one_of_two, not_both, few_or_many, with_options, with_grid, MayAlone}
 use Rattle.polyover_calls.proofs.EachFault.{calls_tell_one_fault, results_tell_one_fault}
 use Rattle.polyover_calls.proofs.Asking.{askings_are_one}
 use Rattle.polyover_calls.proofs.EarlyFaults.{FaultsAreApart, put_late, done_late, one_end}
 use Rattle.polyover_calls.proofs.OneAnswer.{one_relating, same_clip, same_edges, same_hierarchy, same_overlay}
-use Rattle.polyover_calls.proofs.OneAnswer.{same_simplification, same_slices}
+use Rattle.polyover_calls.proofs.OneAnswer.{same_simplification, same_slices, same_tiles}
 use Rattle.polyover_calls.proofs.OneFault.{one_unknown, not_known, AreBothGiven, both_apart}
 use Rattle.polyover_calls.proofs.OnePut.{one_put}
 use Rattle.polyover_calls.proofs.OneRelation.{one_telling_of_relation}
 use Rattle.polyover_calls.proofs.SnappedCalls.{not_alone, not_lines}
-use Rattle.polyover_calls.proofs.TwoRuns.{alike, ends_once, light_alone, light_lines}
+use Rattle.polyover_calls.proofs.TwoRuns.{alike, ends_once, light_alone, light_lines, light_tiles}
 
 -- ---- calls with an answer
 
@@ -190,6 +192,24 @@ module _ {I U : Type 0} (whole : I → ℤ) (limit : ℕ) (width : Width) (natur
         (λ f is m. light_alone false 0 (paths_given whole subject lines) is.answer.content is.answer.edges refl
         is.answer.holds is.answer.arranged m.1.1)
         (same_edges whole limit one fill subject lines)
+
+  module _ (fill : ℕ) (wide high : ℤ) (subject : Contours I) where
+    tiles_written : {R : Type 0} (AreWritten : Flat I → R → R → Status → Type 0) →
+        ((f : Flat I) (old new : R) (s : Status) → AreWritten f old new s → ¬ (TellsOfArguments s)) →
+        ((f : Flat I) (old new newer : R) (s t : Status) → AreWritten f old new s → AreWritten f old newer t →
+        (s ≡ t) × (new ≡ newer)) →
+        EndsOnce (EndsInto (IsFlat (AreTilesOfContours whole limit width fill 0 wide high subject) whole) AreWritten
+        (IsTilingRefused whole limit fill 0 wide high subject))
+    tiles_written = written_once (IsUnknownTiling whole limit fill 0 wide high subject)
+        (AreTileNumbers whole limit fill 0 wide high subject) (IsFaulty whole limit subject)
+        (AreGiven whole limit subject) (with_grid whole limit width natural fill 0 wide high subject)
+        (λ e. AreGiven whole limit subject × MayRefuseTiles (solver_of 0) wide high (paths_of whole subject) e)
+        (λ e m. m.0)
+        (λ m. not_lines 0 (shape_and_strings (paths_of whole subject) m.1.lines) refl m.1.refused)
+        (IsFlat (AreTilesOfContours whole limit width fill 0 wide high subject) whole)
+        (λ f is. (is.answer.known, is.answer.subject_given))
+        (λ f is m. light_tiles width (fill_of fill) wide high (paths_of whole subject) is.shapes is.answer.tiles m.1)
+        (same_tiles whole limit one width fill wide high subject)
 
   module _ (fill : ℕ) (options : ClipOptions) (shape lines : Contours I) (snaps : options.solver ≡ 0) where
     clips_written : {R : Type 0} (AreWritten : FlatPaths I → R → R → Status → Type 0) →
@@ -336,4 +356,6 @@ module _ {I U : Type 0} (whole : I → ℤ) (limit : ℕ) (width : Width) (natur
         (λ f old new s are. done_late s are.0) (handed path_arrays) no_arrays;
     listed = λ fill subject clip. edges_written fill subject clip (AreHeld edge_arrays)
         (λ f old new s are. done_late s are.0) (handed edge_arrays) no_arrays;
+    tiled = λ fill wide high subject. tiles_written fill wide high subject (AreHeld shape_arrays)
+        (λ f old new s are. done_late s are.0) (handed shape_arrays) no_arrays;
   }

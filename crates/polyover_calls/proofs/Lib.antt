@@ -33,5 +33,6 @@ pub mod ShapesRead
 pub mod Simplified
 pub mod Sliced
 pub mod SnappedCalls
+pub mod Tiled
 pub mod TwoRuns
 pub mod WithinPoints

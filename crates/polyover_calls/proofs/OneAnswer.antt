@@ -11,6 +11,7 @@ use Rattle.overlay_plane.specs.Islands.{ChildLink}
 use Rattle.overlay_order.specs.Vectors.{Vector}
 use Rattle.overlay_string.specs.OneShot.{AreClippedOfPaths}
 use Rattle.overlay_string.proofs.OneAnswer.{one_clip_of_strings, one_slicing_along_strings}
+use Rattle.overlay_tiles.proofs.OneGrid.{one_tiling_of_paths}
 use Rattle.i_overlay.specs.OneShot.{IsResultOfPaths, IsHierarchyOfPaths}
 use Rattle.i_overlay.specs.Simplified.{IsSimplifiedAlone}
 use Rattle.i_overlay.proofs.OneAnswer.{one_answer, one_hierarchy, one_list_of_edges, one_simplification}
@@ -19,16 +20,18 @@ use Rattle.polyover_calls.specs.Arrays.{coordinates_of, ends_of}
 use Rattle.polyover_calls.specs.Asked.{rule_of, fill_of, solver_of, options_of}
 use Rattle.polyover_calls.specs.Clipped.{AreClips, clip_rule_of}
 use Rattle.polyover_calls.specs.Given.{Contours, paths_given, paths_of}
+use Rattle.polyover_calls.specs.Held.{AreHeld, shape_arrays}
 use Rattle.polyover_calls.specs.Lines.{shape_and_lines}
 use Rattle.polyover_calls.specs.Hierarchies.{IsLinkedOverlay}
 use Rattle.polyover_calls.specs.Linked.{LinkedFlat, AreFlatLinked, ArePutLinked, link_at}
 use Rattle.polyover_calls.specs.Listed.{EdgeArrays, AreEdgesIn, AreListed, AreEdgesPut, ends_of_vector}
 use Rattle.polyover_calls.specs.OneAnswer.{OneOverlay, OneLinkedOverlay, OneListing, OneSimplificationOfArrays}
-use Rattle.polyover_calls.specs.OneAnswer.{OneSlicingOfArrays, OneClipOfArrays, OneRelating}
+use Rattle.polyover_calls.specs.OneAnswer.{OneSlicingOfArrays, OneTilingOfArrays, OneClipOfArrays, OneRelating}
 use Rattle.polyover_calls.specs.Overlays.{IsOverlay}
 use Rattle.polyover_calls.specs.Related.{bits_of}
 use Rattle.polyover_calls.specs.Simplified.{IsSimplification}
 use Rattle.polyover_calls.specs.Sliced.{AreSlices}
+use Rattle.polyover_calls.specs.Tiled.{AreTilesOfContours}
 use Rattle.polyover_calls.specs.Written.{Flat, IsFlat, AreFlattened, ArePut}
 use Rattle.polyover_calls.specs.WrittenPaths.{FlatPaths, AreFlatPaths, ArePathsFlattened, ArePathsPut}
 use Rattle.polyover_calls.specs.declared.clip_options.ClipOptions.{ClipOptions}
@@ -157,6 +160,19 @@ module _ {I : Type 0} (whole : I → ℤ) (limit : ℕ) (one : (x y : I) → who
     one_slicing fill subject lines old new newer s t a b =
         let same = same_slices fill subject lines a.answer b.answer a.right b.right in
         one_put _ _ _ new newer s t (subst (λ f. ArePut f old new s) same a.put) b.put
+
+    pub same_tiles : (fill : ℕ) (wide high : ℤ) (subject : Contours I) (f g : Flat I) →
+        IsFlat (AreTilesOfContours whole limit width fill 0 wide high subject) whole f →
+        IsFlat (AreTilesOfContours whole limit width fill 0 wide high subject) whole g → f ≡ g
+    same_tiles fill wide high subject f g a b = one_flat a.shapes b.shapes f g
+        (one_tiling_of_paths one_slicing_along_strings width (fill_of fill) wide high (paths_of whole subject) a.shapes
+        b.shapes a.answer.tiles b.answer.tiles) a.flattened b.flattened
+
+    pub one_tiling : OneTilingOfArrays whole limit width
+    one_tiling fill wide high subject old new newer s t a b =
+        let same = same_tiles fill wide high subject a.answer b.answer a.right b.right in
+        let first = subst (λ f. AreHeld shape_arrays f old new s) same a.put in
+        (first.0 ∙ sym b.put.0, first.1 ∙ sym b.put.1)
 
     module _ {U : Type 0} (natural : U → ℕ) where
       pub same_overlay : (rule fill : ℕ) (options : OptionNumbers U) (subject clip : Contours I) (f g : Flat I) →

@@ -71,6 +71,13 @@ mapped_parts v f [] = refl
 mapped_parts v f (x ∷ rest) = ap (λ ys. map v (f x) ++ ys) (mapped_parts v f rest)
     ∙ sym (map-append v (f x) (flat_map f rest))
 
+-- the points of all packed paths, one path after another, are all points
+pub all_points : {I : Type 0} (whole : I → ℤ) (ps : List (IntPoint I)) (rs : List (Range ℕ)) → IsPacked ps rs →
+    flat_map (λ path. path) (paths_in whole ps rs) ≡ plain_points whole ps
+all_points whole ps rs packed = flat_map-map (λ path. path) (λ r. plain_points whole (part_in ps r)) rs
+    ∙ mapped_parts (plain_point whole) (part_in ps) rs
+    ∙ ap (plain_points whole) (sym (joined ps 0 rs (length ps) packed refl))
+
 module _ {I : Type 0} (whole : I → ℤ) (one : (a b : I) → whole a ≡ whole b → a ≡ b) where
   -- points at the same whole points are one list
   same_points : (ps qs : List (IntPoint I)) → plain_points whole ps ≡ plain_points whole qs → ps ≡ qs
@@ -86,13 +93,6 @@ module _ {I : Type 0} (whole : I → ℤ) (one : (a b : I) → whole a ≡ whole
       (same_points ps qs (same_tail (plain_point whole p) (plain_point whole q) (plain_points whole ps)
       (plain_points whole qs) same))
 
-  -- the points of all packed paths, one path after another, are all points
-  all_points : (ps : List (IntPoint I)) (rs : List (Range ℕ)) → IsPacked ps rs →
-      flat_map (λ path. path) (paths_in whole ps rs) ≡ plain_points whole ps
-  all_points ps rs packed = flat_map-map (λ path. path) (λ r. plain_points whole (part_in ps r)) rs
-      ∙ mapped_parts (plain_point whole) (part_in ps) rs
-      ∙ ap (plain_points whole) (sym (joined ps 0 rs (length ps) packed refl))
-
   -- each path is as long as its part
   lengths : (ps : List (IntPoint I)) (rs : List (Range ℕ)) → map length (paths_in whole ps rs) ≡ map (long ps) rs
   lengths ps [] = refl
@@ -100,8 +100,8 @@ module _ {I : Type 0} (whole : I → ℤ) (one : (a b : I) → whole a ≡ whole
 
   pub one_packing : OnePacking whole
   one_packing points others ranges more packed packed' same = (
-    same_points points others (sym (all_points points ranges packed) ∙ ap (flat_map (λ path. path)) same
-        ∙ all_points others more packed'),
+    same_points points others (sym (all_points whole points ranges packed) ∙ ap (flat_map (λ path. path)) same
+        ∙ all_points whole others more packed'),
     same_ranges points others 0 0 refl ranges more (length points) (length others) packed packed' refl refl
         (sym (lengths points ranges) ∙ ap (map length) same ∙ lengths others more),
   )

@@ -80,6 +80,7 @@ never_unsettled = record {
     sliced = no_end (λ flat held. not_done held.0) (λ r. not_lines 0 _ refl r.1.1.1);
     clipped = λ o zero. no_end (λ flat held. not_done held.0) (λ r. not_lines o.solver _ zero r.1.1.1);
     listed = no_end (λ flat held. not_done held.0) (λ r. not_alone false 0 _ refl r.1.1.1);
+    tiled = λ wide high. no_end (λ flat held. not_done held.0) (λ r. not_lines 0 _ refl r.1.1.refused);
   };
   code = code_is;
 }

@@ -1,13 +1,19 @@
 -- Two runs that find the same arrays put an answer there, or are refused alike, where memory is not wanting.
 use Rattle.std.proofs.Common.{◌≡◌, ◌⊎◌, inl, inr, ⊎_elim, ℕ, Bool, ℤ, List, refl, sym, ◌∙◌, subst}
+use Rattle.std.specs.Int.{Width}
 use Rattle.overlay_geom.specs.Edges.{CountedEdge}
+use Rattle.overlay_geom.specs.Plane.{Point}
+use Rattle.overlay_geom.specs.declared.fill_rule.FillRule.{FillRule}
+use Rattle.overlay_geom.specs.declared.solver.Solver.TheVariants.{Snapping}
 use Rattle.overlay_geom.specs.declared.error.OverlayError.{OverlayError}
 use Rattle.overlay_geom.specs.declared.error.OverlayError.TheVariants as error
 use Rattle.overlay_graph.specs.Arranged.{IsArranged}
 use Rattle.overlay_builder.specs.GivenPaths.{GivenPath, added_paths}
 use Rattle.overlay_builder.specs.PathLists.{HoldsPaths}
 use Rattle.overlay_string.specs.OneShot.{MayRefusePaths as MayRefuseStrings}
-use Rattle.overlay_string.proofs.OneAnswer.{memory_refuses_strings}
+use Rattle.overlay_string.proofs.OneAnswer.{answered_strings_are_refused_by_memory_alone, memory_refuses_strings}
+use Rattle.overlay_tiles.specs.Tiles.{AreTiles, MayRefuseTiles}
+use Rattle.overlay_tiles.proofs.OneGrid.{tiled_paths_are_refused_by_memory_alone}
 use Rattle.i_overlay.specs.Alone.{MayRefuseAlone}
 use Rattle.i_overlay.proofs.OneAnswer.{memory_refuses_paths}
 use Rattle.polyover_calls.specs.Asked.{solver_of}
@@ -54,6 +60,14 @@ light_lines whole n shape lines content es zero holds =
     (shape_and_lines whole shape lines) error.TooManyEdges)) (sym zero)
     (λ arranged may. many_is_not_memory (memory_refuses_strings (paths_of whole shape) (paths_of whole lines) content es
     holds arranged error.TooManyEdges may))
+
+-- nor are paths that have tiles
+pub light_tiles : (width : Width) (fill : FillRule) (wide high : ℤ) (paths : List (List Point))
+    (tiles : List (List (List Point))) → AreTiles Snapping width fill wide high paths tiles →
+    ¬ (MayRefuseTiles Snapping wide high paths error.TooManyEdges)
+light_tiles width fill wide high paths tiles are may = many_is_not_memory
+    (tiled_paths_are_refused_by_memory_alone answered_strings_are_refused_by_memory_alone width fill wide high paths
+    tiles are error.TooManyEdges may)
 
 -- ---- two runs
 

@@ -18,6 +18,7 @@ use Rattle.polyover_calls.specs.RelatedOne.{RelatingOneEnds}
 use Rattle.polyover_calls.specs.Simplified.{SimplifyingEnds}
 use Rattle.polyover_calls.specs.Sliced.{SlicingEnds}
 use Rattle.polyover_calls.specs.Statuses.{ReadsAs}
+use Rattle.polyover_calls.specs.Tiled.{TilesAreHeld}
 use Rattle.polyover_calls.specs.declared.clip_options.ClipOptions.{ClipOptions}
 use Rattle.polyover_calls.specs.declared.numbers.OptionNumbers.{OptionNumbers}
 use Rattle.polyover_calls.specs.declared.status.Status.{Status}
@@ -73,5 +74,7 @@ pub record ResultsTellOneFault {I U : Type 0} (whole : I → ℤ) (limit : ℕ) 
         HandsOneFault (ClipsAreHeld whole limit fill options shape lines)
     pub listed : (fill solver : ℕ) (subject clip : Contours I) →
         HandsOneFault (EdgesAreHeld whole limit fill solver subject clip)
+    pub tiled : (fill solver : ℕ) (wide high : ℤ) (subject : Contours I) →
+        HandsOneFault (TilesAreHeld whole limit width fill solver wide high subject)
     pub prepared : (fill solver : ℕ) (given : Contours I) →
         HandsOneFault (PreparingEnds whole limit fill solver given)

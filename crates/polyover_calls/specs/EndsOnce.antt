@@ -15,6 +15,7 @@ use Rattle.polyover_calls.specs.Related.{RelatingEnds}
 use Rattle.polyover_calls.specs.RelatedOne.{RelatingOneEnds}
 use Rattle.polyover_calls.specs.Simplified.{SimplifyingEnds}
 use Rattle.polyover_calls.specs.Sliced.{SlicingEnds}
+use Rattle.polyover_calls.specs.Tiled.{TilesAreHeld}
 use Rattle.polyover_calls.specs.declared.clip_options.ClipOptions.{ClipOptions}
 use Rattle.polyover_calls.specs.declared.numbers.OptionNumbers.{OptionNumbers}
 use Rattle.polyover_calls.specs.declared.status.Status.{Status}
@@ -60,6 +61,8 @@ pub record ResultsEndOnce {I U : Type 0} (whole : I → ℤ) (limit : ℕ) (widt
   pub clipped : (fill : ℕ) (options : ClipOptions) (shape lines : Contours I) → options.solver ≡ 0 →
       HandsOnce (ClipsAreHeld whole limit fill options shape lines)
   pub listed : (fill : ℕ) (subject clip : Contours I) → HandsOnce (EdgesAreHeld whole limit fill 0 subject clip)
+  pub tiled : (fill : ℕ) (wide high : ℤ) (subject : Contours I) →
+      HandsOnce (TilesAreHeld whole limit width fill 0 wide high subject)
 
 -- shapes that are prepared of the same contours are asked alike, and preparing ends with one status
 pub record ShapesArePreparedOnce {I : Type 0} (whole : I → ℤ) (limit : ℕ) : Type 0 where

@@ -17,6 +17,7 @@ use Rattle.polyover_calls.specs.RelatedOne.{RelatingOneEnds}
 use Rattle.polyover_calls.specs.Simplified.{SimplifyingEnds}
 use Rattle.polyover_calls.specs.Sliced.{SlicingEnds}
 use Rattle.polyover_calls.specs.Statuses.{code_of}
+use Rattle.polyover_calls.specs.Tiled.{TilesAreHeld}
 use Rattle.polyover_calls.specs.Written.{Room}
 use Rattle.polyover_calls.specs.WrittenPaths.{PathRoom}
 use Rattle.polyover_calls.specs.declared.clip_options.ClipOptions.{ClipOptions}
@@ -55,6 +56,7 @@ pub record SnappedResultsSettle (limit : ℕ) (width : Width) (fill : ℕ) (firs
   pub clipped : (o : ClipOptions) → o.solver ≡ 0 →
       ¬ (ClipsAreHeld (λ z. z) limit fill o first second arrays NotSettled)
   pub listed : ¬ (EdgesAreHeld (λ z. z) limit fill 0 first second arrays NotSettled)
+  pub tiled : (wide high : ℤ) → ¬ (TilesAreHeld (λ z. z) limit width fill 0 wide high first arrays NotSettled)
 
 -- no such call ends with `NotSettled`, whatever it is given
 pub record SnappedNeverUnsettled : Type 0 where

@@ -29,5 +29,6 @@ pub mod RelatedOne
 pub mod Simplified
 pub mod Sliced
 pub mod Statuses
+pub mod Tiled
 pub mod Written
 pub mod WrittenPaths

@@ -5,6 +5,7 @@ use Rattle.overlay_geom.specs.Rules.{bit}
 use Rattle.overlay_relate.specs.declared.relations.Relations.{Relations}
 use Rattle.polyover_calls.specs.Clipped.{AreClips}
 use Rattle.polyover_calls.specs.Given.{Contours}
+use Rattle.polyover_calls.specs.Held.{HeldArrays, AreHeld, shape_arrays}
 use Rattle.polyover_calls.specs.Hierarchies.{IsLinkedOverlay}
 use Rattle.polyover_calls.specs.Linked.{LinkedRoom, AreFlatLinked, ArePutLinked}
 use Rattle.polyover_calls.specs.Listed.{EdgeRoom, AreEdgesIn, AreEdgesPut}
@@ -14,6 +15,7 @@ use Rattle.polyover_calls.specs.Related.{AreRelated}
 use Rattle.polyover_calls.specs.RelatedOne.{IsRelatedSo}
 use Rattle.polyover_calls.specs.Simplified.{IsSimplification}
 use Rattle.polyover_calls.specs.Sliced.{AreSlices}
+use Rattle.polyover_calls.specs.Tiled.{AreTilesOfContours}
 use Rattle.polyover_calls.specs.Written.{Room, IsFlat, ArePut}
 use Rattle.polyover_calls.specs.WrittenPaths.{PathRoom, AreFlatPaths, ArePathsPut}
 use Rattle.polyover_calls.specs.declared.clip_options.ClipOptions.{ClipOptions}
@@ -59,6 +61,15 @@ OneSlicingOfArrays {I = I} whole limit width = (fill : ℕ) (subject lines : Con
     (s t : Status) → IsPutInto (IsFlat (AreSlices whole limit width fill 0 subject lines) whole) ArePut old new s →
     IsPutInto (IsFlat (AreSlices whole limit width fill 0 subject lines) whole) ArePut old newer t →
     (s ≡ t) × (new ≡ newer)
+
+-- tiles that are handed out
+abbrev pub OneTilingOfArrays : {I : Type 0} → (I → ℤ) → ℕ → Width → Type 0
+OneTilingOfArrays {I = I} whole limit width = (fill : ℕ) (wide high : ℤ) (subject : Contours I)
+    (old new newer : HeldArrays I) (s t : Status) →
+    IsPutInto (IsFlat (AreTilesOfContours whole limit width fill 0 wide high subject) whole) (AreHeld shape_arrays) old
+    new s →
+    IsPutInto (IsFlat (AreTilesOfContours whole limit width fill 0 wide high subject) whole) (AreHeld shape_arrays) old
+    newer t → (s ≡ t) × (new ≡ newer)
 
 -- bits that tell relations
 abbrev pub OneRelating : {I : Type 0} → (I → ℤ) → ℕ → Type 0

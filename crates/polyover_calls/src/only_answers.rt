@@ -1,7 +1,8 @@
 //! What a call puts into the arrays of a caller is the only answer to its arguments, by snap rounding.
 
 ghost use Rattle.polyover_calls.specs.OneAnswer.{OneOverlay, OneLinkedOverlay, OneListing, OneSimplificationOfArrays};
-ghost use Rattle.polyover_calls.specs.OneAnswer.{OneSlicingOfArrays, OneClipOfArrays, OneRelating, OneRelationOfAll};
+ghost use Rattle.polyover_calls.specs.OneAnswer.{OneSlicingOfArrays, OneTilingOfArrays, OneClipOfArrays, OneRelating};
+ghost use Rattle.polyover_calls.specs.OneAnswer.{OneRelationOfAll};
 ghost use Rattle.polyover_calls.specs.EndsOnce.{CallsEndOnce, ResultsEndOnce, ShapesArePreparedOnce};
 
 use overlay_geom::integer::OverlayInt;
@@ -14,6 +15,7 @@ pub fn one_answer<I: OverlayInt>()
     ensures edges { OneListing I.whole I.limit }
     ensures simplify { OneSimplificationOfArrays I.whole I.limit I.Wide.width I.WideUInt.natural }
     ensures slice { OneSlicingOfArrays I.whole I.limit I.Wide.width }
+    ensures tiles { OneTilingOfArrays I.whole I.limit I.Wide.width }
     ensures clip { OneClipOfArrays I.whole I.limit }
     ensures relate { OneRelating I.whole I.limit }
     ensures relate_one { OneRelationOfAll I.whole I.limit }

@@ -46,6 +46,14 @@ pub(crate) trait Engine: 'static + Sized {
         lines: Given<'_, Self::C>,
     ) -> Result<Held<Self>, OverlayError>;
 
+    /// The tiles into which the cells of a grid cut a subject: `cell` has their width and height, from 1 on.
+    fn tiles(
+        fill: FillRule,
+        solver: Solver,
+        subject: Given<'_, Self::C>,
+        cell: Given<'_, Self::C>,
+    ) -> Result<Held<Self>, OverlayError>;
+
     /// The parts of lines that a clip keeps.
     fn clip(
         fill: FillRule,
@@ -177,6 +185,20 @@ macro_rules! engine {
                 let (subject, lines) = (subject.raw(), lines.raw());
                 // SAFETY: as said above.
                 unsafe { Held::of(|to| sys::$width::slice(fill.number(), solver.number(), &subject, &lines, to)) }
+            }
+
+            fn tiles(
+                fill: FillRule,
+                solver: Solver,
+                subject: Given<'_, $c>,
+                cell: Given<'_, $c>,
+            ) -> Result<Held<Self>, OverlayError> {
+                // (a wider cell than the range has the same lines)
+                let side = |at: usize| cell.coordinates.get(at).map_or(0, |&it| it.min(<$c>::MAX >> 1));
+                let (fill, solver, width, height) = (fill.number(), solver.number(), side(0), side(1));
+                let subject = subject.raw();
+                // SAFETY: as said above.
+                unsafe { Held::of(|to| sys::$width::tiles(fill, solver, &subject, width, height, to)) }
             }
 
             fn clip(

@@ -8,6 +8,7 @@ pub(crate) const OK: Status = 0;
 pub(crate) const MEMORY: Status = 1;
 pub(crate) const OUT_OF_RANGE: Status = 3;
 pub(crate) const NOT_RESOLVED: Status = 4;
+pub(crate) const BAD_OPTION: Status = 7;
 pub(crate) const NOT_SETTLED: Status = 8;
 pub(crate) const TOO_MANY_EDGES: Status = 9;
 
@@ -126,6 +127,15 @@ macro_rules! calls {
                     solver: u32,
                     subject: *const Contours<$c>,
                     lines: *const Contours<$c>,
+                    result: *mut Answer<$c>,
+                ) -> Status;
+                #[link_name = concat!("polyover_tiles_result", $suffix)]
+                pub(crate) fn tiles(
+                    fill: u32,
+                    solver: u32,
+                    subject: *const Contours<$c>,
+                    width: $c,
+                    height: $c,
                     result: *mut Answer<$c>,
                 ) -> Status;
                 #[link_name = concat!("polyover_clip_result", $suffix)]

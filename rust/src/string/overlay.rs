@@ -40,6 +40,16 @@ impl<I: OverlayInt> Query for Sliced<I> {
     }
 }
 
+struct Tiled<I>(FillRule, Solver, PhantomData<I>);
+
+impl<I: OverlayInt> Query for Tiled<I> {
+    type Answer = IntShapes<I>;
+
+    fn ask<E: Engine>(&self, shape: Given<'_, E::C>, cell: Given<'_, E::C>) -> Result<IntShapes<I>, OverlayError> {
+        shapes_of(&E::tiles(self.0, self.1, shape, cell)?)
+    }
+}
+
 struct Clipped<I>(FillRule, Keep, Solver, PhantomData<I>);
 
 impl<I: OverlayInt> Query for Clipped<I> {
@@ -247,6 +257,28 @@ impl<I: OverlayInt> StringOverlay<I> {
         self.options.refuse_any()?;
         let query = Sliced(fill_rule, solver, PhantomData);
         I::ask(&query, self.shape.as_given(), self.strings.as_given())
+    }
+
+    /// The tiles into which the cells of a grid cut the shape, each in one cell. Cells are `width` wide and `height`
+    /// high, and a node of the grid is at (0, 0). The strings play no part. `i_overlay` has no such call.
+    ///
+    /// # Errors
+    /// As of [`Self::try_clip`]; `BadGrid` where a side is below 1, or more than 1,000 lines cross the box of all
+    /// points in a direction.
+    pub fn try_slice_by_grid(
+        &self,
+        width: I,
+        height: I,
+        fill_rule: FillRule,
+        solver: Solver,
+    ) -> Result<IntShapes<I>, OverlayError> {
+        self.options.refuse_any()?;
+        let query = Tiled(fill_rule, solver, PhantomData);
+        let cell = Given {
+            coordinates: &[width, height],
+            ends: &[1],
+        };
+        I::ask(&query, self.shape.as_given(), cell)
     }
 
     /// The parts of the strings that the rules keep.

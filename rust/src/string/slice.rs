@@ -40,6 +40,21 @@ pub trait IntSlice<I: OverlayInt> {
         answered(self.try_slice_by_source(source, fill_rule))
     }
 
+    /// The tiles into which the cells of a grid cut this one.
+    ///
+    /// # Errors
+    /// As of [`StringOverlay::try_slice_by_grid`].
+    fn try_slice_by_grid(&self, width: I, height: I, fill_rule: FillRule) -> Result<IntShapes<I>, OverlayError>;
+
+    /// Slices by the cells of a grid, as [`StringOverlay::try_slice_by_grid`] does.
+    ///
+    /// # Panics
+    /// Where [`Self::try_slice_by_grid`] is refused.
+    #[track_caller]
+    fn slice_by_grid(&self, width: I, height: I, fill_rule: FillRule) -> IntShapes<I> {
+        answered(self.try_slice_by_grid(width, height, fill_rule))
+    }
+
     /// Slices by a line.
     ///
     /// # Panics
@@ -88,5 +103,11 @@ where
         fill_rule: FillRule,
     ) -> Result<IntShapes<I>, OverlayError> {
         StringOverlay::try_of(self, source)?.try_slice(fill_rule, Solver::default())
+    }
+
+    fn try_slice_by_grid(&self, width: I, height: I, fill_rule: FillRule) -> Result<IntShapes<I>, OverlayError> {
+        let mut overlay = StringOverlay::new(0);
+        overlay.try_add_shape_source(self)?;
+        overlay.try_slice_by_grid(width, height, fill_rule, Solver::default())
     }
 }

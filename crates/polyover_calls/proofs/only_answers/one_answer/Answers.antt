@@ -1,6 +1,6 @@
 -- The laws are proved in proofs/OneAnswer.antt.
 use Rattle.polyover_calls.proofs.OneAnswer.{one_overlay, one_linked_overlay, one_listing, one_simplification_of_arrays}
-use Rattle.polyover_calls.proofs.OneAnswer.{one_slicing, one_clip, one_relating}
+use Rattle.polyover_calls.proofs.OneAnswer.{one_slicing, one_tiling, one_clip, one_relating}
 use Rattle.polyover_calls.proofs.OneRelation.{one_relation_of_all}
 use Rattle.polyover_calls.proofs.only_answers.one_answer.Goals as goal
 
@@ -21,6 +21,10 @@ returns-clause-simplify g c = one_simplification_of_arrays g.I.IntNumber.whole g
 
 pub returns-clause-slice : goal.returns-clause-slice
 returns-clause-slice g c = one_slicing g.I.IntNumber.whole g.I.IntNumber.limit g.met.I.IntNumber.same
+    g.I.Wide.WideIntNumber.width
+
+pub returns-clause-tiles : goal.returns-clause-tiles
+returns-clause-tiles g c = one_tiling g.I.IntNumber.whole g.I.IntNumber.limit g.met.I.IntNumber.same
     g.I.Wide.WideIntNumber.width
 
 pub returns-clause-clip : goal.returns-clause-clip
