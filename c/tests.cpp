@@ -91,6 +91,12 @@ void options() {
     const polyover::basic_contours<Coordinate> neighbour(beside, it.four);
     CHECK(is(value_of(overlay(rule::union_, fill::non_zero, it.subject, neighbour)).contour_ends(), {4}));
     CHECK(is(value_of(overlay(rule::union_, fill::non_zero, it.subject, neighbour, how)).contour_ends(), {6}));
+    const std::vector<Coordinate> longer_at = {0, 0, 2, 0, 4, 0, 4, 4, 0, 4};
+    const std::vector<std::size_t> five = {5};
+    const polyover::basic_contours<Coordinate> longer(longer_at, five);
+    CHECK(is(value_of(overlay(rule::subject, fill::non_zero, longer, {}, how)).contour_ends(), {4}));
+    how.keep_given = true;
+    CHECK(is(value_of(overlay(rule::subject, fill::non_zero, longer, {}, how)).contour_ends(), {5}));
     /* (a square with a hole that touches its left side) */
     const std::vector<Coordinate> touched_at = {0, 0, 6, 0, 6, 6, 0, 6, 0, 3, 2, 4, 2, 2};
     const std::vector<std::size_t> touched_ends = {4, 7};

@@ -94,7 +94,7 @@ static polyover_status TEST(linked)(polyover_rule rule, polyover_fill fill, cons
 }
 
 static void TEST(hierarchy_statuses)(void) {
-    const OPTIONS by_default = {0}, direction = {.direction = 2}, keep = {.keep = 2}, solver = {.solver = 2};
+    const OPTIONS by_default = {0}, direction = {.direction = 2}, keep = {.keep = 4}, solver = {.solver = 2};
     const OPTIONS touching = {.touching = UINT32_MAX};
     const NUMBER beyond[] = {0, 0, LIMIT, 0, -LIMIT - 1, 4, 0, 4}, far[] = {-LIMIT, -LIMIT, LIMIT, -LIMIT, 0, LIMIT};
     const size_t four[] = {4}, three[] = {3}, falling[] = {4, 3};

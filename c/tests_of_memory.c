@@ -283,7 +283,7 @@ static void numbers(void) {
     asked of = squares();
     of.subject = bad;
     of.clip = far;
-    of.options.keep = 2;
+    of.options.keep = 4;
     TESTED_FIRST(overlay, &of, POLYOVER_BAD_OPTION);
     TESTED_FIRST(hierarchy, &of, POLYOVER_BAD_OPTION);
     TESTED_FIRST(simplify, &of, POLYOVER_BAD_OPTION);

@@ -208,7 +208,7 @@ static void TEST(results_by_default)(void) {
     } while (0)
 
 static void TEST(results_refused)(void) {
-    const OPTIONS bad_option = {.keep = 2}, by_default = {0};
+    const OPTIONS bad_option = {.keep = 4}, by_default = {0};
     const polyover_clip_options bad_kept = {.boundary = 2}, kept = {0};
     const NUMBER beyond[] = {0, 0, LIMIT, 0, -LIMIT - 1, 4, 0, 4};
     const size_t four[] = {4}, falling[] = {4, 3};

@@ -149,7 +149,7 @@ static polyover_status TEST(asked)(TEST(room) *room, polyover_rule rule, polyove
 }
 
 static void TEST(refusals)(void) {
-    const OPTIONS by_default = {0}, direction = {.direction = 2}, keep = {.keep = 2}, solver = {.solver = 2};
+    const OPTIONS by_default = {0}, direction = {.direction = 2}, keep = {.keep = 4}, solver = {.solver = 2};
     const OPTIONS touching = {.touching = UINT32_MAX};
     const NUMBER beyond[] = {0, 0, LIMIT, 0, -LIMIT - 1, 4, 0, 4};
     const size_t four[] = {4}, three[] = {3};
@@ -187,7 +187,8 @@ static void TEST(options)(void) {
     const NUMBER twice[] = {0, 3, 0, 0, 6, 0, 6, 6, 0, 6, 0, 3, 2, 4, 2, 2};
     const size_t five[] = {5}, two[] = {4, 7};
     const CONTOURS square = {longer, 10, five, 1}, none = {NULL, 0, NULL, 0}, touched = {holed, 14, two, 2};
-    const OPTIONS by_default = {0}, keep = {.keep = 1}, touching = {.touching = 1};
+    const OPTIONS by_default = {0}, keep = {.keep = 1}, given = {.keep = 2}, both = {.keep = 3};
+    const OPTIONS touching = {.touching = 1};
     const OPTIONS large = SMALLEST(17), equal = SMALLEST(16);
     TEST(room) room;
     CHECK(TEST(asked)(&room, POLYOVER_SUBJECT, POLYOVER_NON_ZERO, &by_default, &square, &none) == POLYOVER_OK);
@@ -196,15 +197,33 @@ static void TEST(options)(void) {
     CHECK(TEST(has_counts)(&room, 8, 1, 1));
     CHECK(TEST(asked)(&room, POLYOVER_SUBJECT, POLYOVER_NON_ZERO, &large, &square, &none) == POLYOVER_OK);
     CHECK(TEST(has_counts)(&room, 0, 0, 0));
-    /* (collinear input points are dropped all the same) */
+    /* (collinear input points are dropped all the same, or from the answer alone) */
     CHECK(TEST(asked)(&room, POLYOVER_SUBJECT, POLYOVER_NON_ZERO, &keep, &square, &none) == POLYOVER_OK);
     CHECK(TEST(has_counts)(&room, 8, 1, 1));
+    CHECK(TEST(asked)(&room, POLYOVER_SUBJECT, POLYOVER_NON_ZERO, &given, &square, &none) == POLYOVER_OK);
+    CHECK(TEST(has_counts)(&room, 8, 1, 1));
+    CHECK(TEST(asked)(&room, POLYOVER_SUBJECT, POLYOVER_NON_ZERO, &both, &square, &none) == POLYOVER_OK);
+    CHECK(TEST(has_counts)(&room, 10, 1, 1));
     CHECK(TEST(asked)(&room, POLYOVER_SUBJECT, POLYOVER_EVEN_ODD, &by_default, &touched, &none) == POLYOVER_OK);
     CHECK(TEST(has_counts)(&room, 14, 2, 1) && memcmp(room.coordinates, valid, sizeof valid) == 0);
     CHECK(TEST(asked)(&room, POLYOVER_SUBJECT, POLYOVER_EVEN_ODD, NULL, &touched, &none) == POLYOVER_OK);
     CHECK(TEST(has_counts)(&room, 14, 2, 1) && memcmp(room.coordinates, valid, sizeof valid) == 0);
     CHECK(TEST(asked)(&room, POLYOVER_SUBJECT, POLYOVER_EVEN_ODD, &touching, &touched, &none) == POLYOVER_OK);
     CHECK(TEST(has_counts)(&room, 16, 1, 1) && memcmp(room.coordinates, twice, sizeof twice) == 0);
+}
+
+/* A given point on one line with its neighbours, (3, 0), is 1/5 below an edge of the clip, which is led through it
+ * where the point is kept, and through (4, 0) and (8, -1), where it meets the subject. */
+static void TEST(given_points)(void) {
+    const NUMBER side[] = {0, 0, 0, -4, 8, -4, 8, 0, 3, 0}, near_it[] = {-1, 1, 9, -1, 9, 5};
+    const size_t five[] = {5}, three[] = {3};
+    const CONTOURS subject = {side, 10, five, 1}, clip = {near_it, 6, three, 1};
+    const OPTIONS by_default = {0}, given = {.keep = 2};
+    TEST(room) room;
+    CHECK(TEST(asked)(&room, POLYOVER_CLIP, POLYOVER_NON_ZERO, &by_default, &subject, &clip) == POLYOVER_OK);
+    CHECK(TEST(has_counts)(&room, 10, 1, 1));
+    CHECK(TEST(asked)(&room, POLYOVER_CLIP, POLYOVER_NON_ZERO, &given, &subject, &clip) == POLYOVER_OK);
+    CHECK(TEST(has_counts)(&room, 12, 1, 1));
 }
 
 static polyover_status TEST(simplified)(TEST(room) *room, polyover_fill fill, const OPTIONS *options,
@@ -219,11 +238,12 @@ static polyover_status TEST(simplified)(TEST(room) *room, polyover_fill fill, co
 
 static void TEST(simplifying)(void) {
     const NUMBER crossing[] = {0, 0, 4, 4, 4, 0, 0, 4}, beyond[] = {LIMIT, 0, 0, LIMIT, -LIMIT - 1, 0};
-    const size_t four[] = {4}, three[] = {3};
+    const NUMBER on_side[] = {0, 0, 2, 0, 4, 0, 4, 4, 0, 4};
+    const size_t four[] = {4}, three[] = {3}, five[] = {5};
     const CONTOURS square = {TEST(subject_at), 8, four, 1}, cross = {crossing, 8, four, 1}, far = {beyond, 6, three, 1};
-    const CONTOURS bad = {crossing, 8, three, 1};
-    const OPTIONS by_default = {0}, clockwise = {.direction = 1}, large = SMALLEST(17);
-    const OPTIONS unknown[] = {{.direction = 2}, {.keep = 2}, {.touching = 2}, {.solver = 2}};
+    const CONTOURS bad = {crossing, 8, three, 1}, longer = {on_side, 10, five, 1};
+    const OPTIONS by_default = {0}, given = {.keep = 2}, clockwise = {.direction = 1}, large = SMALLEST(17);
+    const OPTIONS unknown[] = {{.direction = 2}, {.keep = 4}, {.touching = 2}, {.solver = 2}};
     TEST(room) room;
     CHECK(TEST(simplified)(&room, POLYOVER_NON_ZERO, &by_default, &square, 64) == POLYOVER_OK);
     CHECK(TEST(has_counts)(&room, 8, 1, 1));
@@ -234,6 +254,11 @@ static void TEST(simplifying)(void) {
     CHECK(TEST(simplified)(&room, POLYOVER_NON_ZERO, &clockwise, &square, 64) == POLYOVER_OK);
     CHECK(TEST(has_counts)(&room, 8, 1, 1));
     CHECK(memcmp(room.coordinates, TEST(subject_at), 8 * sizeof(NUMBER)) != 0);
+    /* (a contour with a point on a side is simple where that point is kept) */
+    CHECK(TEST(simplified)(&room, POLYOVER_NON_ZERO, &by_default, &longer, 64) == POLYOVER_OK);
+    CHECK(TEST(has_counts)(&room, 8, 1, 1));
+    CHECK(TEST(simplified)(&room, POLYOVER_NON_ZERO, &given, &longer, 64) == POLYOVER_OK);
+    CHECK(TEST(has_counts)(&room, 10, 1, 1) && memcmp(room.coordinates, on_side, sizeof on_side) == 0);
     CHECK(TEST(simplified)(&room, POLYOVER_NEGATIVE, &by_default, &square, 64) == POLYOVER_OK);
     CHECK(TEST(has_counts)(&room, 0, 0, 0));
     CHECK(TEST(simplified)(&room, POLYOVER_NON_ZERO, &large, &square, 64) == POLYOVER_OK);
@@ -277,6 +302,7 @@ static void TEST(all)(void) {
     TEST(too_small)();
     TEST(refusals)();
     TEST(options)();
+    TEST(given_points)();
     TEST(simplifying)();
     TEST(relations)();
     TEST(small_triangles)();

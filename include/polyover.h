@@ -11,7 +11,7 @@
  * and the last one is half of `coordinate_count`. Without contours both counts are 0. A contour may have no points.
  *
  * Points of a contour on one line with their two neighbours are dropped, one by one, before its edges are made, in all
- * calls but `polyover_in_range`, `polyover_resolved` and `polyover_locate`.
+ * calls but `polyover_in_range`, `polyover_resolved` and `polyover_locate`, and where options keep them.
  *
  * All arrays and structs are the caller's, and nothing is kept after a call; only what a `polyover_result` or a
  * `polyover_prepared` holds is to be freed. Each array behind a `const` is only read. An array of length 0 may be a
@@ -55,8 +55,8 @@ enum {
     POLYOVER_NOT_RESOLVED = 4, /* two steps of a contour share a point that is not an end of both */
     POLYOVER_BAD_RULE = 5,     /* no overlay rule has the number */
     POLYOVER_BAD_FILL = 6,     /* no fill rule has the number */
-    /* a direction, keep, touching, invert, boundary or solver that is neither 0 nor 1, a number that is not the bit of
-     * a relation, or a grid that does not fit */
+    /* a direction, touching, invert, boundary or solver that is neither 0 nor 1, a keep above 3, a number that is not
+     * the bit of a relation, or a grid that does not fit */
     POLYOVER_BAD_OPTION = 7,
     /* after 64 rounds of splitting edges still meet in points that are no ends of both: some that cross very flatly do.
      * It comes of POLYOVER_ROUNDS alone; POLYOVER_SNAPPED splits these edges too. */
@@ -137,7 +137,9 @@ enum {
  * valid polygons, as OGC defines them. */
 typedef struct {
     uint32_t direction; /* of outlines: 0 counter-clockwise, 1 clockwise; holes run the other way */
-    uint32_t keep;      /* 1: points of the answer on one line with their two neighbours are kept; 0: dropped */
+    /* which points on one line with their two neighbours are kept, a sum: 1 those of the answer, 2 those of the given
+     * contours; 0 none. With 2 alone given ones split edges as ends do, and are dropped from the answer. */
+    uint32_t keep;
     uint32_t touching;  /* 0: no contour visits a point twice, as in valid polygons; 1: it may */
     polyover_solver solver;
     /* contours of a smaller area than min_area_high * 2^64 + min_area_low, in squared units, are left out, and so are

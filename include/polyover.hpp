@@ -233,6 +233,7 @@ struct options {
     /// Contours of a smaller area than min_area_high * 2^64 + min_area_low, in squared units, are left out.
     std::uint64_t min_area_high = 0;
     std::uint64_t min_area_low = 0;
+    bool keep_given = false; ///< given points on one line are kept: they split edges as ends do
 };
 
 /// The same for 32-bit coordinates.
@@ -242,6 +243,7 @@ struct options_32 {
     bool touching = false;
     polyover::solver solver = polyover::solver::snapped;
     std::uint64_t min_area = 0;
+    bool keep_given = false;
 };
 
 /// The parts of lines that a clip keeps, and how edges are split.
@@ -257,6 +259,11 @@ namespace detail {
 template <class Named>
 [[nodiscard]] constexpr auto number(Named named) noexcept {
     return static_cast<std::underlying_type_t<Named>>(named);
+}
+
+/// Returns the sum that tells which points on one line are kept.
+[[nodiscard]] constexpr std::uint32_t kept(bool of_answer, bool given) noexcept {
+    return (of_answer ? 1u : 0u) + (given ? 2u : 0u);
 }
 
 /// The types and the calls of polyover.h for a type of coordinates.
@@ -292,7 +299,8 @@ struct width<std::int64_t> {
     static constexpr auto free_prepared = polyover_prepared_free;
 
     [[nodiscard]] static constexpr polyover_options raw(const options &it) noexcept {
-        return {number(it.direction), it.keep, it.touching, number(it.solver), it.min_area_high, it.min_area_low};
+        const std::uint32_t keep = kept(it.keep, it.keep_given);
+        return {number(it.direction), keep, it.touching, number(it.solver), it.min_area_high, it.min_area_low};
     }
 };
 
@@ -325,7 +333,8 @@ struct width<std::int32_t> {
     static constexpr auto free_prepared = polyover_prepared_free_32;
 
     [[nodiscard]] static constexpr polyover_options_32 raw(const options &it) noexcept {
-        return {number(it.direction), it.keep, it.touching, number(it.solver), it.min_area};
+        const std::uint32_t keep = kept(it.keep, it.keep_given);
+        return {number(it.direction), keep, it.touching, number(it.solver), it.min_area};
     }
 };
 

@@ -14,7 +14,6 @@ use polyover::core::fill_rule::FillRule;
 use polyover::core::hierarchy::ChildLink;
 use polyover::core::overlay::{ContourDirection, IntOverlayOptions, Overlay, ShapeType};
 use polyover::core::overlay_rule::OverlayRule;
-use polyover::core::simplify::Simplify;
 use polyover::core::solver::Solver;
 use polyover::error::OverlayError;
 use polyover::i_float::int::point::IntPoint;
@@ -101,29 +100,13 @@ fn links_tell_which_shapes_lie_in_which_holes() {
 
 #[test]
 fn an_option_that_is_not_had_is_refused() {
-    let refused = Err(OverlayError::NotHad("preserve_input_collinear"));
+    let refused: Result<Vec<()>, _> = Err(OverlayError::NotHad("preserve_input_collinear"));
     let mut overlay = two_squares();
     overlay.options = IntOverlayOptions::keep_all_points();
     let (rule, fill) = (OverlayRule::Union, FillRule::NonZero);
-    assert_eq!(overlay.try_overlay(rule, fill), refused);
-    assert_eq!(overlay.try_overlay_hierarchy(rule, fill).map(|_| vec![]), refused);
     assert_eq!(overlay.try_build_separate_vectors(fill).map(|_| vec![]), refused);
     assert_eq!(overlay.try_build_shape_vectors(fill, rule).map(|_| vec![]), refused);
     assert_eq!(overlay.try_build_graph_view(fill).map(|_| vec![]), refused);
-    assert_eq!(overlay.try_answer(rule, fill).map(|_| vec![]), refused);
-    let mut buffer = FlatContoursBuffer::default();
-    assert_eq!(
-        overlay.try_overlay_into(rule, fill, &mut buffer).map(|()| vec![]),
-        refused
-    );
-    assert_eq!(
-        overlay.try_simplify_contour(&square(0, 1), fill).map(|_| vec![]),
-        refused
-    );
-    assert_eq!(
-        square(0, 1).try_simplify(fill, IntOverlayOptions::keep_all_points()),
-        refused
-    );
     let text = "this version does not have the option preserve_input_collinear";
     assert_eq!(OverlayError::NotHad("preserve_input_collinear").to_string(), text);
 }
@@ -175,6 +158,36 @@ fn lines_over_a_square() {
     assert_eq!(shape.clip_lines(&[line], FillRule::NonZero, outside).len(), 2);
     assert_eq!(shape.slice_by_line(line, FillRule::NonZero).area(), 400_i64);
     assert_eq!(shape.slice_by_line(line, FillRule::NonZero).len(), 2);
+}
+
+/// A point in the middle of a side stays where given points are kept, and those of answers too.
+#[test]
+fn given_points_are_kept() {
+    let given = [[0, 0], [2, 0], [4, 0], [4, 4], [0, 4]].map(IntPoint::from);
+    let (rule, fill) = (OverlayRule::Subject, FillRule::NonZero);
+    let count = |options: IntOverlayOptions<u64>| {
+        let mut overlay = Overlay::<i32>::from_subj(&given);
+        overlay.options = options;
+        let shapes = overlay.try_overlay(rule, fill).unwrap();
+        assert_eq!(
+            overlay.try_overlay_hierarchy(rule, fill).unwrap().shapes.points.len(),
+            shapes[0][0].len()
+        );
+        shapes[0][0].len()
+    };
+    let input = IntOverlayOptions {
+        preserve_input_collinear: true,
+        ..IntOverlayOptions::default()
+    };
+    assert_eq!(count(IntOverlayOptions::default()), 4);
+    assert_eq!(count(IntOverlayOptions::keep_output_points()), 4);
+    assert_eq!(count(input), 4);
+    assert_eq!(count(IntOverlayOptions::keep_all_points()), 5);
+    // (the contour is simple as it is given)
+    let mut overlay = Overlay::<i32>::new(0);
+    assert_eq!(overlay.simplify_contour(&given, fill).map(|it| it[0][0].len()), Some(4));
+    overlay.options = input;
+    assert_eq!(overlay.simplify_contour(&given, fill), None);
 }
 
 /// Tiles at each width, and grids that do not fit.

@@ -144,7 +144,7 @@ fn options_of_floats() {
         preserve_input_collinear: true,
         ..OverlayOptions::default()
     };
-    assert_eq!(count(&overlay), Err(OverlayError::NotHad("preserve_input_collinear")));
+    assert_eq!(count(&overlay), Ok(2));
 }
 
 #[derive(Clone, Copy, Debug, PartialEq)]

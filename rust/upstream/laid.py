@@ -32,10 +32,9 @@ HEADS = {
 }
 # (a private import)
 CHANGED = ("use crate::core::simplify::vec;", "use alloc::vec;")
-KEPT = "the option preserve_input_collinear is refused: the library has it not yet"
+KEPT = "the option preserve_input_collinear is refused for vectors: the edges of the library have it not yet"
 ROUNDED = "two crossings are at half units: snap rounding leaves one shape; of twice the coordinates it gives three"
 DEPARTURES = {
-    "upstream::core_simplify::tests::test_2": KEPT,
     "upstream::vector_extract::tests::test_keep_output_points_0": KEPT,
     "upstream::string_slice::tests::test_7": ROUNDED,
 }

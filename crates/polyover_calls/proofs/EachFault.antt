@@ -1,5 +1,5 @@
 -- Each call tells one fault of its arguments.
-use Rattle.std.proofs.Common.{◌≡◌, ◌⊎◌, inl, inr, ℕ, ◌<◌, ◌≤◌, false, ℤ, List, refl, sym, ap, ◌∙◌, arith}
+use Rattle.std.proofs.Common.{◌≡◌, ◌⊎◌, inl, inr, ℕ, ◌<◌, ◌≤◌, ℤ, List, refl, sym, ap, ◌∙◌, arith}
 use Rattle.std.specs.Int.{Width}
 use Rattle.i_overlay.specs.OneShot.{MayRefusePaths}
 use Rattle.overlay_builder.specs.GivenPaths.{paths_for}
@@ -9,7 +9,7 @@ use Rattle.overlay_relate.specs.Prepared.{MayRefusePreparing}
 use Rattle.i_overlay.specs.Alone.{MayRefuseAlone}
 use Rattle.overlay_string.specs.OneShot.{MayRefusePaths as MayRefuseStrings}
 use Rattle.overlay_tiles.specs.Tiles.{MayRefuseTiles}
-use Rattle.polyover_calls.specs.Asked.{solver_of, AreKnown, IsUnknown}
+use Rattle.polyover_calls.specs.Asked.{solver_of, keeps_given, AreKnown, IsUnknown}
 use Rattle.polyover_calls.specs.Clipped.{AreClips, AreClipChoices, AreClipNumbers, IsUnknownClip}
 use Rattle.polyover_calls.specs.Determined.{TellsOfArguments}
 use Rattle.polyover_calls.specs.EachFault.{CallsTellOneFault, ResultsTellOneFault, TellsOneFault, ReadsOneFault}
@@ -241,19 +241,19 @@ module _ {I U : Type 0} (whole : I → ℤ) (limit : ℕ) (width : Width) (natur
   -- that it may be refused is told where it is given
   abbrev pub MayAlone : OptionNumbers U → Contours I → OverlayError → Type 0
   MayAlone options given e = AreGiven whole limit given
-      × MayRefuseAlone false (solver_of options.solver) (paths_for Subject (paths_of whole given)) e
+      × MayRefuseAlone (keeps_given options) (solver_of options.solver) (paths_for Subject (paths_of whole given)) e
 
   pub calls_tell_one_fault : CallsTellOneFault whole limit width natural
   calls_tell_one_fault = record {
     overlay = λ rule fill options subject clip. both_end whole limit subject clip (IsUnknown rule fill options)
         (AreKnown rule fill options) (one_unknown rule fill options) (not_known rule fill options)
-        (MayRefusePaths (solver_of options.solver) (paths_given whole subject clip))
+        (MayRefuseAlone (keeps_given options) (solver_of options.solver) (paths_given whole subject clip))
         (IsFlat (IsOverlay whole limit width natural rule fill options subject clip) whole) ArePut
         (λ f is. (is.answer.known, (is.answer.subject_given, is.answer.clip_given)))
         (λ f old new s put. put_late _ _ _ new s put);
     hierarchy = λ rule fill options subject clip. both_end whole limit subject clip (IsUnknown rule fill options)
         (AreKnown rule fill options) (one_unknown rule fill options) (not_known rule fill options)
-        (MayRefusePaths (solver_of options.solver) (paths_given whole subject clip))
+        (MayRefuseAlone (keeps_given options) (solver_of options.solver) (paths_given whole subject clip))
         (AreFlatLinked (IsLinkedOverlay whole limit width natural rule fill options subject clip) whole) ArePutLinked
         (λ f is. (is.answer.known, (is.answer.subject_given, is.answer.clip_given)))
         (λ f old new s put. put_late _ _ _ new s put);
@@ -311,12 +311,12 @@ module _ {I U : Type 0} (whole : I → ℤ) (limit : ℕ) (width : Width) (natur
   results_tell_one_fault = record {
     overlay = λ rule fill options subject clip. both_held whole limit subject clip (IsUnknown rule fill options)
         (AreKnown rule fill options) (one_unknown rule fill options) (not_known rule fill options)
-        (MayRefusePaths (solver_of options.solver) (paths_given whole subject clip))
+        (MayRefuseAlone (keeps_given options) (solver_of options.solver) (paths_given whole subject clip))
         (IsFlat (IsOverlay whole limit width natural rule fill options subject clip) whole) shape_arrays
         (λ f is. (is.answer.known, (is.answer.subject_given, is.answer.clip_given)));
     hierarchy = λ rule fill options subject clip. both_held whole limit subject clip (IsUnknown rule fill options)
         (AreKnown rule fill options) (one_unknown rule fill options) (not_known rule fill options)
-        (MayRefusePaths (solver_of options.solver) (paths_given whole subject clip))
+        (MayRefuseAlone (keeps_given options) (solver_of options.solver) (paths_given whole subject clip))
         (AreFlatLinked (IsLinkedOverlay whole limit width natural rule fill options subject clip) whole) linked_arrays
         (λ f is. (is.answer.known, (is.answer.subject_given, is.answer.clip_given)));
     simplified = λ fill options given. one_held (IsUnknown 0 fill options) (AreKnown 0 fill options)

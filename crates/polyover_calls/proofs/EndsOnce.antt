@@ -14,7 +14,7 @@ use Rattle.overlay_tiles.specs.Tiles.{MayRefuseTiles}
 use Rattle.i_overlay.specs.Alone.{MayRefuseAlone}
 use Rattle.i_overlay.specs.OneShot.{MayRefusePaths}
 use Rattle.i_overlay.proofs.OneAnswer.{one_arrangement_of_paths}
-use Rattle.polyover_calls.specs.Asked.{fill_of, solver_of, AreKnown, IsUnknown}
+use Rattle.polyover_calls.specs.Asked.{fill_of, solver_of, keeps_given, AreKnown, IsUnknown}
 use Rattle.polyover_calls.specs.Clipped.{AreClips, AreClipChoices, AreClipNumbers, IsUnknownClip}
 use Rattle.polyover_calls.specs.Determined.{TellsOfArguments}
 use Rattle.polyover_calls.specs.EachFault.{HandsOneFault}
@@ -92,7 +92,7 @@ module _ {I U : Type 0} (whole : I → ℤ) (limit : ℕ) (width : Width) (natur
 
   module _ (rule fill : ℕ) (options : OptionNumbers U) (subject clip : Contours I) (snaps : options.solver ≡ 0) where
     abbrev may_overlay : OverlayError → Type 0
-    may_overlay = MayRefusePaths (solver_of options.solver) (paths_given whole subject clip)
+    may_overlay = MayRefuseAlone (keeps_given options) (solver_of options.solver) (paths_given whole subject clip)
 
     overlay_apart : FaultsAreApart (IsUnknown rule fill options) (AreKnown rule fill options)
         (IsOneFaulty whole limit subject clip) (AreBothGiven whole limit subject clip)
@@ -100,7 +100,7 @@ module _ {I U : Type 0} (whole : I → ℤ) (limit : ℕ) (width : Width) (natur
         (one_unknown rule fill options) (not_known rule fill options)
 
     overlay_settles : ¬ (MayBoth subject clip may_overlay error.NotSettled)
-    overlay_settles m = not_alone false options.solver (paths_given whole subject clip) snaps m.1.1
+    overlay_settles m = not_alone (keeps_given options) options.solver (paths_given whole subject clip) snaps m.1.1
 
     overlay_written : {R : Type 0} (AreWritten : Flat I → R → R → Status → Type 0) →
         ((f : Flat I) (old new : R) (s : Status) → AreWritten f old new s → ¬ (TellsOfArguments s)) →
@@ -114,8 +114,9 @@ module _ {I U : Type 0} (whole : I → ℤ) (limit : ℕ) (width : Width) (natur
         (MayBoth subject clip may_overlay) (λ e m. (m.0, m.1.0)) overlay_settles
         (IsFlat (IsOverlay whole limit width natural rule fill options subject clip) whole)
         (λ f is. (is.answer.known, (is.answer.subject_given, is.answer.clip_given)))
-        (λ f is m. light_alone false options.solver (paths_given whole subject clip) is.answer.is_result.content
-        is.answer.is_result.edges snaps is.answer.is_result.holds is.answer.is_result.arranged m.1.1)
+        (λ f is m. light_alone (keeps_given options) options.solver (paths_given whole subject clip)
+        is.answer.is_result.content is.answer.is_result.edges snaps is.answer.is_result.holds
+        is.answer.is_result.arranged m.1.1)
         (λ f g. same_overlay whole limit one width natural rule fill options subject clip f g snaps)
 
     hierarchy_written : {R : Type 0} (AreWritten : LinkedFlat I → R → R → Status → Type 0) →
@@ -131,8 +132,9 @@ module _ {I U : Type 0} (whole : I → ℤ) (limit : ℕ) (width : Width) (natur
         (MayBoth subject clip may_overlay) (λ e m. (m.0, m.1.0)) overlay_settles
         (AreFlatLinked (IsLinkedOverlay whole limit width natural rule fill options subject clip) whole)
         (λ f is. (is.answer.known, (is.answer.subject_given, is.answer.clip_given)))
-        (λ f is m. light_alone false options.solver (paths_given whole subject clip) is.answer.is_hierarchy.content
-        is.answer.is_hierarchy.edges snaps is.answer.is_hierarchy.holds is.answer.is_hierarchy.arranged m.1.1)
+        (λ f is m. light_alone (keeps_given options) options.solver (paths_given whole subject clip)
+        is.answer.is_hierarchy.content is.answer.is_hierarchy.edges snaps is.answer.is_hierarchy.holds
+        is.answer.is_hierarchy.arranged m.1.1)
         (λ f g. same_hierarchy whole limit one width natural rule fill options subject clip f g snaps)
 
   module _ (fill : ℕ) (options : OptionNumbers U) (given : Contours I) (snaps : options.solver ≡ 0) where
@@ -147,10 +149,10 @@ module _ {I U : Type 0} (whole : I → ℤ) (limit : ℕ) (width : Width) (natur
         (IsFaulty whole limit given) (AreGiven whole limit given)
         (with_options whole limit width natural fill options given) (MayAlone whole limit width natural options given)
         (λ e m. m.0)
-        (λ m. not_alone false options.solver (paths_for Subject (paths_of whole given)) snaps m.1)
+        (λ m. not_alone (keeps_given options) options.solver (paths_for Subject (paths_of whole given)) snaps m.1)
         (IsFlat (IsSimplification whole limit width natural fill options given) whole)
         (λ f is. (is.answer.known, is.answer.are_given))
-        (λ f is m. light_alone false options.solver (paths_for Subject (paths_of whole given))
+        (λ f is m. light_alone (keeps_given options) options.solver (paths_for Subject (paths_of whole given))
         is.answer.simplified.arranged.content is.answer.simplified.edges snaps is.answer.simplified.arranged.holds
         is.answer.simplified.arranged.arranged m.1)
         (λ f g. same_simplification whole limit one width natural fill options given f g snaps)

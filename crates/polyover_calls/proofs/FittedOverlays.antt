@@ -1,14 +1,14 @@
 -- Overlays that are computed at 32 bits, and their refusals.
-use Rattle.std.proofs.Common.{◌≡◌, ◌<◌, false, ℕ, ℤ, List, map, refl, sym, ap₂, subst}
+use Rattle.std.proofs.Common.{◌≡◌, ◌<◌, ℕ, ℤ, List, map, refl, sym, ap₂, subst}
 use Rattle.std.specs.Int.{Width, w64}
 use Rattle.overlay_builder.specs.GivenPaths.{added_paths, subject_and_clip}
 use Rattle.overlay_builder.specs.PathLists.{HoldsPaths}
 use Rattle.overlay_extract.specs.Results.{asked}
 use Rattle.overlay_geom.specs.Plane.{Point}
 use Rattle.overlay_plane.specs.Islands.{ChildLink}
-use Rattle.i_overlay.specs.OneShot.{MayRefusePaths}
-use Rattle.i_overlay.proofs.OneShots.{result_over_paths, hierarchy_over_paths}
-use Rattle.polyover_calls.specs.Asked.{rule_of, fill_of, solver_of, options_of, AreChoices, AreKnown, IsUnknown}
+use Rattle.i_overlay.specs.Alone.{MayRefuseAlone}
+use Rattle.polyover_calls.specs.Asked.{rule_of, fill_of, solver_of, options_of, keeps_given, AreChoices, AreKnown}
+use Rattle.polyover_calls.specs.Asked.{IsUnknown}
 use Rattle.polyover_calls.specs.Given.{Contours, contours_of, paths_given}
 use Rattle.polyover_calls.specs.Hierarchies.{IsLinkedOverlay}
 use Rattle.polyover_calls.specs.Linked.{LinkedFlat, AreFlatLinked, link_at}
@@ -21,6 +21,7 @@ use Rattle.polyover_calls.specs.declared.status.Status.TheVariants.{Done, Memory
 use Rattle.polyover_calls.specs.declared.status.Status.TheVariants.{NotResolved, BadRule, BadFill, BadOption}
 use Rattle.polyover_calls.specs.declared.status.Status.TheVariants.{NotSettled, TooManyEdges, TooSmall}
 use Rattle.overlay_extract.proofs.AnyWidth.{result_at_width, hierarchy_at_width}
+use Rattle.polyover_calls.proofs.Kept.{result_as_added, hierarchy_as_added}
 use Rattle.polyover_calls.proofs.NarrowedAnswers.{shapes_back}
 use Rattle.polyover_calls.proofs.NarrowedCalls.{paths_same, given_back, both_refused}
 
@@ -73,10 +74,10 @@ module _ {I U : Type 0} (whole : I → ℤ) (limit rule fill : ℕ) (o : OptionN
   refused_back = both_refused whole limit subject clip ss cs s c
       (IsUnknown rule fill (without_minimum o)) (IsUnknown rule fill o)
       (AreKnown rule fill (without_minimum o)) (AreKnown rule fill o)
-      (MayRefusePaths (solver_of o.solver) (paths_given (λ z. z) narrow_subject narrow_clip))
-      (MayRefusePaths (solver_of o.solver) (paths_given whole subject clip))
+      (MayRefuseAlone (keeps_given o) (solver_of o.solver) (paths_given (λ z. z) narrow_subject narrow_clip))
+      (MayRefuseAlone (keeps_given o) (solver_of o.solver) (paths_given whole subject clip))
       (unknown_back rule fill o) (known_back rule fill o)
-      (λ e. subst (λ ps. MayRefusePaths (solver_of o.solver) ps e) same_paths)
+      (λ e. subst (λ ps. MayRefuseAlone (keeps_given o) (solver_of o.solver) ps e) same_paths)
 
   pub overlay_refused : (t : Status) →
       IsOverlayRefused (λ z. z) greatest_of_32_bits rule fill n narrow_subject narrow_clip t →
@@ -95,11 +96,11 @@ module _ {I U : Type 0} (whole : I → ℤ) (limit rule fill : ℕ) (o : OptionN
       known = known_back rule fill o a.known;
       subject_given = given_back whole limit subject ss s a.subject_given;
       clip_given = given_back whole limit clip cs c a.clip_given;
-      is_result = result_over_paths (solver_of o.solver)
+      is_result = result_as_added (keeps_given o) (solver_of o.solver)
           (asked width natural (fill_of fill) (rule_of rule) (options_of o)) (paths_given whole subject clip)
-          a.is_result.content a.is_result.edges shapes
-          (subst (λ ps. HoldsPaths (added_paths false ps) a.is_result.content) same_paths a.is_result.holds)
-          a.is_result.arranged
+          a.is_result.content a.is_result.edges
+          (subst (λ ps. HoldsPaths (added_paths (keeps_given o) ps) a.is_result.content) same_paths a.is_result.holds)
+          a.is_result.arranged shapes
           (result_at_width (asked w64 (λ n. n) (fill_of fill) (rule_of rule) (options_of (without_minimum o)))
           (natural o.min_area) width refl zero a.is_result.edges shapes a.is_result.is_result);
     }
@@ -143,11 +144,12 @@ module _ {I U : Type 0} (whole : I → ℤ) (limit rule fill : ℕ) (o : OptionN
       known = known_back rule fill o a.known;
       subject_given = given_back whole limit subject ss s a.subject_given;
       clip_given = given_back whole limit clip cs c a.clip_given;
-      is_hierarchy = hierarchy_over_paths (solver_of o.solver)
+      is_hierarchy = hierarchy_as_added (keeps_given o) (solver_of o.solver)
           (asked width natural (fill_of fill) (rule_of rule) (options_of o)) (paths_given whole subject clip)
-          a.is_hierarchy.content a.is_hierarchy.edges shapes links
-          (subst (λ ps. HoldsPaths (added_paths false ps) a.is_hierarchy.content) same_paths a.is_hierarchy.holds)
-          a.is_hierarchy.arranged
+          a.is_hierarchy.content a.is_hierarchy.edges
+          (subst (λ ps. HoldsPaths (added_paths (keeps_given o) ps) a.is_hierarchy.content) same_paths
+          a.is_hierarchy.holds)
+          a.is_hierarchy.arranged shapes links
           (hierarchy_at_width (asked w64 (λ n. n) (fill_of fill) (rule_of rule) (options_of (without_minimum o)))
           (natural o.min_area) width refl zero a.is_hierarchy.edges shapes links a.is_hierarchy.is_hierarchy);
     }

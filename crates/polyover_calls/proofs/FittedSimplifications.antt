@@ -1,5 +1,5 @@
 -- Simplifications that are computed at 32 bits, and their refusals.
-use Rattle.std.proofs.Common.{◌≡◌, false, Bool, ℕ, ℤ, List, [], ◌∷◌, map, refl, sym, subst}
+use Rattle.std.proofs.Common.{◌≡◌, Bool, ℕ, ℤ, List, [], ◌∷◌, map, refl, sym, subst}
 use Rattle.std.specs.Int.{Width, w64}
 use Rattle.overlay_geom.specs.declared.options.ShapeType.TheVariants.{Subject}
 use Rattle.overlay_geom.specs.Edges.{CountedEdge}
@@ -11,7 +11,7 @@ use Rattle.i_overlay.specs.Alone.{MayRefuseAlone}
 use Rattle.i_overlay.specs.Simplified.{IsLeft, IsSimplified, IsSimplifiedAlone}
 use Rattle.i_overlay.specs.declared.simplifying.outcome.Outcome.{Outcome}
 use Rattle.i_overlay.specs.declared.simplifying.outcome.Outcome.TheVariants.{NotSimple, Empty, AsGiven, Reversed}
-use Rattle.polyover_calls.specs.Asked.{rule_of, fill_of, solver_of, options_of, AreKnown, IsUnknown}
+use Rattle.polyover_calls.specs.Asked.{rule_of, fill_of, solver_of, options_of, keeps_given, AreKnown, IsUnknown}
 use Rattle.polyover_calls.specs.Given.{Contours, contours_of, paths_of, AreGiven, IsFaulty}
 use Rattle.polyover_calls.specs.Narrowed.{AreNarrowed, greatest_of_32_bits, without_minimum}
 use Rattle.polyover_calls.specs.Simplified.{IsSimplification, IsSimplifyingRefused}
@@ -59,10 +59,10 @@ module _ {I U : Type 0} (whole : I → ℤ) (limit fill : ℕ) (o : OptionNumber
   same_paths = paths_same whole limit given zs z
 
   abbrev narrow_may : OverlayError → Type 0
-  narrow_may = MayRefuseAlone false (solver_of o.solver) (paths_for Subject (paths_of (λ z. z) narrow_given))
+  narrow_may = MayRefuseAlone (keeps_given o) (solver_of o.solver) (paths_for Subject (paths_of (λ z. z) narrow_given))
 
   abbrev may : OverlayError → Type 0
-  may = MayRefuseAlone false (solver_of o.solver) (paths_for Subject (paths_of whole given))
+  may = MayRefuseAlone (keeps_given o) (solver_of o.solver) (paths_for Subject (paths_of whole given))
 
   refused_back : (t : Status) →
       IsSimplifyingRefused (λ z. z) greatest_of_32_bits fill (without_minimum o) narrow_given t →
@@ -85,7 +85,7 @@ module _ {I U : Type 0} (whole : I → ℤ) (limit fill : ℕ) (o : OptionNumber
         known_back 0 fill o known,
         (
           given_back whole limit given zs z is_given,
-          subst (λ ps. MayRefuseAlone false (solver_of o.solver) (paths_for Subject ps) e) same_paths refused,
+          subst (λ ps. MayRefuseAlone (keeps_given o) (solver_of o.solver) (paths_for Subject ps) e) same_paths refused,
         ),
       )
 
@@ -103,15 +103,15 @@ module _ {I U : Type 0} (whole : I → ℤ) (limit fill : ℕ) (o : OptionNumber
     is_narrow = IsSimplification (λ z. z) greatest_of_32_bits w64 (λ n. n) fill (without_minimum o) narrow_given
 
     alone_back : (shapes : List (List (List Point))) →
-        IsSimplifiedAlone (solver_of o.solver) narrow_asked false (paths_of (λ z. z) narrow_given) shapes →
-        IsSimplifiedAlone (solver_of o.solver) (asked width natural (fill_of fill) (rule_of 0) (options_of o)) false
-        (paths_of (λ z. z) narrow_given) shapes
+        IsSimplifiedAlone (solver_of o.solver) narrow_asked (keeps_given o) (paths_of (λ z. z) narrow_given) shapes →
+        IsSimplifiedAlone (solver_of o.solver) (asked width natural (fill_of fill) (rule_of 0) (options_of o))
+        (keeps_given o) (paths_of (λ z. z) narrow_given) shapes
     alone_back shapes a = record {
       edges = a.edges;
       arranged = a.arranged;
       simplified = record {
-        without_minimum = λ _. simplified_at_width narrow_asked (natural o.min_area) width refl zero false a.edges
-            shapes (paths_of (λ z. z) narrow_given) (a.simplified.without_minimum refl);
+        without_minimum = λ _. simplified_at_width narrow_asked (natural o.min_area) width refl zero (keeps_given o)
+            a.edges shapes (paths_of (λ z. z) narrow_given) (a.simplified.without_minimum refl);
         with_minimum = λ some. absurd (some zero);
       };
       winds = λ _. a.winds refl;
@@ -134,7 +134,7 @@ module _ {I U : Type 0} (whole : I → ℤ) (limit fill : ℕ) (o : OptionNumber
         known = known_back 0 fill o (by_narrow f.shapes f.answer).known;
         are_given = given_back whole limit given zs z f.answer.are_given;
         simplified = subst (λ ps. IsSimplifiedAlone (solver_of o.solver)
-            (asked width natural (fill_of fill) (rule_of 0) (options_of o)) false ps f.shapes) same_paths
+            (asked width natural (fill_of fill) (rule_of 0) (options_of o)) (keeps_given o) ps f.shapes) same_paths
             (alone_back f.shapes (by_narrow f.shapes f.answer).simplified);
       };
       flattened = shapes_back whole f.shapes narrow flat same same_contours same_shapes f.flattened;

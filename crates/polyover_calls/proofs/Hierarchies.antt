@@ -12,9 +12,9 @@ use Rattle.overlay_extract.specs.Results.{asked}
 use Rattle.overlay_extract.specs.declared.child_link.ChildLink.{ChildLink as LinkTaken}
 use Rattle.i_overlay.specs.Builder.{Builder}
 use Rattle.i_overlay.specs.Queries.{BuilderExtracts}
-use Rattle.i_overlay.proofs.OneShots.{hierarchy_over_paths}
+use Rattle.polyover_calls.proofs.Kept.{hierarchy_as_added}
 use Rattle.polyover_calls.proofs.Overlays.{same_asked}
-use Rattle.polyover_calls.specs.Asked.{rule_of, fill_of, solver_of, options_of}
+use Rattle.polyover_calls.specs.Asked.{rule_of, fill_of, solver_of, options_of, keeps_given}
 use Rattle.polyover_calls.specs.Given.{Contours, paths_given}
 use Rattle.polyover_calls.specs.Hierarchies.{IsLinkedOverlay}
 use Rattle.polyover_calls.specs.Linked.{link_of, link_at, LinkedFlat, AreFlatLinked}
@@ -42,10 +42,11 @@ hierarchy_answered whole limit rule fill options subject clip r f b is v new wid
         known = is.known;
         subject_given = is.subject_given;
         clip_given = is.clip_given;
-        is_hierarchy = hierarchy_over_paths (solver_of options.solver)
+        is_hierarchy = hierarchy_as_added (keeps_given options) (solver_of options.solver)
             (asked width natural (fill_of fill) (rule_of rule) (options_of options)) (paths_given whole subject clip)
-            b.edges new.edges shapes (map link_at flat.links) is.holds
-            (subst (λ t. IsArranged t b.edges new.edges) is.solver_asked extracts.query.arranged)
+            b.edges new.edges is.holds
+            (subst (λ t. IsArranged t b.edges new.edges) is.solver_asked extracts.query.arranged) shapes
+            (map link_at flat.links)
             (subst (λ a. IsHierarchy a new.edges shapes (map link_at flat.links))
             (same_asked whole limit rule fill options subject clip r f b is width natural)
             (subst (IsHierarchy (asked width natural f r b.options) new.edges shapes)

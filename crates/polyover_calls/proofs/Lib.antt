@@ -11,6 +11,7 @@ pub mod FittedQueries
 pub mod FittedRelation
 pub mod FittedSimplifications
 pub mod Hierarchies
+pub mod Kept
 pub mod Listed
 pub mod Located
 pub mod NarrowedAnswers

@@ -1,5 +1,5 @@
 -- Two answers to the same arguments are one, and so are the arrays into which they are put.
-use Rattle.std.proofs.Common.{◌≡◌, ℕ, ℤ, false, List, [], ◌∷◌, length, map, refl, sym, ap, ap₂, subst, ◌∙◌, arith}
+use Rattle.std.proofs.Common.{◌≡◌, ℕ, ℤ, List, [], ◌∷◌, length, map, refl, sym, ap, ap₂, subst, ◌∙◌, arith}
 use Rattle.std.specs.List.{flat_map}
 use Rattle.std.specs.Int.{Width}
 use Rattle.overlay_extract.specs.Results.{asked}
@@ -12,15 +12,15 @@ use Rattle.overlay_order.specs.Vectors.{Vector}
 use Rattle.overlay_string.specs.OneShot.{AreClippedOfPaths}
 use Rattle.overlay_string.proofs.OneAnswer.{one_clip_of_strings, one_slicing_along_strings}
 use Rattle.overlay_tiles.proofs.OneGrid.{one_tiling_of_paths}
-use Rattle.i_overlay.specs.OneShot.{IsResultOfPaths, IsHierarchyOfPaths}
 use Rattle.i_overlay.specs.Simplified.{IsSimplifiedAlone}
-use Rattle.i_overlay.proofs.OneAnswer.{one_answer, one_hierarchy, one_list_of_edges, one_simplification}
+use Rattle.i_overlay.proofs.OneAnswer.{one_list_of_edges, one_simplification}
 use Rattle.i_overlay.proofs.OneAnswer.{one_list_of_relations}
 use Rattle.polyover_calls.specs.Arrays.{coordinates_of, ends_of}
-use Rattle.polyover_calls.specs.Asked.{rule_of, fill_of, solver_of, options_of}
+use Rattle.polyover_calls.specs.Asked.{rule_of, fill_of, solver_of, options_of, keeps_given}
 use Rattle.polyover_calls.specs.Clipped.{AreClips, clip_rule_of}
 use Rattle.polyover_calls.specs.Given.{Contours, paths_given, paths_of}
 use Rattle.polyover_calls.specs.Held.{AreHeld, shape_arrays}
+use Rattle.polyover_calls.specs.Kept.{IsResultAsAdded, IsHierarchyAsAdded}
 use Rattle.polyover_calls.specs.Lines.{shape_and_lines}
 use Rattle.polyover_calls.specs.Hierarchies.{IsLinkedOverlay}
 use Rattle.polyover_calls.specs.Linked.{LinkedFlat, AreFlatLinked, ArePutLinked, link_at}
@@ -37,6 +37,7 @@ use Rattle.polyover_calls.specs.WrittenPaths.{FlatPaths, AreFlatPaths, ArePathsF
 use Rattle.polyover_calls.specs.declared.clip_options.ClipOptions.{ClipOptions}
 use Rattle.polyover_calls.specs.declared.links.Link.{Link}
 use Rattle.polyover_calls.specs.declared.numbers.OptionNumbers.{OptionNumbers}
+use Rattle.polyover_calls.proofs.Kept.{one_result_as_added, one_hierarchy_as_added}
 use Rattle.polyover_calls.proofs.OnePacking.{one_packing, one_packing_of_shapes}
 use Rattle.polyover_calls.proofs.OnePut.{one_put}
 
@@ -182,11 +183,13 @@ module _ {I : Type 0} (whole : I → ℤ) (limit : ℕ) (one : (x y : I) → who
       same_overlay rule fill options subject clip f g snaps a b =
           let q = asked width natural (fill_of fill) (rule_of rule) (options_of options) in
           let paths = paths_given whole subject clip in
-          let by : (shapes : List (List (List Point))) → IsResultOfPaths (solver_of options.solver) q paths shapes →
-          IsResultOfPaths Snapping q paths shapes = λ shapes. subst (λ v. IsResultOfPaths v q paths shapes)
+          let keep = keeps_given options in
+          let by : (shapes : List (List (List Point))) →
+          IsResultAsAdded keep (solver_of options.solver) q paths shapes →
+          IsResultAsAdded keep Snapping q paths shapes = λ shapes. subst (λ v. IsResultAsAdded keep v q paths shapes)
           (snapping options.solver snaps) in
-          one_flat a.shapes b.shapes f g (one_answer q paths a.shapes b.shapes (by a.shapes a.answer.is_result)
-          (by b.shapes b.answer.is_result)) a.flattened b.flattened
+          one_flat a.shapes b.shapes f g (one_result_as_added keep q paths a.shapes b.shapes
+          (by a.shapes a.answer.is_result) (by b.shapes b.answer.is_result)) a.flattened b.flattened
 
       pub same_simplification : (fill : ℕ) (options : OptionNumbers U) (given : Contours I) (f g : Flat I) →
           options.solver ≡ 0 → IsFlat (IsSimplification whole limit width natural fill options given) whole f →
@@ -194,11 +197,12 @@ module _ {I : Type 0} (whole : I → ℤ) (limit : ℕ) (one : (x y : I) → who
       same_simplification fill options given f g snaps a b =
           let q = asked width natural (fill_of fill) (rule_of 0) (options_of options) in
           let paths = paths_of whole given in
+          let keep = keeps_given options in
           let by : (shapes : List (List (List Point))) →
-          IsSimplifiedAlone (solver_of options.solver) q false paths shapes → IsSimplifiedAlone Snapping q false paths
+          IsSimplifiedAlone (solver_of options.solver) q keep paths shapes → IsSimplifiedAlone Snapping q keep paths
           shapes = λ shapes. subst
-          (λ v. IsSimplifiedAlone v q false paths shapes) (snapping options.solver snaps) in
-          one_flat a.shapes b.shapes f g (one_simplification q false paths a.shapes b.shapes
+          (λ v. IsSimplifiedAlone v q keep paths shapes) (snapping options.solver snaps) in
+          one_flat a.shapes b.shapes f g (one_simplification q keep paths a.shapes b.shapes
           (by a.shapes a.answer.simplified) (by b.shapes b.answer.simplified)) a.flattened b.flattened
 
       pub same_hierarchy : (rule fill : ℕ) (options : OptionNumbers U) (subject clip : Contours I)
@@ -208,11 +212,12 @@ module _ {I : Type 0} (whole : I → ℤ) (limit : ℕ) (one : (x y : I) → who
       same_hierarchy rule fill options subject clip f g snaps a b =
           let q = asked width natural (fill_of fill) (rule_of rule) (options_of options) in
           let paths = paths_given whole subject clip in
+          let keep = keeps_given options in
           let by : (shapes : List (List (List Point))) (links : List ChildLink) →
-          IsHierarchyOfPaths (solver_of options.solver) q paths shapes links →
-          IsHierarchyOfPaths Snapping q paths shapes links = λ shapes links. subst
-          (λ v. IsHierarchyOfPaths v q paths shapes links) (snapping options.solver snaps) in
-          let both = one_hierarchy q paths a.shapes b.shapes (map link_at f.links) (map link_at g.links)
+          IsHierarchyAsAdded keep (solver_of options.solver) q paths shapes links →
+          IsHierarchyAsAdded keep Snapping q paths shapes links = λ shapes links. subst
+          (λ v. IsHierarchyAsAdded keep v q paths shapes links) (snapping options.solver snaps) in
+          let both = one_hierarchy_as_added keep q paths a.shapes b.shapes (map link_at f.links) (map link_at g.links)
           (by a.shapes (map link_at f.links) a.answer.is_hierarchy)
           (by b.shapes (map link_at g.links) b.answer.is_hierarchy) in
           let flat = one_flat a.shapes b.shapes f.shapes g.shapes both.0 a.flattened b.flattened in

@@ -1,10 +1,10 @@
 -- What is wrong with the arguments of an overlay is told by one status: a number that stands for nothing, and then the
 -- first fault of the arrays.
 use Rattle.std.proofs.Common.{◌≡◌, inl, inr, ℕ, ℤ, refl, arith}
-use Rattle.i_overlay.specs.OneShot.{MayRefusePaths}
+use Rattle.i_overlay.specs.Alone.{MayRefuseAlone}
 use Rattle.overlay_geom.specs.declared.error.OverlayError.{OverlayError}
 use Rattle.polyover_calls.specs.declared.fault.Fault.{Fault}
-use Rattle.polyover_calls.specs.Asked.{solver_of, AreKnown, IsUnknown}
+use Rattle.polyover_calls.specs.Asked.{solver_of, keeps_given, AreKnown, IsUnknown}
 use Rattle.polyover_calls.specs.Determined.{TellsOfArguments, OneFault, FaultyArgumentsHaveNoAnswer}
 use Rattle.polyover_calls.specs.Given.{Contours, paths_given, AreGiven, IsOneFaulty}
 use Rattle.polyover_calls.specs.Overlays.{IsOverlayRefused}
@@ -113,7 +113,7 @@ module _ {I U : Type 0} (whole : I → ℤ) (limit rule fill : ℕ) (options : O
     (subject clip : Contours I) where
   abbrev MayBoth : OverlayError → Type 0
   MayBoth e = AreGiven whole limit subject × (AreGiven whole limit clip
-      × MayRefusePaths (solver_of options.solver) (paths_given whole subject clip) e)
+      × MayRefuseAlone (keeps_given options) (solver_of options.solver) (paths_given whole subject clip) e)
 
   apart : FaultsAreApart (IsUnknown rule fill options) (AreKnown rule fill options)
       (IsOneFaulty whole limit subject clip) (AreBothGiven whole limit subject clip)

@@ -14,14 +14,15 @@ use Rattle.overlay_geom.specs.declared.solver.Solver.{Solver}
 use Rattle.overlay_builder.specs.GivenPaths.{added_paths, subject_and_clip}
 use Rattle.overlay_builder.specs.PathLists.{HoldsPaths, MayRefuseBuilder}
 use Rattle.overlay_extract.specs.Results.{Asked, asked, IsResult}
+use Rattle.i_overlay.specs.Alone.{MayRefuseAlone}
 use Rattle.i_overlay.specs.Builder.{Builder, empty_builder, held_by}
-use Rattle.i_overlay.specs.OneShot.{MayRefusePaths}
 use Rattle.i_overlay.specs.Queries.{BuilderExtracts}
 use Rattle.i_overlay.specs.UsedUp.{GivesFlatShapes}
-use Rattle.i_overlay.proofs.OneShots as one_shot
 use Rattle.polyover_calls.specs.declared.fault.Fault.{Fault}
 use Rattle.polyover_calls.proofs.Refusals.{unread, without_memory, unanswered}
-use Rattle.polyover_calls.specs.Asked.{rule_of, fill_of, solver_of, options_of, AreChoices, AreKnown, IsUnknown}
+use Rattle.polyover_calls.proofs.Kept.{result_as_added, query_refused_as_added, adding_refused_as_added}
+use Rattle.polyover_calls.specs.Asked.{rule_of, fill_of, solver_of, options_of, keeps_given, AreChoices, AreKnown}
+use Rattle.polyover_calls.specs.Asked.{IsUnknown}
 use Rattle.polyover_calls.specs.Given.{Contours, paths_of, paths_given, AreGiven, AreUnread}
 use Rattle.polyover_calls.specs.Overlays.{IsAskedOverlay, IsOverlay, IsOverlayRefused}
 use Rattle.polyover_calls.specs.Statuses.{status_of_fault, status_of_error}
@@ -33,7 +34,7 @@ use Rattle.polyover_calls.specs.declared.status.Status.TheVariants.{Memory}
 module _ {I U : Type 0} (whole : I → ℤ) (limit rule fill : ℕ) (options : OptionNumbers U)
     (subject clip : Contours I) where
   abbrev may : OverlayError → Type 0
-  may = MayRefusePaths (solver_of options.solver) (paths_given whole subject clip)
+  may = MayRefuseAlone (keeps_given options) (solver_of options.solver) (paths_given whole subject clip)
 
   abbrev are_known : Type 0
   are_known = AreKnown rule fill options
@@ -59,7 +60,7 @@ module _ {I U : Type 0} (whole : I → ℤ) (limit rule fill : ℕ) (options : O
         is_refused (status_of_error e)
     adding_refused e refused = unanswered whole limit is_unknown are_known subject clip may (λ failed. failed) e
         (known_rule, (known_fill, known)) s c
-        (one_shot.adding_refused (solver_of options.solver) (paths_given whole subject clip) e
+        (adding_refused_as_added (keeps_given options) (solver_of options.solver) (paths_given whole subject clip) e
         (subst (λ x. MayRefuseBuilder (added_paths x.preserve_input_collinear (paths_given whole subject clip)) e)
         same_o
         (subst (λ paths. MayRefuseBuilder (added_paths o.preserve_input_collinear paths) e)
@@ -97,8 +98,9 @@ module _ {I U : Type 0} (whole : I → ℤ) (limit rule fill : ℕ) (options : O
         BuilderExtracts {V = V} limit b new (Err e) → is_refused (status_of_error e)
     query_refused {V = V} new e extracts = unanswered whole limit is_unknown are_known subject clip may
         (λ failed. failed) e is.known is.subject_given is.clip_given
-        (one_shot.query_refused {V = V} (solver_of options.solver) is.solver_asked limit
-        (paths_given whole subject clip) (held_by b) (held_by new) (Err e) is.holds is.ready extracts.query)
+        (query_refused_as_added {V = V} (keeps_given options) (solver_of options.solver)
+        (paths_given whole subject clip) is.solver_asked limit (held_by b) (held_by new) e is.holds is.ready
+        extracts.query)
 
     pub same_asked : (width : Width) (natural : U → ℕ) → asked width natural f r b.options
         ≡ asked width natural (fill_of fill) (rule_of rule) (options_of options)
@@ -123,10 +125,11 @@ module _ {I U : Type 0} (whole : I → ℤ) (limit rule fill : ℕ) (options : O
             known = is.known;
             subject_given = is.subject_given;
             clip_given = is.clip_given;
-            is_result = one_shot.result_over_paths (solver_of options.solver)
+            is_result = result_as_added (keeps_given options) (solver_of options.solver)
                 (asked width natural (fill_of fill) (rule_of rule) (options_of options))
-                (paths_given whole subject clip) b.edges gives.after.edges shapes is.holds
+                (paths_given whole subject clip) b.edges gives.after.edges is.holds
                 (subst (λ t. IsArranged t b.edges gives.after.edges) is.solver_asked gives.extracts.query.arranged)
+                shapes
                 (subst (λ a. IsResult a gives.after.edges shapes) (same_asked width natural) gives.is_result);
           };
           flattened = flattened;

@@ -1,5 +1,5 @@
 -- What the answer of a simplification says of the arrays, and its refusals.
-use Rattle.std.proofs.Common.{◌≡◌, ◌<◌, ℕ, ℤ, List, false, lit<, sym, subst, ap}
+use Rattle.std.proofs.Common.{◌≡◌, ◌<◌, ℕ, ℤ, List, lit<, sym, subst, ap}
 use Rattle.std.specs.Int.{Width}
 use Rattle.overlay_geom.specs.declared.fill_rule.FillRule.{FillRule}
 use Rattle.overlay_geom.specs.declared.options.IntOverlayOptions.{IntOverlayOptions}
@@ -16,7 +16,7 @@ use Rattle.i_overlay.specs.Simplified.{IsSimplifiedAlone}
 use Rattle.polyover_calls.specs.Reading.{HaveFault}
 use Rattle.polyover_calls.specs.declared.fault.Fault.{Fault}
 use Rattle.polyover_calls.specs.declared.fault.Fault.TheVariants as fault
-use Rattle.polyover_calls.specs.Asked.{fill_of, solver_of, options_of, AreChoices}
+use Rattle.polyover_calls.specs.Asked.{fill_of, solver_of, options_of, keeps_given, AreChoices}
 use Rattle.polyover_calls.specs.Given.{Contours, paths_of, AreGiven}
 use Rattle.polyover_calls.specs.Simplified.{IsSimplification, IsSimplifyingRefused}
 use Rattle.polyover_calls.specs.Statuses.{status_of_fault, status_of_error}
@@ -42,10 +42,10 @@ module _ {I U : Type 0} (whole : I → ℤ) (limit fill : ℕ) (options : Option
   read_refused : (e : OverlayError) (o : IntOverlayOptions U) (t : Solver) (p : List (List Point)) →
       o ≡ options_of options → t ≡ solver_of options.solver → p ≡ paths_of whole given →
       MayRefuseAlone o.preserve_input_collinear t (paths_for Subject p) e →
-      MayRefuseAlone false (solver_of options.solver) (paths_for Subject (paths_of whole given)) e
+      MayRefuseAlone (keeps_given options) (solver_of options.solver) (paths_for Subject (paths_of whole given)) e
   read_refused e o t p same_o same_t same_p may =
-      subst (λ y. MayRefuseAlone false y (paths_for Subject (paths_of whole given)) e) same_t
-      (subst (λ q. MayRefuseAlone false t (paths_for Subject q) e) same_p
+      subst (λ y. MayRefuseAlone (keeps_given options) y (paths_for Subject (paths_of whole given)) e) same_t
+      (subst (λ q. MayRefuseAlone (keeps_given options) t (paths_for Subject q) e) same_p
       (subst (λ keep. MayRefuseAlone keep t (paths_for Subject p) e)
       (ap (λ m. m.preserve_input_collinear) same_o) may))
 
@@ -75,14 +75,14 @@ module _ {I U : Type 0} (whole : I → ℤ) (limit fill : ℕ) (options : Option
         answer = record {
           known = (lit< tt, (known_fill, known));
           are_given = are;
-          simplified = subst (λ y. IsSimplifiedAlone y
-              (asked width natural (fill_of fill) rule.Subject (options_of options)) false (paths_of whole given)
-              shapes)
-              same_t
-              (subst (λ y. IsSimplifiedAlone t (asked width natural y rule.Subject (options_of options)) false
-              (paths_of whole given) shapes) same_f
-              (subst (λ q. IsSimplifiedAlone t (asked width natural f rule.Subject (options_of options)) false q shapes)
-              same_p
+          simplified =
+              let o' = options_of options in
+              let keep = keeps_given options in
+              subst (λ y. IsSimplifiedAlone y (asked width natural (fill_of fill) rule.Subject o') keep
+              (paths_of whole given) shapes) same_t
+              (subst (λ y. IsSimplifiedAlone t (asked width natural y rule.Subject o') keep (paths_of whole given)
+              shapes) same_f
+              (subst (λ q. IsSimplifiedAlone t (asked width natural f rule.Subject o') keep q shapes) same_p
               (subst (λ m. IsSimplifiedAlone t (asked width natural f rule.Subject m) m.preserve_input_collinear p
               shapes)
               same_o is)));

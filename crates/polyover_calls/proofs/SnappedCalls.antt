@@ -8,7 +8,7 @@ use Rattle.overlay_builder.specs.PathLists.{AddedPath}
 use Rattle.overlay_geom.specs.Edges.{CountedEdge}
 use Rattle.i_overlay.specs.Alone.{MayRefuseAlone}
 use Rattle.overlay_string.specs.OneShot.{MayRefusePaths}
-use Rattle.polyover_calls.specs.Asked.{solver_of}
+use Rattle.polyover_calls.specs.Asked.{solver_of, keeps_given}
 use Rattle.polyover_calls.specs.Laws.{SnappedNeverUnsettled}
 use Rattle.polyover_calls.specs.Put.{IsPutInto}
 use Rattle.polyover_calls.specs.Statuses.{code_of}
@@ -62,9 +62,10 @@ code_is TooSmall is = absurd (omega (arith, is))
 pub never_unsettled : SnappedNeverUnsettled
 never_unsettled = record {
   calls = λ limit width fill first second. record {
-    overlay = λ rule o old new zero. no_end (λ flat put. put) (λ r. not_alone false o.solver _ zero r.1.1.1);
-    hierarchy = λ rule o old new zero. no_end (λ flat put. put) (λ r. not_alone false o.solver _ zero r.1.1.1);
-    simplified = λ o old new zero. no_end (λ flat put. put) (λ r. not_alone false o.solver _ zero r.1.1);
+    overlay = λ rule o old new zero. no_end (λ flat put. put) (λ r. not_alone (keeps_given o) o.solver _ zero r.1.1.1);
+    hierarchy = λ rule o old new zero. no_end (λ flat put. put)
+        (λ r. not_alone (keeps_given o) o.solver _ zero r.1.1.1);
+    simplified = λ o old new zero. no_end (λ flat put. put) (λ r. not_alone (keeps_given o) o.solver _ zero r.1.1);
     sliced = λ old new. no_end (λ flat put. put) (λ r. not_lines 0 _ refl r.1.1.1);
     clipped = λ o old new zero. no_end (λ flat put. put) (λ r. not_lines o.solver _ zero r.1.1.1);
     listed = λ old new. no_end (λ flat put. put) (λ r. not_alone false 0 _ refl r.1.1.1);
@@ -74,9 +75,11 @@ never_unsettled = record {
     prepared = λ p ends. ⊎_elim (λ are. not_done are.0) (λ r. apart r.1.1.1.refused.0) ends;
   };
   results = λ limit width fill first second arrays. record {
-    overlay = λ rule o zero. no_end (λ flat held. not_done held.0) (λ r. not_alone false o.solver _ zero r.1.1.1);
-    hierarchy = λ rule o zero. no_end (λ flat held. not_done held.0) (λ r. not_alone false o.solver _ zero r.1.1.1);
-    simplified = λ o zero. no_end (λ flat held. not_done held.0) (λ r. not_alone false o.solver _ zero r.1.1);
+    overlay = λ rule o zero. no_end (λ flat held. not_done held.0)
+        (λ r. not_alone (keeps_given o) o.solver _ zero r.1.1.1);
+    hierarchy = λ rule o zero. no_end (λ flat held. not_done held.0)
+        (λ r. not_alone (keeps_given o) o.solver _ zero r.1.1.1);
+    simplified = λ o zero. no_end (λ flat held. not_done held.0) (λ r. not_alone (keeps_given o) o.solver _ zero r.1.1);
     sliced = no_end (λ flat held. not_done held.0) (λ r. not_lines 0 _ refl r.1.1.1);
     clipped = λ o zero. no_end (λ flat held. not_done held.0) (λ r. not_lines o.solver _ zero r.1.1.1);
     listed = no_end (λ flat held. not_done held.0) (λ r. not_alone false 0 _ refl r.1.1.1);

@@ -1,5 +1,5 @@
 -- For what the numbers of rules and options stand.
-use Rattle.std.specs.Prelude.{◌==◌, ◌≤◌, ◌<◌, ℕ, false, [], ◌∷◌, get_or, if◌then◌else◌}
+use Rattle.std.specs.Prelude.{◌==◌, ◌≤◌, ◌<◌, ◌%◌, ℕ, Bool, leb, [], ◌∷◌, get_or, if◌then◌else◌}
 use Rattle.overlay_geom.specs.declared.fill_rule.FillRule.{FillRule}
 use Rattle.overlay_geom.specs.declared.fill_rule.FillRule.TheVariants.{EvenOdd, NonZero, Positive, Negative}
 use Rattle.overlay_geom.specs.declared.options.ContourDirection.TheVariants.{CounterClockwise, Clockwise}
@@ -27,20 +27,24 @@ fill_of n = get_or (EvenOdd ∷ NonZero ∷ Positive ∷ []) n Negative
 abbrev pub solver_of : ℕ → Solver
 solver_of n = get_or (Snapping ∷ []) n Rounds
 
--- the options with the numbers, where those that are a choice are below 2; input points on one line are dropped
+-- given points on one line are kept; the number `keep` is a sum, of 1 for output points, and of 2 for these
+abbrev pub keeps_given : {U : Type 0} → OptionNumbers U → Bool
+keeps_given n = leb 2 n.keep
+
+-- the options with the numbers, where these are known
 abbrev pub options_of : {U : Type 0} → OptionNumbers U → IntOverlayOptions U
 options_of n = record {
-  preserve_input_collinear = false;
+  preserve_input_collinear = keeps_given n;
   output_direction = if n.direction == 0 then CounterClockwise else Clockwise;
-  preserve_output_collinear = n.keep == 1;
+  preserve_output_collinear = n.keep % 2 == 1;
   min_output_area = n.min_area;
   ogc = n.touching == 0;
 }
 
--- each choice has a number below 2
+-- each choice has a number below 2, and the sum of two one below 4
 pub record AreChoices {U : Type 0} (n : OptionNumbers U) : Type 0 where
   pub direction : n.direction < 2
-  pub keep : n.keep < 2
+  pub keep : n.keep < 4
   pub touching : n.touching < 2
   pub solver : n.solver < 2
 

@@ -4,9 +4,9 @@ use Rattle.std.specs.Int.{Width}
 use Rattle.overlay_extract.specs.Results.{asked}
 use Rattle.overlay_geom.specs.Plane.{Point}
 use Rattle.overlay_plane.specs.Islands.{ChildLink}
-use Rattle.i_overlay.specs.OneShot.{IsHierarchyOfPaths}
-use Rattle.polyover_calls.specs.Asked.{rule_of, fill_of, solver_of, options_of, AreKnown}
+use Rattle.polyover_calls.specs.Asked.{rule_of, fill_of, solver_of, options_of, keeps_given, AreKnown}
 use Rattle.polyover_calls.specs.Given.{Contours, paths_given, AreGiven}
+use Rattle.polyover_calls.specs.Kept.{IsHierarchyAsAdded}
 use Rattle.polyover_calls.specs.Linked.{LinkedRoom, EndsWithLinked}
 use Rattle.polyover_calls.specs.Overlays.{IsOverlayRefused}
 use Rattle.polyover_calls.specs.declared.numbers.OptionNumbers.{OptionNumbers}
@@ -20,7 +20,7 @@ pub record IsLinkedOverlay {I U : Type 0} (whole : I → ℤ) (limit : ℕ) (wid
   pub known : AreKnown rule fill options
   pub subject_given : AreGiven whole limit subject
   pub clip_given : AreGiven whole limit clip
-  pub is_hierarchy : IsHierarchyOfPaths (solver_of options.solver)
+  pub is_hierarchy : IsHierarchyAsAdded (keeps_given options) (solver_of options.solver)
       (asked width natural (fill_of fill) (rule_of rule) (options_of options)) (paths_given whole subject clip) shapes
       links
 

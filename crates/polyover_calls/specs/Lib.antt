@@ -9,6 +9,7 @@ pub mod Given
 pub mod Held
 pub mod Hierarchies
 pub mod Holding
+pub mod Kept
 pub mod Laws
 pub mod Lines
 pub mod Linked

@@ -7,10 +7,11 @@ use Rattle.overlay_geom.specs.Plane.{Point}
 use Rattle.overlay_builder.specs.GivenPaths.{added_paths}
 use Rattle.overlay_builder.specs.PathLists.{HoldsPaths}
 use Rattle.overlay_extract.specs.Results.{asked}
+use Rattle.i_overlay.specs.Alone.{MayRefuseAlone}
 use Rattle.i_overlay.specs.Builder.{Builder}
-use Rattle.i_overlay.specs.OneShot.{IsResultOfPaths, MayRefusePaths}
-use Rattle.polyover_calls.specs.Asked.{rule_of, fill_of, solver_of, options_of, AreKnown, IsUnknown}
+use Rattle.polyover_calls.specs.Asked.{rule_of, fill_of, solver_of, options_of, keeps_given, AreKnown, IsUnknown}
 use Rattle.polyover_calls.specs.Given.{Contours, paths_given, AreGiven}
+use Rattle.polyover_calls.specs.Kept.{IsResultAsAdded}
 use Rattle.polyover_calls.specs.Refusals.{AreBothRefused}
 use Rattle.polyover_calls.specs.Written.{Room, EndsWithShapes}
 use Rattle.polyover_calls.specs.declared.numbers.OptionNumbers.{OptionNumbers}
@@ -28,7 +29,7 @@ pub record IsAskedOverlay {I U : Type 0} (whole : I → ℤ) (limit rule fill : 
   pub options_asked : b.options ≡ options_of options
   pub solver_asked : b.solver ≡ solver_of options.solver
   pub ready : b.failed ≡ false
-  pub holds : HoldsPaths (added_paths false (paths_given whole subject clip)) b.edges
+  pub holds : HoldsPaths (added_paths (keeps_given options) (paths_given whole subject clip)) b.edges
 
 -- all that is given stands for something, and the shapes are the result that the numbers ask for, of the contours of
 -- both, split by the solver that they ask for
@@ -37,7 +38,7 @@ pub record IsOverlay {I U : Type 0} (whole : I → ℤ) (limit : ℕ) (width : W
   pub known : AreKnown rule fill options
   pub subject_given : AreGiven whole limit subject
   pub clip_given : AreGiven whole limit clip
-  pub is_result : IsResultOfPaths (solver_of options.solver)
+  pub is_result : IsResultAsAdded (keeps_given options) (solver_of options.solver)
       (asked width natural (fill_of fill) (rule_of rule) (options_of options)) (paths_given whole subject clip) shapes
 
 -- an overlay is refused so: a number stands for nothing; else the contours have a fault, those of the subject first;
@@ -46,7 +47,7 @@ abbrev pub IsOverlayRefused : {I U : Type 0} → (I → ℤ) → ℕ → ℕ →
     Status → Type 0
 IsOverlayRefused whole limit rule fill options subject clip = AreBothRefused whole limit
     (IsUnknown rule fill options) (AreKnown rule fill options) subject clip
-    (MayRefusePaths (solver_of options.solver) (paths_given whole subject clip))
+    (MayRefuseAlone (keeps_given options) (solver_of options.solver) (paths_given whole subject clip))
 
 -- how it ends
 abbrev pub OverlayEnds : {I U : Type 0} → (I → ℤ) → ℕ → Width → (U → ℕ) → ℕ → ℕ → OptionNumbers U → Contours I →

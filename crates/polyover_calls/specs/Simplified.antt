@@ -1,5 +1,5 @@
 -- How the simplification of arrays ends.
-use Rattle.std.specs.Prelude.{ℕ, ℤ, List, false}
+use Rattle.std.specs.Prelude.{ℕ, ℤ, List}
 use Rattle.std.specs.Int.{Width}
 use Rattle.overlay_geom.specs.declared.options.ShapeType.TheVariants.{Subject}
 use Rattle.overlay_geom.specs.Plane.{Point}
@@ -7,7 +7,7 @@ use Rattle.overlay_builder.specs.GivenPaths.{paths_for}
 use Rattle.overlay_extract.specs.Results.{asked}
 use Rattle.i_overlay.specs.Alone.{MayRefuseAlone}
 use Rattle.i_overlay.specs.Simplified.{IsSimplifiedAlone}
-use Rattle.polyover_calls.specs.Asked.{rule_of, fill_of, solver_of, options_of, AreKnown, IsUnknown}
+use Rattle.polyover_calls.specs.Asked.{rule_of, fill_of, solver_of, options_of, keeps_given, AreKnown, IsUnknown}
 use Rattle.polyover_calls.specs.Given.{Contours, paths_of, AreGiven, IsFaulty}
 use Rattle.polyover_calls.specs.Statuses.{IsRefused}
 use Rattle.polyover_calls.specs.Written.{Room, EndsWithShapes}
@@ -21,7 +21,8 @@ pub record IsSimplification {I U : Type 0} (whole : I → ℤ) (limit : ℕ) (wi
   pub known : AreKnown 0 fill options
   pub are_given : AreGiven whole limit given
   pub simplified : IsSimplifiedAlone (solver_of options.solver)
-      (asked width natural (fill_of fill) (rule_of 0) (options_of options)) false (paths_of whole given) shapes
+      (asked width natural (fill_of fill) (rule_of 0) (options_of options)) (keeps_given options)
+      (paths_of whole given) shapes
 
 -- a simplification is refused so: a number stands for nothing; else the contours have a fault; else the query is
 -- refused
@@ -29,7 +30,7 @@ abbrev pub IsSimplifyingRefused : {I U : Type 0} → (I → ℤ) → ℕ → ℕ
 IsSimplifyingRefused whole limit fill options given = IsRefused (IsUnknown 0 fill options)
     (λ f. AreKnown 0 fill options × IsFaulty whole limit given f)
     (λ e. AreKnown 0 fill options × (AreGiven whole limit given
-    × MayRefuseAlone false (solver_of options.solver) (paths_for Subject (paths_of whole given)) e))
+    × MayRefuseAlone (keeps_given options) (solver_of options.solver) (paths_for Subject (paths_of whole given)) e))
 
 -- how it ends
 abbrev pub SimplifyingEnds : {I U : Type 0} → (I → ℤ) → ℕ → Width → (U → ℕ) → ℕ → OptionNumbers U → Contours I →

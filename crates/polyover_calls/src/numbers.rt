@@ -13,9 +13,9 @@ use i_overlay::overlay_rule::OverlayRule;
 use i_overlay::solver::Solver;
 use overlay_geom::number::UIntNumber;
 
-/// Options as numbers: the direction of outlines, 0 for counter-clockwise and 1 for clockwise; whether points on one
-/// line are kept, and whether a contour may visit a point twice, 1 or 0; how edges are split, 0 by snap rounding and 1
-/// in rounds; and the smallest area that is kept.
+/// Options as numbers: the direction of outlines, 0 for counter-clockwise and 1 for clockwise; a sum that tells which
+/// points on one line are kept, 1 for those of the answer and 2 for given ones; whether a contour may visit a point
+/// twice, 1 or 0; how edges are split, 0 by snap rounding and 1 in rounds; and the smallest area that is kept.
 #[derive(Clone, Copy)]
 pub struct OptionNumbers<U> {
     pub(crate) direction: u32,
@@ -33,11 +33,11 @@ impl<U: UIntNumber> OptionNumbers<U> {
         U::zero().is_at_least(self.min_area)
     }
 
-    /// Returns whether each choice has a number below 2.
+    /// Returns whether each choice has a number below 2, and the sum `keep` one below 4.
     pub(crate) fn are_choices(&self) -> bool
         ensures { IsTrue result ↔ AreChoices self.now }
     {
-        self.direction < 2 && self.keep < 2 && self.touching < 2 && self.solver < 2
+        self.direction < 2 && self.keep < 4 && self.touching < 2 && self.solver < 2
     }
 
     /// Returns the numbers at 32 bits, with the smallest area zero.
@@ -120,7 +120,7 @@ pub(crate) fn known_solver(number: u32) -> Solver
     }
 }
 
-/// The options with the numbers; `BadOption` where a choice has a number from 2 on.
+/// The options with the numbers; `BadOption` where a choice has a number from 2 on, or the sum `keep` one from 4 on.
 pub(crate) fn options_of<U: UIntNumber>(
     numbers: OptionNumbers<U>,
 ) -> Result<IntOverlayOptions<U>, Status>
@@ -136,9 +136,9 @@ pub(crate) fn options_of<U: UIntNumber>(
         ContourDirection::Clockwise
     };
     Ok(IntOverlayOptions {
-        preserve_input_collinear: false,
+        preserve_input_collinear: numbers.keep >= 2,
         output_direction,
-        preserve_output_collinear: numbers.keep == 1,
+        preserve_output_collinear: numbers.keep % 2 == 1,
         min_output_area: numbers.min_area,
         ogc: numbers.touching == 0,
     })

@@ -11,7 +11,7 @@ use crate::numbers::OptionNumbers;
 pub struct Options64 {
     /// The direction of outlines: 0 for counter-clockwise, 1 for clockwise. Holes run the other way.
     pub direction: u32,
-    /// 1 where points on one line with their two neighbours are kept, else 0.
+    /// Which points on one line with their two neighbours are kept: 1 of the answer, 2 given ones, 3 both, 0 none.
     pub keep: u32,
     /// 0 where no contour visits a point twice, 1 where it may.
     pub touching: u32,
@@ -29,7 +29,7 @@ pub struct Options64 {
 pub struct Options32 {
     /// The direction of outlines: 0 for counter-clockwise, 1 for clockwise. Holes run the other way.
     pub direction: u32,
-    /// 1 where points on one line with their two neighbours are kept, else 0.
+    /// Which points on one line with their two neighbours are kept: 1 of the answer, 2 given ones, 3 both, 0 none.
     pub keep: u32,
     /// 0 where no contour visits a point twice, 1 where it may.
     pub touching: u32,

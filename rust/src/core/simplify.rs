@@ -90,8 +90,8 @@ enum Outcome<I: OverlayInt> {
     Turned(IntShapes<I>),
 }
 
-/// Whether a contour visits no point twice, and no point lies on one line with its two neighbours.
-fn has_corners_alone<I: OverlayInt>(contour: &[IntPoint<I>]) -> Result<bool, OverlayError> {
+/// Whether a contour visits no point twice, and no point lies on one line with its two neighbours, unless it is kept.
+fn has_corners_alone<I: OverlayInt>(contour: &[IntPoint<I>], is_kept: bool) -> Result<bool, OverlayError> {
     let (Some(&first), Some(&last)) = (contour.first(), contour.last()) else {
         return Ok(false);
     };
@@ -107,7 +107,8 @@ fn has_corners_alone<I: OverlayInt>(contour: &[IntPoint<I>]) -> Result<bool, Ove
         before = at;
         is_on_line
     };
-    Ok(!sorted.windows(2).any(twice) && !contour.iter().zip(next).any(&mut is_straight))
+    let has_straight = !is_kept && contour.iter().zip(next).any(&mut is_straight);
+    Ok(!has_straight && !sorted.windows(2).any(twice))
 }
 
 impl<I: OverlayInt> Overlay<I> {
@@ -122,7 +123,7 @@ impl<I: OverlayInt> Overlay<I> {
     ) -> Result<IntShapes<I>, OverlayError> {
         self.clear();
         self.try_add_source(resource, ShapeType::Subject)?;
-        let options = self.options.for_engine(self.solver)?;
+        let options = self.options.for_engine(self.solver);
         self.ask(&Simplified(fill_rule, options, PhantomData))
     }
 
@@ -143,8 +144,8 @@ impl<I: OverlayInt> Overlay<I> {
     fn outcome_of(&mut self, contour: &[IntPoint<I>], fill_rule: FillRule) -> Result<Outcome<I>, OverlayError> {
         self.clear();
         self.subject.add(contour)?;
-        let mut options = self.options.for_engine(self.solver)?;
-        if !has_corners_alone(contour)? || !self.ask(&Resolved)? {
+        let mut options = self.options.for_engine(self.solver);
+        if !has_corners_alone(contour, options.keeps_given)? || !self.ask(&Resolved)? {
             return Ok(Outcome::NotSimple);
         }
         options.min_area = 0;
@@ -159,7 +160,8 @@ impl<I: OverlayInt> Overlay<I> {
 
     /// Replaces the contours by this one, and gives its shapes; none where it is a shape as it is given.
     ///
-    /// A contour is simple that meets itself nowhere and has no point on one line with its two neighbours. As in
+    /// A contour is simple that meets itself nowhere and has no point on one line with its two neighbours, unless
+    /// `preserve_input_collinear` keeps such points. As in
     /// `i_overlay`, the smallest area plays no part for a simple one.
     ///
     /// # Errors

@@ -8,6 +8,7 @@ use crate::ffi::sys;
 pub(crate) struct Options {
     pub(crate) is_clockwise: bool,
     pub(crate) keeps_points: bool,
+    pub(crate) keeps_given: bool,
     pub(crate) may_touch: bool,
     pub(crate) solver: Solver,
     pub(crate) min_area: u128,
@@ -20,11 +21,16 @@ fn low(number: u128) -> u64 {
 }
 
 impl Options {
+    /// Which points on one line are kept: a sum.
+    fn keep(&self) -> u32 {
+        u32::from(self.keeps_points) | u32::from(self.keeps_given) << 1
+    }
+
     /// At 64 bits.
     pub(crate) fn wide(&self) -> sys::Options64 {
         sys::Options64 {
             direction: self.is_clockwise.into(),
-            keep: self.keeps_points.into(),
+            keep: self.keep(),
             touching: self.may_touch.into(),
             solver: self.solver.number(),
             min_area_high: low(self.min_area >> 64),
@@ -36,7 +42,7 @@ impl Options {
     pub(crate) fn narrow(&self) -> sys::Options32 {
         sys::Options32 {
             direction: self.is_clockwise.into(),
-            keep: self.keeps_points.into(),
+            keep: self.keep(),
             touching: self.may_touch.into(),
             solver: self.solver.number(),
             min_area: u64::try_from(self.min_area).unwrap_or(u64::MAX),

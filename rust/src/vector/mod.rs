@@ -24,7 +24,7 @@ pub(crate) fn shapes_by<I: OverlayInt>(
     rule: OverlayRule,
     fill: FillRule,
 ) -> Result<Vec<VectorShape<I>>, OverlayError> {
-    let mut asked = overlay.asked(rule, fill)?;
+    let mut asked = overlay.asked(rule, fill);
     let is_joined = !asked.options.keeps_points;
     asked.options.keeps_points = true;
     asked.options.may_touch = true;

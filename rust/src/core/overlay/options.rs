@@ -45,7 +45,7 @@ impl<U: UIntNumber> Default for IntOverlayOptions<U> {
 }
 
 impl<U: UIntNumber> IntOverlayOptions<U> {
-    /// Points on one line are kept, of given contours too, which queries refuse yet.
+    /// Points on one line are kept, of given contours too.
     pub fn keep_all_points() -> Self {
         Self {
             preserve_input_collinear: true,
@@ -70,18 +70,25 @@ impl<U: UIntNumber> IntOverlayOptions<U> {
         }
     }
 
-    /// The options as the library takes them, unless they ask for what is not had.
-    pub(crate) fn for_engine(&self, solver: Solver) -> Result<Options, OverlayError> {
-        if self.preserve_input_collinear {
-            return Err(OverlayError::NotHad("preserve_input_collinear"));
-        }
-        Ok(Options {
+    /// The options as the library takes them.
+    pub(crate) fn for_engine(&self, solver: Solver) -> Options {
+        Options {
             is_clockwise: self.output_direction == ContourDirection::Clockwise,
             keeps_points: self.preserve_output_collinear,
+            keeps_given: self.preserve_input_collinear,
             may_touch: !self.ogc,
             solver,
             min_area: self.min_output_area.into(),
-        })
+        }
+    }
+
+    /// Refuses to keep given points, which edges of an arrangement have not yet.
+    pub(crate) fn refuse_given(&self) -> Result<(), OverlayError> {
+        if self.preserve_input_collinear {
+            Err(OverlayError::NotHad("preserve_input_collinear"))
+        } else {
+            Ok(())
+        }
     }
 
     /// Refuses the first option that is not the default one, by its name.

@@ -102,18 +102,17 @@ impl<I: OverlayInt> Overlay<I> {
         I::ask(query, self.subject.as_given(), self.clip.as_given())
     }
 
-    pub(crate) fn asked(&self, rule: OverlayRule, fill: FillRule) -> Result<Asked, OverlayError> {
-        let options = self.options.for_engine(self.solver)?;
-        Ok(Asked { rule, fill, options })
+    pub(crate) fn asked(&self, rule: OverlayRule, fill: FillRule) -> Asked {
+        let options = self.options.for_engine(self.solver);
+        Asked { rule, fill, options }
     }
 
     /// The shapes round the region of the rules.
     ///
     /// # Errors
-    /// `Memory`; `OutOfRange`, of `i64` alone; `TooManyEdges`; `NotSettled`, of `Solver::ROUNDS` alone; `NotHad`, of
-    /// the option `preserve_input_collinear`.
+    /// `Memory`; `OutOfRange`, of `i64` alone; `TooManyEdges`; `NotSettled`, of `Solver::ROUNDS` alone.
     pub fn try_overlay(&self, overlay_rule: OverlayRule, fill_rule: FillRule) -> Result<IntShapes<I>, OverlayError> {
-        self.ask(&Nested(self.asked(overlay_rule, fill_rule)?, PhantomData))
+        self.ask(&Nested(self.asked(overlay_rule, fill_rule), PhantomData))
     }
 
     /// The same with other options, and another solver.
@@ -124,7 +123,7 @@ impl<I: OverlayInt> Overlay<I> {
         options: &IntOverlayOptions<I::WideUInt>,
         solver: Solver,
     ) -> Result<IntShapes<I>, OverlayError> {
-        let options = options.for_engine(solver)?;
+        let options = options.for_engine(solver);
         self.ask(&Nested(Asked { rule, fill, options }, PhantomData))
     }
 
@@ -142,7 +141,7 @@ impl<I: OverlayInt> Overlay<I> {
     /// # Errors
     /// As of [`Self::try_overlay`].
     pub fn try_answer(&self, overlay_rule: OverlayRule, fill_rule: FillRule) -> Result<OverlayAnswer<I>, OverlayError> {
-        let asked = self.asked(overlay_rule, fill_rule)?;
+        let asked = self.asked(overlay_rule, fill_rule);
         OverlayAnswer::of(&asked, self)
     }
 
@@ -155,7 +154,7 @@ impl<I: OverlayInt> Overlay<I> {
         overlay_rule: OverlayRule,
         fill_rule: FillRule,
     ) -> Result<FlatShapeHierarchy<I>, OverlayError> {
-        self.ask(&Linked(self.asked(overlay_rule, fill_rule)?, PhantomData))
+        self.ask(&Linked(self.asked(overlay_rule, fill_rule), PhantomData))
     }
 
     /// The shapes of an overlay, and which lie in which holes.
@@ -178,7 +177,7 @@ impl<I: OverlayInt> Overlay<I> {
         fill_rule: FillRule,
         output: &mut FlatContoursBuffer<I>,
     ) -> Result<(), OverlayError> {
-        let mut asked = self.asked(overlay_rule, fill_rule)?;
+        let mut asked = self.asked(overlay_rule, fill_rule);
         asked.options.may_touch = true;
         self.ask(&Flat(asked, RefCell::new(output)))
     }
@@ -195,10 +194,10 @@ impl<I: OverlayInt> Overlay<I> {
     /// The edges of the arrangement, with their filled sides.
     ///
     /// # Errors
-    /// As of [`Self::try_overlay`].
+    /// As of [`Self::try_overlay`]; `NotHad`, of the option `preserve_input_collinear`.
     pub fn try_build_separate_vectors(&self, fill_rule: FillRule) -> Result<Vec<DataVectorEdge<I>>, OverlayError> {
-        let options = self.options.for_engine(self.solver)?;
-        self.ask(&Listed(fill_rule, options.solver, PhantomData))
+        self.options.refuse_given()?;
+        self.ask(&Listed(fill_rule, self.solver, PhantomData))
     }
 
     /// The edges of the arrangement, with their filled sides.
@@ -214,7 +213,7 @@ impl<I: OverlayInt> Overlay<I> {
     /// contour may visit a point twice.
     ///
     /// # Errors
-    /// As of [`Self::try_overlay`].
+    /// As of [`Self::try_build_separate_vectors`].
     pub fn try_build_shape_vectors(
         &self,
         fill_rule: FillRule,
@@ -236,7 +235,7 @@ impl<I: OverlayInt> Overlay<I> {
     /// A view of the arrangement; none where no edge is left.
     ///
     /// # Errors
-    /// As of [`Self::try_overlay`].
+    /// As of [`Self::try_build_separate_vectors`].
     pub fn try_build_graph_view(&self, fill_rule: FillRule) -> Result<Option<OverlayGraph<'_, I>>, OverlayError> {
         OverlayGraph::of(self, fill_rule)
     }
