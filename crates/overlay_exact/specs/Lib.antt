@@ -2,6 +2,9 @@ pub mod AllMet
 pub mod Along
 pub mod Groups
 pub mod MetLaws
+pub mod MetTotals
 pub mod PartLaws
 pub mod Parts
+pub mod PieceOrder
+pub mod PlacesAlong
 pub mod WindingSteps

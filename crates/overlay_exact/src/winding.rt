@@ -3,7 +3,8 @@
 ghost use Rattle.std.specs.Prelude.{◌≡◌};
 ghost use Rattle.overlay_geom.specs.Points.{plain_point, InRange};
 ghost use Rattle.overlay_geom.specs.Resolved.{plain_edge, IsLongEdge};
-ghost use Rattle.overlay_exact.specs.WindingSteps.{is_right_of, winding_step};
+ghost use Rattle.overlay_scaled.specs.BesidePieces.{is_right_of};
+ghost use Rattle.overlay_exact.specs.WindingSteps.{winding_step};
 
 use overlay_geom::edge::IntEdge;
 use overlay_geom::number::{IntNumber, WideIntNumber};
