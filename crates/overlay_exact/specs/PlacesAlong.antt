@@ -60,13 +60,15 @@ abbrev pub GroupsArePlaces : List CountedEdge → CountedEdge → List Met → T
 GroupsArePlaces es e ms = (j k n : ℕ) (l : PlanePoint) → IsPlaceWith es e ms j k l → IsGroup ms k n →
     IsNextPlace es e ms k n l
 
--- e ends at a place: at the last place, where its meeting points have the part of the end. Else a piece leads on to the
--- end, which has no meeting points
+-- e ends at the place l where the meeting points at l have the part of the end. Else e leads on from there; where no
+-- group is left, a piece leads to its end, which is a place with no meeting points
 pub record EndIsPlace (es : List CountedEdge) (e : CountedEdge) (ms : List Met) : Type 0 where
+  pub begun : IsSmaller (in_plane e.a) (in_plane e.b)
   pub met : (j k : ℕ) (l : PlanePoint) (m : Met) → IsPlaceWith es e ms j k l → j < k → IsAt ms j m →
       AreEqual m.part end_part → SamePlace l (in_plane e.b)
-  pub alone : (j : ℕ) (l : PlanePoint) → IsPlaceWith es e ms j (length ms) l →
-      ((m : Met) → IsAt ms j m → ¬ (AreEqual m.part end_part)) →
+  pub short : (j k : ℕ) (l : PlanePoint) (m : Met) → IsPlaceWith es e ms j k l → j < k → IsAt ms j m →
+      ¬ (AreEqual m.part end_part) → IsSmaller l (in_plane e.b)
+  pub alone : (j : ℕ) (l : PlanePoint) → IsPlaceWith es e ms j (length ms) l → IsSmaller l (in_plane e.b) →
       IsPlaceWith es e ms (length ms) (length ms) (in_plane e.b) × IsPiece es e l (in_plane e.b)
 
 -- so a walk from group to group finds the places of an edge and its pieces, in their order
