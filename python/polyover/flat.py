@@ -8,7 +8,7 @@ from itertools import islice
 from typing import Any, Iterable, Iterator, Sequence
 
 from .errors import BadInput
-from .shapes import Paths, Shapes
+from .shapes import Paths, Shapes, paths_in_bytes, shapes_in_bytes
 from .text import coordinate
 
 WHOLE, FLOATS, COUNTS = ("q", "l"), ("d",), ("Q", "L", "N", "q", "l", "n")
@@ -136,6 +136,11 @@ class Flat:
     def __geo_interface__(self) -> dict[str, Any]:
         return Paths(self).__geo_interface__
 
+    @property
+    def wkb(self) -> bytes:
+        """The paths as well-known binary, a MultiLineString, with coordinates as floats."""
+        return paths_in_bytes(self)
+
 
 class FlatFloats(Flat):
     """Contours or open paths of floats in such arrays: the calls of `Scaled` give it, and take it in the place of
@@ -183,3 +188,8 @@ class FlatShapes:
     @property
     def __geo_interface__(self) -> dict[str, Any]:
         return Shapes(self).__geo_interface__
+
+    @property
+    def wkb(self) -> bytes:
+        """The shapes as well-known binary, a MultiPolygon, with coordinates as floats."""
+        return shapes_in_bytes(self)

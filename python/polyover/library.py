@@ -187,6 +187,8 @@ FUNCTIONS = {
     "polyover_prepared_free": (PREPARED,),
 }
 FREES = {"polyover_free", "polyover_prepared_free"}
+# (of small calls)
+FRAMED = ("polyover_resolved", "polyover_overlay")
 
 
 def coordinates_of(points: Any) -> list[Any]:
@@ -224,6 +226,9 @@ class Library:
         for name in self.names:
             function = getattr(self.functions, name)
             function.argtypes, function.restype = FUNCTIONS[name], None if name in FREES else c_uint32
+        # arrays of small calls that are not at work, and whether such calls can be asked
+        self.frames: list[Any] = []
+        self.has_frames = SIZES == "Q" and all(hasattr(self.functions, name) for name in FRAMED)
 
     def numbers(self, given: list[Any]) -> Any:
         """An array of coordinates, which are whole numbers."""

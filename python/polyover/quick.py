@@ -5,19 +5,22 @@ from __future__ import annotations
 
 import sys
 from array import array
+from ctypes import addressof, c_size_t, c_void_p, string_at
 from functools import lru_cache
 from itertools import chain
 from operator import attrgetter, mul
-from struct import unpack_from
+from struct import Struct, unpack_from
 from typing import Any, Callable, Sequence
 
 from . import calls
 from .columns import whole_row
 from .flat import Flat
-from .geojson import plain_points
+from .geojson import LISTS, NUMBERS, plain_points
 
 LITTLE = sys.byteorder == "little"
 POLYGON, MULTIPOLYGON = 3, 6
+# (the head of a polygon of one ring)
+ONE_RING = Struct("<BIII")
 # (of each ring the coordinates in a row, without the first point again at the end)
 Polygon = list[Sequence[float]]
 Writer = Callable[[Any], bytes]
@@ -34,8 +37,28 @@ def is_of_shapely(kind: Any) -> bool:
 def new_writer() -> Writer:
     """What gives the bytes of a geometry of shapely's: a writer of version 1.8, and else its property."""
     geos: Any = sys.modules.get("shapely.geos")
-    made = getattr(geos, "WKBWriter", None)
-    return made(geos.lgeos).write if made else attrgetter("wkb")  # type: ignore[no-any-return]
+    return writer_of(geos) if hasattr(geos, "WKBWriter") else attrgetter("wkb")
+
+
+def writer_of(geos: Any) -> Writer:
+    """A writer of version 1.8 that asks GEOS itself: shapely makes objects for each call, which take as long."""
+    local, made, size = geos.lgeos, geos.WKBWriter(geos.lgeos), c_size_t()
+    write, free = local._lgeos["GEOSWKBWriter_write_r"], local._lgeos["GEOSFree_r"]
+    write.argtypes, write.restype = (c_void_p,) * 4, c_void_p
+    free.argtypes, free.restype = (c_void_p,) * 2, None
+    writer, place = made._writer, addressof(size)
+
+    def written(thing: Any) -> bytes:
+        # (the handle is one of this thread)
+        handle, asked = local.geos_handle, thing._geom
+        found = write(handle, writer, asked, place) if asked else None
+        if not found:
+            return made.write(thing)  # type: ignore[no-any-return]
+        data = string_at(found, size.value)
+        free(handle, found)
+        return data
+
+    return written
 
 
 def bytes_of(thing: Any) -> bytes:
@@ -58,6 +81,40 @@ def open_ring(numbers: Sequence[float]) -> Sequence[float] | None:
     if len(numbers) < 8 or numbers[0] != numbers[-2] or numbers[1] != numbers[-1]:
         return None
     return numbers[:-2]
+
+
+@lru_cache(maxsize=256)
+def ring_format(count: int) -> Struct:
+    """A polygon of one ring of that many points, behind its head."""
+    return Struct(f"<{2 * count}d")
+
+
+def ring_of(thing: Any) -> Sequence[float] | None:
+    """The coordinates of a polygon of one ring, of shapely or GeoJSON, in a row; none of other things."""
+    kind: Any = type(thing)
+    if kind is dict:
+        return plain_ring(thing)
+    if not is_of_shapely(kind):
+        return None
+    data = bytes_of(thing)
+    if len(data) < ONE_RING.size:
+        return None
+    order, form, rings, count = ONE_RING.unpack_from(data)
+    if (order, form, rings) != (1, POLYGON, 1):
+        return None
+    return open_ring(ring_format(count).unpack_from(data, ONE_RING.size))
+
+
+def plain_ring(geometry: dict[str, Any]) -> Sequence[float] | None:
+    """The coordinates of a polygon of one ring of GeoJSON in a row, of lists of two numbers of Python's own."""
+    rings = geometry.get("coordinates")
+    if geometry.get("type") != "Polygon" or type(rings) not in LISTS or len(rings) != 1:
+        return None
+    (ring,) = rings
+    if type(ring) not in LISTS or not set(map(type, ring)) <= LISTS or set(map(len, ring)) != {2}:
+        return None
+    numbers = list(chain.from_iterable(ring))
+    return open_ring(numbers) if set(map(type, numbers)) <= NUMBERS else None
 
 
 def polygon_in_bytes(data: bytes, at: int) -> tuple[Polygon | None, int]:

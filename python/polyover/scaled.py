@@ -9,12 +9,13 @@ from math import ceil
 from operator import sub
 from typing import Any, Callable, Iterable, Sequence
 
-from . import calls, quick
+from . import calls, quick, small
 from .columns import ERROR, EXACT, LEAST, whole_points
 from .contour import WholePath, WholePoint
 from .errors import BadInput
 from .flat import Flat, FlatFloats, FlatShapes, copied, parted
 from .geojson import is_geometry, points_of
+from .library import library
 from .numbers import ratio_of
 from .prepared import Prepared
 from .progress import faults_of
@@ -267,6 +268,10 @@ class Scaled(RulesAtScale):
         **look: bool,
     ) -> Any:
         """As `polyover.overlay`; the minimum area is in squares of the floats' unit."""
+        if type(minimum_area) is int and not (minimum_area or arrays or look) and solver == SNAPPED:
+            found = small.overlay(library(), self.axes, subject, clip, rule, fill)
+            if found is not None:
+                return found
         both, area = self._both(subject, clip, fill, solver), self.area(minimum_area)
         shapes = calls.overlay(*both, rule, fill, minimum_area=area, solver=solver, arrays=True, **look)
         return self.answered(shapes, arrays)

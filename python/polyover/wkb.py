@@ -8,6 +8,7 @@ from typing import Any
 
 from .errors import BadInput
 from .geojson import NESTED
+from .shapes import points_in_bytes
 from .wkt import has_height
 
 KINDS = ("Point", "LineString", "Polygon", "MultiPoint", "MultiLineString", "MultiPolygon", "GeometryCollection")
@@ -100,21 +101,15 @@ def bytes_in(line: str) -> bytes:
 # ---- out
 
 
-def points_bytes(points: Any) -> bytes:
-    """Points of a line or a ring."""
-    numbers = [number for point in points for number in point]
-    return pack(f"<I{len(numbers)}d", len(points), *numbers)
-
-
 def data_of(kind: str, coordinates: Any, flags: int, system: int = 0) -> bytes:
     """The bytes of a geometry."""
     head = pack("<BI", 1, KINDS.index(kind) + 1 | flags | SYSTEM * bool(system)) + pack("<I", system) * bool(system)
     if kind == "Point":
         return head + pack(f"<{len(coordinates)}d", *coordinates)
     if kind == "LineString":
-        return head + points_bytes(coordinates)
+        return head + points_in_bytes(coordinates)
     if kind == "Polygon":
-        return head + pack("<I", len(coordinates)) + b"".join(map(points_bytes, coordinates))
+        return head + pack("<I", len(coordinates)) + b"".join(map(points_in_bytes, coordinates))
     parts = (data_of(kind.removeprefix("Multi"), each, flags) for each in coordinates)
     return head + pack("<I", len(coordinates)) + b"".join(parts)
 
