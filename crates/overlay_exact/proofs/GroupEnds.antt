@@ -25,12 +25,13 @@ abbrev pub IsAtMost : Fraction → Fraction → Type 0
 IsAtMost s t = (s.n *ℤ t.d) ≤ℤ (t.n *ℤ s.d)
 
 -- a part less than one at most a third is less than that
-less_at_most : (s t u : Fraction) → pos 0 <ℤ s.d → pos 0 <ℤ t.d → pos 0 <ℤ u.d → IsLess s t → IsAtMost t u → IsLess s u
+pub less_at_most : (s t u : Fraction) → pos 0 <ℤ s.d → pos 0 <ℤ t.d → pos 0 <ℤ u.d → IsLess s t → IsAtMost t u →
+    IsLess s u
 less_at_most s t u s_pos t_pos u_pos less up = by_lt_z (s.n *ℤ u.d) (u.n *ℤ s.d) (λ less. less)
     (λ back. let around = fraction_le t.n t.d u.n u.d s.n s.d t_pos u_pos s_pos up back in absurd (omega linear))
 
 -- parts equal to one part are equal
-equal_to_one : (s t u : Fraction) → pos 0 <ℤ s.d → pos 0 <ℤ t.d → pos 0 <ℤ u.d → AreEqual s t → AreEqual s u →
+pub equal_to_one : (s t u : Fraction) → pos 0 <ℤ s.d → pos 0 <ℤ t.d → pos 0 <ℤ u.d → AreEqual s t → AreEqual s u →
     AreEqual t u
 equal_to_one s t u s_pos t_pos u_pos first second =
     let low = fraction_le t.n t.d s.n s.d u.n u.d t_pos s_pos u_pos (omega linear) (omega linear) in

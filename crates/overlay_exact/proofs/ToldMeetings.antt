@@ -19,7 +19,7 @@ use Rattle.overlay_exact.specs.Parts.{LiesAt}
 
 module _ (es : List CountedEdge) (i : ℕ) (e : CountedEdge) (at : IsAt es i e) where
   -- an edge that differs stands at another place
-  other_place : (j : ℕ) (f : CountedEdge) → IsAt es j f → edge_eq (ends_of e) (ends_of f) ≡ false → j ≢ i
+  pub other_place : (j : ℕ) (f : CountedEdge) → IsAt es j f → edge_eq (ends_of e) (ends_of f) ≡ false → j ≢ i
   other_place j f at_f differ same =
       let is = one_entry es i f e (subst (λ k. IsAt es k f) same at_f) at in
       both_ways (edge_eq (ends_of e) (ends_of e)) (subst (λ g. edge_eq (ends_of e) (ends_of g) ≡ false) is differ)
@@ -33,7 +33,7 @@ module _ (es : List CountedEdge) (i : ℕ) (e : CountedEdge) (at : IsAt es i e) 
         sym (ap₂ (λ x y. edge_lt (ends_of x) (ends_of y)) first at_g.1) ∙ up j k g less at_g.0
 
     -- so edges at two places differ
-    differ_at : (j : ℕ) (f : CountedEdge) → IsAt es j f → j ≢ i → edge_eq (ends_of e) (ends_of f) ≡ false
+    pub differ_at : (j : ℕ) (f : CountedEdge) → IsAt es j f → j ≢ i → edge_eq (ends_of e) (ends_of f) ≡ false
     differ_at j f at_f apart = ⊎_elim
         (λ (before : j < i). edge_eq-flip (ends_of f) (ends_of e)
         (edge_eq-from_lt (ends_of f) (ends_of e) (less_at j i f e before at_f at)))
