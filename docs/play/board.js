@@ -52,6 +52,13 @@ export class Board {
     this.paint();
   }
 
+  /** The drawing that is painted: while the stars turn that of the answer, so that both fit each other. */
+  get drawing() {
+    const { state } = this;
+    const answered = state.answer?.drawing;
+    return state.isTurning && answered?.asked === state.asked ? answered : state.drawing;
+  }
+
   /** Whether the answers of both solvers stand side by side; not where the command takes none. */
   get isCompared() {
     return this.state.looks.solvers && isOption(this.state.asked, "solver");
@@ -103,8 +110,8 @@ export class Board {
 
   /** Paints the layers: the ground with the input, the answer, and what lies over both. */
   paintLayers(size) {
-    const { view, state, layers } = this;
-    const { drawing, answer, piece, looks } = state;
+    const { view, state, layers, drawing } = this;
+    const { answer, piece, looks } = state;
     const seen = [view.x, view.y, view.scale, view.isSplit, this.colours, JSON.stringify(looks)];
     const shown = (layer, what, paint) =>
       layer.show([...seen, ...what], size, (context) => this.paintPanes(context, (pane) => paint(context, pane)));
@@ -182,12 +189,12 @@ export class Board {
 
   /** What is drawn now: of the input, of the answer, and over both. */
   marks(pane = 0) {
-    const { state } = this;
+    const { state, drawing } = this;
     const answer = this.answerIn(pane);
     return {
-      input: inputMarks(state.drawing, state.answer),
+      input: inputMarks(drawing, state.answer),
       answer: answerMarks(answer, state.looks),
-      over: outlineMarks(state.drawing),
+      over: outlineMarks(drawing),
       nodes: nodeMarks(answer, state.looks),
     };
   }
@@ -227,7 +234,7 @@ export class Board {
   /** The handles in sight, or none where there are too many. */
   handles() {
     const found = [];
-    const { figures } = this.state;
+    const { figures } = this.drawing;
     const { paneWidth, height } = this.view;
     const [left, high] = this.view.toPoint(-HANDLE, -HANDLE);
     const right = left + (paneWidth + 2 * HANDLE) / this.view.scale;

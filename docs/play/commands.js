@@ -2,7 +2,7 @@
  * The commands, what each of them takes and answers, and the words for rules in each language.
  *
  * @typedef {import("./drawing.js").Kind} Kind
- * @typedef {"overlay" | "hierarchy" | "simplify" | "relate" | "clip" | "slice" | "locate" | "edges"} Name
+ * @typedef {"overlay" | "hierarchy" | "simplify" | "relate" | "clip" | "slice" | "tiles" | "locate" | "edges"} Name
  * @typedef {"shapes" | "paths" | "edges" | "relations" | "locations"} AnswerKind
  * @typedef {{takes: Kind[], answers: AnswerKind, says: string, options: string[]}} Command
  *
@@ -17,6 +17,8 @@
  * @property {number} minimumArea
  * @property {boolean} invert
  * @property {boolean} boundary
+ * @property {number} width  of a cell of a grid
+ * @property {number} height
  */
 
 const FILLED = ["fill", "solver"];
@@ -45,6 +47,12 @@ export const COMMANDS = {
   relate: command(REGIONS, "relations", FILLED, "How subject and clip lie to each other."),
   clip: command(LINES, "paths", [...FILLED, "invert", "boundary"], "The parts of the lines inside the subject."),
   slice: command(LINES, "shapes", FILLED, "The shapes into which the lines cut the subject."),
+  tiles: command(
+    ["subject"],
+    "shapes",
+    [...FILLED, "width", "height"],
+    "The shapes into which the cells of a grid cut the subject. A node of the grid is at (0, 0).",
+  ),
   locate: command(
     ["subject", "point"],
     "locations",
@@ -108,6 +116,8 @@ export const DEFAULTS = {
   minimumArea: 0,
   invert: false,
   boundary: false,
+  width: 10,
+  height: 10,
 };
 
 /** Whether a command has an option. Points in contours that are joined by exclusive or are located without a solver. */

@@ -6,6 +6,8 @@ import { byId, fillSelect } from "./page.js";
 
 const CHECKS = ["valid", "clockwise", "keep", "invert", "boundary"];
 const PICKS = ["command", "rule", "fill", "solver"];
+/** Fields of whole numbers, and the least of each. */
+const NUMBERS = { minimumArea: 0, width: 1, height: 1 };
 const LOOKS = ["beside", "solvers", "nodes", "sides", "lens"];
 
 /** Joins the controls of the page to the state. */
@@ -21,7 +23,9 @@ export function beginControls(/** @type {import("./state.js").State} */ state, b
   for (const name of PICKS) field(name).addEventListener("change", () => state.ask({ [name]: field(name).value }));
   for (const name of CHECKS) field(name).addEventListener("change", () => state.ask({ [name]: field(name).checked }));
   for (const name of LOOKS) field(name).addEventListener("change", () => state.look({ [name]: field(name).checked }));
-  field("minimumArea").addEventListener("change", () => state.ask({ minimumArea: wholeIn(field("minimumArea")) }));
+  for (const [name, least] of Object.entries(NUMBERS)) {
+    field(name).addEventListener("change", () => state.ask({ [name]: Math.max(least, wholeIn(field(name))) }));
+  }
   field("digits").addEventListener("change", () => state.step({ digits: Math.min(15, wholeIn(field("digits"))) }));
   field("snapping").addEventListener("change", () =>
     state.look({ snapping: /** @type {any} */ (field("snapping").value) }),
@@ -32,7 +36,7 @@ export function beginControls(/** @type {import("./state.js").State} */ state, b
     const { asked, digits } = state.drawing;
     for (const name of PICKS) field(name).value = asked[name];
     for (const name of CHECKS) field(name).checked = asked[name];
-    field("minimumArea").value = String(asked.minimumArea);
+    for (const name of Object.keys(NUMBERS)) field(name).value = String(asked[name]);
     field("digits").value = String(digits);
     byId("says").textContent = COMMANDS[asked.command].says;
     for (const part of /** @type {NodeListOf<HTMLElement>} */ (form.querySelectorAll("[data-option]"))) {

@@ -10,12 +10,6 @@ const squares = (/** @type {number} */ count) =>
     return `subject ${near} ${near} ${far} ${near} ${far} ${far} ${near} ${far}`;
   }).join("\n");
 
-/** Upright and level lines, a cell apart. */
-const cells = [
-  ...[40, 80, 120, 160].map((x) => `line ${x} -20 ${x} 160`),
-  ...[40, 80, 120].map((y) => `line -20 ${y} 200 ${y}`),
-].join("\n");
-
 const needles = "subject 2 0 0 66 2 -66\nsubject 1 0 0 67 -1 0\nrun overlay Union NonZero ogc";
 
 const touching = "subject 0 0 6 0 6 6 0 6\nsubject 0 3 2 4 2 2\nrun overlay Subject EvenOdd";
@@ -102,11 +96,10 @@ export const EXAMPLES = [
     text: [
       "subject 13 9 71 -9 128 11 182 52 169 113 107 141 52 128 -2 83",
       "subject 58 52 83 93 121 78 108 41",
-      cells,
-      "run slice EvenOdd",
+      "run tiles EvenOdd 40 40",
     ].join("\n"),
-    says: "The lines of the grid cut the lake, with its island, into shapes of one cell each.",
-    tries: "drag the lake, and its island stays: cells change their shapes.",
+    says: "The cells of a grid cut the lake, with its island, into shapes of one cell each.",
+    tries: "choose other sides of a cell; or drag the lake, while its island stays.",
   },
   {
     name: "hierarchy",

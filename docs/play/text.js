@@ -26,6 +26,8 @@ export function commandWords(/** @type {import("./commands.js").Asked} */ asked)
       return ["overlay", "Subject", fill, ...look];
     case "clip":
       return [command, fill, ...(asked.invert ? ["invert"] : []), ...(asked.boundary ? ["boundary"] : [])];
+    case "tiles":
+      return [command, fill, String(asked.width), String(asked.height)];
     case "locate":
       return [command];
     default:
@@ -80,6 +82,13 @@ function takeOptions(asked, /** @type {string[]} */ words, /** @type {string} */
   }
 }
 
+/** The sides of a cell of a grid. */
+function cellIn(/** @type {string[]} */ words, /** @type {string} */ where) {
+  const [width, height] = numbersIn(words, where);
+  if (!(width >= 1 && height >= 1)) throw new BadText(`${where}: a cell has a width and a height, of at least 1`);
+  return { width, height };
+}
+
 /**
  * What the words after `run` ask for.
  *
@@ -100,6 +109,7 @@ export function askedIn(/** @type {string[]} */ given, where = "the command") {
     if (name === undefined) throw new BadText(`${where}: an unknown ${option} rule`);
     asked[option] = name;
   }
+  if (command === "tiles") Object.assign(asked, cellIn(words.splice(0, 2), where));
   takeOptions(asked, words, where);
   return asked;
 }

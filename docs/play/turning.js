@@ -52,6 +52,8 @@ export class Turning {
     this.slider.value = String(FIRST);
     this.cover(COVERED);
     this.tell();
+    // (asked once more, so that the time is that of a call which is timed)
+    this.show();
     if (this.still.matches) this.stop();
     else this.start();
   }

@@ -23,6 +23,7 @@ function optionsOf(asked) {
     hierarchy: { ...filled, ...look, rule: asked.rule },
     simplify: { ...filled, ...look },
     clip: { ...filled, invert: asked.invert, boundary: asked.boundary },
+    tiles: { ...filled, width: asked.width, height: asked.height },
   }[asked.command] ?? filled;
 }
 
@@ -57,6 +58,7 @@ const ANSWERED = {
   },
   clip: (library, { subject, line }, options) => ({ kind: "paths", ...paths(library.clip(subject, line, options)) }),
   slice: (library, { subject, line }, options) => shapes(library.slice(subject, line, options)),
+  tiles: (library, { subject }, { width, height, ...how }) => shapes(library.tiles(subject, width, height, how)),
   locate: (library, { subject, point }, { fill, solver }) => ({
     kind: "locations",
     locations: located(library, subject, point.coordinates, fill, solver),
@@ -75,6 +77,17 @@ function arranged(library, { subject, clip, line }, { fill, solver }) {
 
 /** Calls that take fewer milliseconds than the first are timed again, as many as fill them. */
 const [SHORT, MOST_CALLS] = [4, 400];
+/** For as many milliseconds the first call that is timed is made before: engines compile what is called often anew. */
+const WARMING = 60;
+let isWarm = false;
+
+/** Makes a call again and again, before the first that is timed. */
+function warm(/** @type {() => any} */ call) {
+  if (isWarm) return;
+  isWarm = true;
+  const end = performance.now() + WARMING;
+  while (performance.now() < end) call();
+}
 
 /** The milliseconds of a call that was called before: of several where it is short. */
 function warmTime(/** @type {() => any} */ call) {
@@ -94,9 +107,10 @@ function answered(library, { figures, asked, isArranged, isFilled, isTimed }) {
   const flat = Object.fromEntries(
     Object.entries(figures).map(([kind, { coordinates, ends }]) => [kind, new Flat(coordinates, ends)]),
   );
-  const began = performance.now();
   const options = { ...optionsOf(asked), ...(asked.command === "relate" ? {} : { answer: "arrays" }) };
   const call = () => ANSWERED[asked.command](library, flat, options);
+  if (isTimed) warm(call);
+  const began = performance.now();
   const answer = call();
   const first = performance.now() - began;
   const time = isTimed && first < SHORT ? warmTime(call) : first;

@@ -13,7 +13,7 @@ HERE = Path(__file__).resolve().parent
 THEMES = {"light": False, "dark": True}
 # another pixel is one in which a colour differs by more than the first; the second is how many there may be, of 19,200
 DISTANCE, OTHERS = 24, 20
-COMMANDS = ("overlay", "hierarchy", "simplify", "relate", "clip", "slice", "locate", "edges")
+COMMANDS = ("overlay", "hierarchy", "simplify", "relate", "clip", "slice", "tiles", "locate", "edges")
 LOOKS = ("beside", "nodes", "sides", "lens", "solvers")
 BEGUN = """
     const [rows] = arguments, box = document.querySelector(".board");

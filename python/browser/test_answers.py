@@ -18,6 +18,7 @@ OPTIONS = {
     "relate": [{"fill": "negative"}],
     "clip": [{"invert": True}, {"boundary": True}],
     "slice": [{"fill": "evenodd"}],
+    "tiles": [{"width": "3", "height": "2"}, {"fill": "evenodd", "width": "4", "height": "9"}],
     "locate": [{"fill": "evenodd"}],
     "edges": [{"fill": "positive"}],
 }
@@ -189,6 +190,17 @@ class Answers(unittest.TestCase):
         self.page.open("#subject=0+0+4+4+4+0+0+4&point=1+1&run=locate")
         self.assertEqual(self.page.answer()["name"], "NotResolved")
         self.assertIn("contour 1", self.page.text("answer"))
+
+    def test_tiles(self):
+        """A square of side 4 in two cells; a cell has sides of at least 1, and a grid at most 1,000 lines."""
+        self.page.open("#subject=0+0+4+0+4+4+0+4&run=tiles+NonZero+2+9")
+        left, right = [[2, 0], [2, 4], [0, 4], [0, 0]], [[4, 0], [4, 4], [2, 4], [2, 0]]
+        self.assertEqual(self.page.answer()["shapes"], [[left], [right]])
+        self.page.choose("width", "0")
+        self.assertEqual(self.page.run("return polyover.state.asked.width"), 1)
+        self.page.open("#subject=0+0+1002+0+0+4&run=tiles+NonZero+1+9")
+        self.assertEqual(self.page.answer()["name"], "BadInput")
+        self.assertIn("more than 1,000 lines in a direction", self.page.text("answer"))
 
     def test_nothing(self):
         self.page.press("#clear")

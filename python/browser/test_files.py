@@ -120,6 +120,7 @@ class Files(unittest.TestCase):
             "run=locate&fill=negative&solver=rounds",
             "run=clip+Positive+invert+boundary",
             "run=simplify+Negative",
+            "run=tiles+NonZero+3+2&solver=rounds",
         ):
             self.page.open(f"#subject=0+0+7+1+3+9&point=1+1&{question}")
             before = self.page.run("return [polyover.state.drawing, polyover.state.answer.kind]")
@@ -217,6 +218,8 @@ class Files(unittest.TestCase):
             ("#subject=0+0+4+0+4+4&run=overlay+Uni", "an unknown rule rule"),
             ("#drawing", "drawing is no part of a drawing"),
             ("#run=locate&shape=1+1", "shape is no part of a drawing"),
+            ("#run=tiles+NonZero+3", "a cell has a width and a height, of at least 1"),
+            ("#run=tiles+NonZero+3+2+ogc", "ogc is no option here"),
             ("#run=edges+NonZero&digits=16", "16 is no number of digits"),
             ("#run=edges+NonZero&solver=exact", "exact is no solver here"),
             ("#run=edges+NonZero&fill=positive", "positive is no fill rule here"),
@@ -363,7 +366,8 @@ class Calls(unittest.TestCase):
         """Shows an example of each command, in turn."""
         browser().size()
         browser().load()
-        for name in ("picture", "hierarchy", "winding", "relate", "clip", "floor", "locate", "prepared", "edges"):
+        examples = ("picture", "hierarchy", "winding", "relate", "clip", "floor", "tiles", "locate")
+        for name in (*examples, "prepared", "edges"):
             if name == "edges":
                 browser().choose("command", "edges")
             elif name == "prepared":

@@ -8,6 +8,7 @@ from .test_look import SQUARES
 
 QUOTED = re.compile(r"((?:^   >.*\n)+)", re.MULTILINE)
 TOLD = re.compile(r"^(20|40|100|200|400|1,000|2,000|4,000|10,000|20,000) edges, [0-9,]+ µs a call$")
+MICROSECONDS = re.compile("([0-9,]+) µs")
 STARS = "return polyover.state.figures"
 TURNED = "return JSON.stringify(polyover.state.figures) !== JSON.stringify(arguments[0])"
 IS_TIMED = "return document.getElementById('turning-told').textContent.includes('µs a call')"
@@ -53,6 +54,7 @@ class First(unittest.TestCase):
         self.assertIn("Each answer is proved for every input", told["proved"])
         self.assertIn("built without its proof", told["unproved"])
         self.assertEqual(told["unknown"], "")
+        self.assertIn("Polyover is a library", self.page.run("return document.querySelector('.lead').textContent"))
 
     def test_guarantee_is_that_of_the_readme(self):
         self.page.load()
@@ -91,6 +93,17 @@ class First(unittest.TestCase):
         self.assertFalse(self.is_turning())
         self.assertTrue(self.page.run("return document.getElementById('turning').hidden"))
 
+    def test_stars_that_turn_fit_their_answer(self):
+        """The board shows the stars that were answered, and once they stand those that are drawn."""
+        self.page.size(is_moving=True)
+        self.page.load()
+        fits = "const { board, state } = polyover; return [board.drawing === state.answer.drawing, state.isTurning]"
+        for _ in range(20):
+            self.assertEqual(self.page.run(fits), [True, True])
+        self.page.press("#turning-switch")
+        self.assertTrue(self.page.run("return polyover.board.drawing === polyover.state.drawing"))
+        self.page.size()
+
     def test_stars_stand_where_motion_is_not_wanted(self):
         self.page.load()
         self.assertFalse(self.is_turning())
@@ -102,6 +115,21 @@ class First(unittest.TestCase):
             self.assertEqual([self.page.run(count, kind) for kind in ("subject", "clip")], [edges / 2, edges / 2])
             self.assertRegex(self.page.text("turning-told"), TOLD)
             self.assertEqual(self.page.answer()["kind"], "shapes")
+
+    def test_time_of_stars_that_stand_is_of_a_warm_call(self):
+        """It is near that of many calls. (A busy machine is asked until it has a moment for it.)"""
+
+        def told():
+            return int(MICROSECONDS.search(self.page.text("turning-told"))[1].replace(",", ""))
+
+        def is_near():
+            self.page.load()
+            first = told()
+            self.page.press("#turning-switch")
+            self.page.until("return polyover.turning.times.length === 15")
+            return first < 8 * told()
+
+        self.assertTrue(any(is_near() for _ in range(5)))
 
     def test_each_example_says_what_to_try(self):
         self.page.load()

@@ -57,25 +57,42 @@ CUT = """
     }
     return found;
 """
-# the least contrast of a text with its ground, by WCAG, among some parts of the page
+# the least contrast of a text with its ground, by WCAG; a ground that lets some of another through is mixed with it
 CONTRAST = """
-    const numbers = (colour) => colour.match(/[0-9.]+/g).map(Number);
-    const shine = ([r, g, b]) => [r, g, b]
+    const numbers = (colour) => {
+        const found = colour.match(/[0-9.]+/g).map(Number), times = colour.startsWith("color(") ? 255 : 1;
+        return [...found.slice(0, 3).map((each) => each * times), found[3] ?? 1];
+    };
+    const shine = (colour) => colour
         .map((each) => each / 255)
         .map((each) => (each <= 0.03928 ? each / 12.92 : ((each + 0.055) / 1.055) ** 2.4))
         .reduce((sum, each, at) => sum + each * [0.2126, 0.7152, 0.0722][at], 0);
+    const over = (colour, under) =>
+        colour.slice(0, 3).map((each, at) => colour[3] * each + (1 - colour[3]) * under[at]);
     const ground = (each) => {
-        const found = numbers(getComputedStyle(each).backgroundColor);
-        return found.length > 3 && found[3] === 0 ? ground(each.parentElement) : found;
+        if (!each) return [255, 255, 255];
+        const colour = numbers(getComputedStyle(each).backgroundColor);
+        return colour[3] === 1 ? colour.slice(0, 3) : over(colour, ground(each.parentElement));
     };
-    const parts = "h1, h2, button:not(:disabled), select, label, .says, .quiet, .size, pre, .summary";
-    return [...document.querySelectorAll(parts)]
-        .filter((each) => each.getBoundingClientRect().width)
-        .map((each) => {
-            const [text, under] = [numbers(getComputedStyle(each).color), ground(each)].map(shine);
-            return [(Math.max(text, under) + 0.05) / (Math.min(text, under) + 0.05), each.outerHTML.slice(0, 80)];
-        })
-        .sort(([a], [b]) => a - b)[0];
+    const found = [], walker = document.createTreeWalker(document.body, NodeFilter.SHOW_TEXT);
+    while (walker.nextNode()) {
+        const { parentElement, data } = walker.currentNode;
+        const parent = parentElement.closest("select") ?? parentElement;
+        if (!data.trim() || !parent.getBoundingClientRect().width || parent.closest(":disabled, script")) continue;
+        const under = ground(parent), text = over(numbers(getComputedStyle(parent).color), under);
+        const [low, high] = [text, under].map(shine).sort((a, b) => a - b);
+        found.push([(high + 0.05) / (low + 0.05), data.trim().slice(0, 40)]);
+    }
+    return [...found.sort(([a], [b]) => a - b)[0], found.length];
+"""
+# shows all that comes over the board or the page at times
+OVERLAID = """
+    for (const name of ["tip", "begun", "notice", "busy", "turning"]) document.getElementById(name).hidden = false;
+    for (const name of ["tip", "notice", "checked", "place", "call-note", "turning-told"]) {
+        document.getElementById(name).textContent ||= "something";
+    }
+    document.querySelector("#begun span").textContent ||= "something";
+    for (const name of ["promise", "help"]) document.getElementById(name).setAttribute("open", "");
 """
 
 
@@ -95,8 +112,22 @@ class Look(unittest.TestCase):
                     across, room = self.page.run(OVERFLOW)
                     self.assertLessEqual(across, room)
                     self.assertEqual(self.page.run(OUT_OF_SIGHT), [])
-                    contrast, part = self.page.run(CONTRAST)
+                    contrast, part, count = self.page.run(CONTRAST)
                     self.assertGreaterEqual(contrast, 4.5, part)
+                    self.assertGreater(count, 60)
+
+    def test_all_texts_have_contrast(self):
+        """Each text, also over the board, in boxes, of a refusal, and of what a check has found."""
+        for is_dark in (False, True):
+            self.page.size(is_dark=is_dark)
+            self.page.load(SQUARES)
+            for name in ("picture", "refused", "relate", "locate", "snapping"):
+                self.page.example(name)
+                self.page.run(OVERLAID)
+                contrast, part, count = self.page.run(CONTRAST)
+                self.assertGreaterEqual(contrast, 4.5, (is_dark, name, part))
+                self.assertGreater(count, 100)
+        self.page.load()
 
     def test_no_text_is_cut_off(self):
         for width, height in WIDTHS:

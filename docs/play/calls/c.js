@@ -120,6 +120,17 @@ export function cOf(/** @type {import("../state.js").Drawing} */ { figures, aske
       ...PRINTED,
     ],
     slice: () => [...lines, ...shapes(of(`${fill}, ${solver}, &subject, &lines`), room)],
+    tiles: () => [
+      ...group("subject", figures.subject),
+      "    polyover_result result;",
+      `    polyover_status status = polyover_tiles_result(${fill}, ${solver}, &subject,`,
+      `        ${literal(asked.width)}, ${literal(asked.height)}, &result);`,
+      "    if (status != POLYOVER_OK) return 1;",
+      "    for (size_t at = 0; at < result.coordinate_count; at += 2) {",
+      '        printf("%lld %lld\\n", (long long)result.coordinates[at], (long long)result.coordinates[at + 1]);',
+      "    }",
+      "    polyover_free(&result);",
+    ],
     locate: () => [
       ...group("subject", figures.subject),
       `    const int64_t points[] = {${figures.point.flat(2).map(literal).join(", ") || "0"}};`,

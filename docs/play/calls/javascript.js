@@ -41,6 +41,7 @@ export function javascriptOf(/** @type {import("../state.js").Drawing} */ { figu
     relate: [...both, call(["subject", "clip"], ["fill", "solver"])],
     clip: [...lines, call(["subject", "lines"], ["fill", "invert", "boundary", "solver"])],
     slice: [...lines, call(["subject", "lines"], ["fill", "solver"])],
+    tiles: [given("subject"), call(["subject", `${asked.width}`, `${asked.height}`], ["fill", "solver"])],
     locate: [given("subject"), points, located],
     edges: [...both, call(["subject", "clip"], ["fill", "solver"])],
   };

@@ -38,6 +38,7 @@ export function pythonOf(/** @type {import("../state.js").Drawing} */ { figures,
     relate: [...both, call("relate", "subject", "clip", fill, ...solver)],
     clip: [...lines, call("clip", "subject", "lines", fill, ...clipped, ...solver)],
     slice: [...lines, call("slice", "subject", "lines", fill, ...solver)],
+    tiles: [given("subject"), call("tiles", "subject", asked.width, asked.height, fill, ...solver)],
     locate: [given("subject"), points, located],
     edges: [...both, call("edges", "subject", "clip", fill, ...solver)],
   };

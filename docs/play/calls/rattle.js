@@ -124,6 +124,15 @@ const PARTS = {
       "}",
     ],
   }),
+  tiles: (figures, asked) => ({
+    answers: SHAPES,
+    lines: [
+      ...listed("shape", figures.subject),
+      `let grid = Grid { width: ${asked.width}, height: ${asked.height} };`,
+      "// (a cell of at least 1 by 1, and at most 1,000 lines in each direction: `grid_fits` tells)",
+      `slice_by_grid_with_solver(alloc, &shape, grid, ${fillOf(asked)}, ${solverOf(asked)})`,
+    ],
+  }),
   locate: (figures, asked) => ({
     answers: "Vec<PointLocation, Global>",
     lines: [
@@ -147,6 +156,7 @@ const PATHS = {
   DataVectorEdge: "i_overlay::vector::edge::DataVectorEdge",
   FillRule: "i_overlay::fill_rule::FillRule",
   FlatShapeHierarchy: "i_overlay::hierarchy::FlatShapeHierarchy",
+  Grid: "i_overlay::tiles::Grid",
   IntOverlayOptions: "i_overlay::overlay::IntOverlayOptions",
   IntPath: "i_overlay::i_shape::int::path::IntPath",
   IntPoint: "i_overlay::i_float::int::point::IntPoint",
@@ -160,6 +170,7 @@ const PATHS = {
   PredicateOverlay: "i_overlay::relate::PredicateOverlay",
   Relations: "i_overlay::relate::Relations",
   ShapeType: "i_overlay::overlay::ShapeType",
+  slice_by_grid_with_solver: "i_overlay::tiles::slice_by_grid_with_solver",
   Solver: "i_overlay::solver::Solver",
   StringOverlay: "i_overlay::string::overlay::StringOverlay",
   StringRule: "i_overlay::string::rule::StringRule",
