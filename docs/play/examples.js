@@ -41,7 +41,7 @@ export const EXAMPLES = [
     label: "Two shapes, their union",
     text: "subject 1 0 4 0 4 5 1 5\nsubject 2 1 2 4 3 4 3 1\nclip 0 2 5 2 5 3 0 3\nrun overlay Union EvenOdd ogc",
     looks: { nodes: true },
-    says: "The picture of README: one shape with two holes, and the nodes of the arrangement.",
+    says: "One shape with two holes. Dots are the nodes of the arrangement, where edges meet or end.",
     tries: "drag the bar up until it leaves the holes.",
   },
   {

@@ -5,7 +5,7 @@ import { byId } from "./page.js";
 /** What may be said of answers, by how the library was built. */
 const SAID = {
   proved: "Each answer is proved for every input: the functions behind it keep their contracts, whatever you draw.",
-  unproved: "This copy was built without its proof; one that is built with it guarantees each answer.",
+  unproved: "This copy was built without its proof; one built with it guarantees each answer.",
 };
 
 /** Says whether answers are proved. A library that does not tell is not said to be. */
