@@ -188,7 +188,7 @@ FUNCTIONS = {
 }
 FREES = {"polyover_free", "polyover_prepared_free"}
 # (of small calls)
-FRAMED = ("polyover_resolved", "polyover_overlay")
+FRAMED = ("polyover_resolved", "polyover_overlay", "polyover_relate", "polyover_relate_one")
 
 
 def coordinates_of(points: Any) -> list[Any]:

@@ -269,7 +269,7 @@ class Scaled(RulesAtScale):
     ) -> Any:
         """As `polyover.overlay`; the minimum area is in squares of the floats' unit."""
         if type(minimum_area) is int and not (minimum_area or arrays or look) and solver == SNAPPED:
-            found = small.overlay(library(), self.axes, subject, clip, rule, fill)
+            found = small.overlay(library(), self.axes, (subject, clip), rule, fill)
             if found is not None:
                 return found
         both, area = self._both(subject, clip, fill, solver), self.area(minimum_area)
@@ -334,9 +334,16 @@ class Scaled(RulesAtScale):
         self, subject: Group, clip: Group, fill: Fill = "nonzero", *, solver: Solver = SNAPPED
     ) -> dict[str, bool]:
         """As `polyover.relate`, of the coordinates as they are taken at this scale."""
+        found = small.relate(library(), self.axes, (subject, clip), fill) if solver == SNAPPED else None
+        if found is not None:
+            return found  # type: ignore[no-any-return]
         return calls.relate(*self._both(subject, clip, fill, solver), fill, solver=solver)
 
     def _relate_one(self, relation: str, subject: Group, clip: Group, fill: Fill, solver: Solver) -> bool:
+        given = library(), self.axes, (subject, clip), fill
+        found = small.relate_one(relation, *given) if solver == SNAPPED else None
+        if found is not None:
+            return found  # type: ignore[no-any-return]
         return calls.relate_one(relation, *self._both(subject, clip, fill, solver), fill, solver=solver)
 
     def clip(

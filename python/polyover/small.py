@@ -1,8 +1,8 @@
-"""Small overlays of floats by one call of the library, in an array that is kept for the next one: what the library is
-given, and what it answers, stand in it.
+"""Small overlays and relations of floats by one call of the library, in an array that is kept for the next one: what
+the library is given, and what it answers, stand in it.
 
 Taken are polygons of one ring, of shapely or GeoJSON, and plain lists of contours. Where anything is otherwise, or the
-call does not end well, there is no answer here: then the overlay is asked as all others are, which names places."""
+call does not end well, there is no answer here: then it is asked as all others are, which names places."""
 
 from __future__ import annotations
 
@@ -12,14 +12,16 @@ from functools import lru_cache
 from itertools import chain
 from struct import Struct
 from struct import error as StructError
-from typing import Any, Sequence
+from typing import Any, Callable, Sequence
 
 from .columns import whole_row
+from .contour import room_in
 from .flat import parted
 from .geojson import LISTS, NUMBERS
 from .library import Library
 from .quick import ring_of
 from .shapes import Paths, Shapes
+from .text import RELATIONS
 
 WORD = 8
 # (how many numbers there is room for, given and answered, and how many contours)
@@ -32,10 +34,16 @@ CONTOUR_ENDS = ANSWER + ANSWERED
 SHAPE_ENDS = CONTOUR_ENDS + CONTOURS
 WORDS = SHAPE_ENDS + CONTOURS
 HEAD = Struct("12q")
-OVERLAY = (c_uint32, c_uint32, *(c_void_p,) * 3, *(c_void_p, c_size_t) * 3, c_void_p)
 RULES = {"subject": 0, "clip": 1, "intersect": 2, "union": 3, "difference": 4, "inverse_difference": 5, "xor": 6}
 # (a ring fills the same by these, whichever way it runs)
 FILLS = {"evenodd": 0, "nonzero": 1}
+SNAPPED = 0
+TAKES = {
+    "polyover_resolved": (c_void_p,),
+    "polyover_overlay": (c_uint32, c_uint32, *(c_void_p,) * 3, *(c_void_p, c_size_t) * 3, c_void_p),
+    "polyover_relate": (c_uint32, c_uint32, *(c_void_p,) * 3),
+    "polyover_relate_one": (*(c_uint32,) * 3, *(c_void_p,) * 3),
+}
 # a group: its coordinates in a row, how many points there are up to the end of each contour, whether it is a geometry
 Rows = tuple[Sequence[float], list[int], bool]
 
@@ -53,13 +61,17 @@ class Frame:
         self.words = array("q", bytes(WORD * WORDS))
         self.base = self.words.buffer_info()[0]
         self.coordinates, self.ends = self.at(COORDINATES), self.at(ENDS)
-        self.resolved, self.overlay = asked.functions["polyover_resolved"], asked.functions["polyover_overlay"]
-        self.resolved.argtypes, self.overlay.argtypes = (c_void_p,), OVERLAY
-        self.resolved.restype = self.overlay.restype = c_uint32
+        calls = []
+        for name, takes in TAKES.items():
+            call = asked.functions[name]
+            call.argtypes, call.restype = takes, c_uint32
+            calls.append(call)
+        self.resolved, self.overlay, self.relate, self.relate_one = calls
         rooms = (ANSWER, ANSWERED), (CONTOUR_ENDS, CONTOURS), (SHAPE_ENDS, CONTOURS)
         answer = [number for place, room in rooms for number in (self.at(place), room)]
+        self.both, self.counts = (self.base, self.at(CLIP)), self.at(COUNTS)
         # (without options the default ones are taken)
-        self.passed = (None, self.base, self.at(CLIP), *answer, self.at(COUNTS))
+        self.passed = (None, *self.both, *answer, self.counts)
 
     def at(self, word: int) -> int:
         """The address of a word."""
@@ -79,7 +91,7 @@ class Frame:
             return not self.resolved(self.at(BOTH) if clip[2] else self.base)
         return not clip[2] or not self.resolved(self.at(CLIP))
 
-    def answer(self, rule: int, fill: int, axes: Sequence[Any]) -> Shapes | None:
+    def shapes(self, rule: int, fill: int, axes: Sequence[Any]) -> Shapes | None:
         """The shapes of the overlay of what was written, if the call ends well."""
         words = self.words
         if self.overlay(rule, fill, *self.passed):
@@ -90,6 +102,19 @@ class Frame:
             return Shapes([Paths([points])])
         parts = parted(points, words[CONTOUR_ENDS : CONTOUR_ENDS + contours].tolist())
         return Shapes(map(Paths, parted(parts, words[SHAPE_ENDS : SHAPE_ENDS + shapes].tolist())))
+
+    def relations(self, fill: int) -> dict[str, bool] | None:
+        """Which relations hold of what was written, if the call ends well."""
+        self.words[COUNTS] = 0
+        if self.relate(fill, SNAPPED, *self.both, self.counts):
+            return None
+        found = self.words[COUNTS]
+        return {name: bool(found >> at & 1) for at, name in enumerate(RELATIONS)}
+
+    def relation(self, bit: int, fill: int) -> bool | None:
+        """Whether a relation holds of what was written, if the call ends well."""
+        self.words[COUNTS] = 0
+        return None if self.relate_one(bit, fill, SNAPPED, *self.both, self.counts) else self.words[COUNTS] == 1
 
 
 def points_of(whole: Sequence[int], axes: Sequence[Any]) -> list[tuple[float, float]]:
@@ -122,9 +147,12 @@ def visits_once(row: Sequence[int]) -> bool:
     return 2 * len(set(zip(numbers, numbers))) == len(row)
 
 
-def overlaid(asked: Library, axes: Sequence[Any], subject: Any, clip: Any, rule: int, fill: int) -> Shapes | None:
-    """The shapes of the overlay of two groups, by the numbers of the rules, if it is small and plain."""
-    one, other = rows_of(subject), rows_of(clip)
+def with_frame(
+    asked: Library, axes: Sequence[Any], groups: tuple[Any, Any], ask: Callable[[Frame], Any], is_finest: bool
+) -> Any:
+    """What a frame answers with two groups in it, if they are small and plain; where the finest scale is wanted, their
+    coordinates are multiplied by the greatest power of two that keeps them in the range."""
+    one, other = rows_of(groups[0]), rows_of(groups[1])
     if one is None or other is None:
         return None
     given = len(one[0])
@@ -133,24 +161,50 @@ def overlaid(asked: Library, axes: Sequence[Any], subject: Any, clip: Any, rule:
     row = whole_row(axes, [*one[0], *other[0]])
     if one[2] and not visits_once(row[:given]) or other[2] and not visits_once(row[given:]):
         return None
+    if is_finest:
+        power = room_in(row)
+        row = [value << power for value in row]
     try:
         frame = asked.frames.pop()
     except IndexError:
         frame = Frame(asked)
     try:
-        return frame.answer(rule, fill, axes) if frame.are_given(row, one, other) else None
+        return ask(frame) if frame.are_given(row, one, other) else None
     finally:
         asked.frames.append(frame)
 
 
-def overlay(
-    asked: Library | None, axes: Sequence[Any], subject: Any, clip: Any, rule: Any, fill: Any
-) -> Shapes | None:
-    """The shapes of the overlay of two groups, by the rules' names, if it is small and plain and there is a library."""
+def answer(
+    asked: Library | None,
+    axes: Sequence[Any],
+    groups: tuple[Any, Any],
+    ask: Callable[[Frame], Any],
+    is_finest: bool = False,
+) -> Any:
+    """What a frame answers with two groups in it, if there is a library and they are small and plain."""
     if asked is None or not asked.has_frames:
         return None
     try:
-        return overlaid(asked, axes, subject, clip, RULES[rule], FILLS[fill])
+        return with_frame(asked, axes, groups, ask, is_finest)
     except (KeyError, TypeError, ValueError, OverflowError, StructError):
         # (there is no such rule, or what is given is no number, out of range, or no list)
         return None
+
+
+# ---- the calls
+
+
+def overlay(asked: Library | None, axes: Sequence[Any], groups: tuple[Any, Any], rule: Any, fill: Any) -> Any:
+    """The shapes of the overlay of two groups, if they are small and plain."""
+    return answer(asked, axes, groups, lambda frame: frame.shapes(RULES[rule], FILLS[fill], axes))
+
+
+def relate(asked: Library | None, axes: Sequence[Any], groups: tuple[Any, Any], fill: Any) -> Any:
+    """Which relations hold of two groups, if they are small and plain."""
+    return answer(asked, axes, groups, lambda frame: frame.relations(FILLS[fill]), True)
+
+
+def relate_one(relation: str, asked: Library | None, axes: Sequence[Any], groups: tuple[Any, Any], fill: Any) -> Any:
+    """Whether a relation holds of two groups, if they are small and plain."""
+    bit = 1 << RELATIONS.index(relation)
+    return answer(asked, axes, groups, lambda frame: frame.relation(bit, FILLS[fill]), True)
