@@ -37,8 +37,8 @@ def floats_of(numpy: Any, points: Sequence[Any]) -> Any:
     return numpy.frombuffer(array("d", numbers), numpy.float64).reshape(-1, 2)
 
 
-def whole_column(numpy: Any, axis: Any, values: Any) -> list[int]:
-    """The whole numbers of a column, those that are near a half or large one by one."""
+def whole_column(numpy: Any, axis: Any, values: Any, given: Sequence[Any]) -> list[int]:
+    """The whole numbers of a column; of those that are near a half or large one by one, as they were given."""
     start, scale = axis.floats
     with numpy.errstate(all="ignore"):
         found = (values - start) * scale
@@ -47,20 +47,38 @@ def whole_column(numpy: Any, axis: Any, values: Any) -> list[int]:
         is_sure = (numpy.abs(found) < EXACT) & (numpy.abs(found - nearest) + lost < 0.5)
         whole = numpy.where(is_sure, nearest, 0).astype(numpy.int64).tolist()
     for at in numpy.nonzero(~is_sure)[0].tolist():
-        whole[at] = axis.whole(values[at])
+        whole[at] = axis.whole(given[at])
     return whole  # type: ignore[no-any-return]
 
 
-def whole_points(axes: Sequence[Any], points: Sequence[Any]) -> list[tuple[int, int]] | None:
-    """The whole points of many points of floats, where columns are of use."""
-    numpy = numpy_for(len(points))
-    if numpy is None or any(axis.floats is None for axis in axes):
+def plain_row(points: Sequence[Any]) -> list[Any] | None:
+    """The coordinates of points in a row, if they are points of two numbers of Python's own."""
+    try:
+        if set(map(len, points)) != {2}:
+            return None
+    except TypeError:
         return None
-    floats = floats_of(numpy, points)
-    if floats is None:
+    numbers = list(chain.from_iterable(points))
+    return numbers if set(map(type, numbers)) <= {float, int} else None
+
+
+def whole_points(axes: Sequence[Any], points: Sequence[Any]) -> list[tuple[int, int]] | None:
+    """The whole points of many points of numbers, where columns are of use."""
+    if len(points) < FEW:
         return None
     try:
-        xs, ys = (whole_column(numpy, axis, floats[:, at]) for at, axis in enumerate(axes))
+        numbers = plain_row(points)
+        if numbers is not None:
+            row = iter(whole_row(axes, numbers))
+            return list(zip(row, row))
+        numpy = numpy_for(len(points))
+        if numpy is None or any(axis.floats is None for axis in axes):
+            return None
+        floats = floats_of(numpy, points)
+        if floats is None:
+            return None
+        columns = [floats[:, at] for at in range(2)]
+        xs, ys = (whole_column(numpy, axis, column, column) for axis, column in zip(axes, columns))
     except (ValueError, OverflowError):
         # (a number that is none: one by one it is found)
         return None
@@ -77,7 +95,8 @@ def whole_row(axes: Sequence[Any], numbers: Sequence[float]) -> list[int]:
         xs, ys = across.column(numbers[0::2]), up.column(numbers[1::2])
     else:
         floats = numpy.array(numbers, numpy.float64)
-        xs, ys = whole_column(numpy, across, floats[0::2]), whole_column(numpy, up, floats[1::2])
+        xs = whole_column(numpy, across, floats[0::2], numbers[0::2])
+        ys = whole_column(numpy, up, floats[1::2], numbers[1::2])
     row = [0] * len(numbers)
     row[0::2], row[1::2] = xs, ys
     return row

@@ -88,9 +88,8 @@ class Reader:
 
     def points(self, place: Place, path: object, least: int) -> Path | None:
         """The points of a ring or line, with x and y alone; none where too few of them are to be skipped."""
-        points = plain_points(path)
-        if points is None:
-            points = [checked_point(place, number, point) for number, point in enumerate(listed(place, path), 1)]
+        plain = plain_points(path)
+        points = self.checked(place, path) if plain is None else plain
         if least == 3 and len(points) > 1 and tuple(points[0]) == tuple(points[-1]):
             points.pop()
         if len(points) < least:
@@ -99,10 +98,16 @@ class Reader:
                 raise BadInput(f"{place}: {len(points)} points: {what}")
             self.told.add(SKIPPED, place)
             return None
+        if plain is not None:
+            return plain
         more = sum(len(point) > 2 for point in points)
         if more:
             self.told.add(DROPPED, place, more)
-        return [tuple(point[:2]) for point in points] if more else list(map(tuple, points))
+        return [tuple(point[:2]) for point in points]
+
+    def checked(self, place: Place, path: object) -> list[Any]:
+        """The points of a ring or line, each with what it has beyond x and y."""
+        return [checked_point(place, number, point) for number, point in enumerate(listed(place, path), 1)]
 
     def polygon(self, place: Place, rings: object) -> Iterator[Part]:
         """A polygon, if its outline is one."""

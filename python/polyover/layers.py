@@ -5,7 +5,7 @@ from __future__ import annotations
 
 from typing import Any, Callable, Iterator, NamedTuple, Sequence
 
-from . import calls, geojson
+from . import calls, geojson, together
 from .answers import feature_of
 from .content import File
 from .contour import WholePath
@@ -15,10 +15,12 @@ from .nearby import Index, Nearby, Node, Region, box_round, regions_of_contours
 from .progress import faults_of, long_work
 from .scaled import Scaled
 from .text import Rule
-from .words import fill_of, look_of, polygons_of
+from .together import Asked
+from .words import AT_ONCE, contours_of, fill_of, groups_of, look_of
 
-Overlay = Callable[[Any, Any, Rule], Any]
 Step = Callable[[], Any]
+# the shapes of each pair that is asked, by the rule, where faults name the source
+Overlaid = Callable[[Sequence[Asked], str, Rule], Iterator[Any]]
 # of each rule whether it has pieces of both files, and those of the first and of the second alone
 PARTS = {
     "subject": (True, True, False),
@@ -55,14 +57,14 @@ class Layer:
     def __init__(self, given: Any, scaled: Scaled, file: File) -> None:
         self.file = file
         self.regions: list[Filled] = []
-        for each in file.features:
-            with faults_of(file.name, place=each.place):
-                contours = scaled.whole(polygons_of(given, file, each.parts))
+        for group in groups_of(file):
+            for each, contours in zip(group, contours_of(given, scaled, file, group)):
                 if given.fill:
-                    shapes = calls.overlay(contours, (), "subject", fill_of(given), solver=given.solver)
+                    with faults_of(file.name, place=each.place):
+                        shapes = calls.overlay(contours, (), "subject", fill_of(given), solver=given.solver)
                     contours = [contour for shape in shapes for contour in shape]
-            if any(contours):
-                self.regions.append(Filled(each, contours, Nearby(contours), regions_of_contours(contours)))
+                if any(contours):
+                    self.regions.append(Filled(each, contours, Nearby(contours), regions_of_contours(contours)))
         file.told.say()
         boxes = [box_round([point for contour in each.contours for point in contour]) for each in self.regions]
         self.index = Index([Node(box, []) for box in boxes])
@@ -81,26 +83,33 @@ class Layer:
 # ---- pieces
 
 
-def pieces_of_both(first: Layer, second: Layer, overlay: Overlay, step: Step) -> Iterator[Piece]:
+def pieces_of_both(first: Layer, second: Layer, overlaid: Overlaid, step: Step) -> Iterator[Piece]:
     """The pieces of pairs of features that meet, in the order of the first file and then of the second."""
-    for one in first.regions:
-        for other in second.near(one.boxes):
-            near = other.nearby.near(one.boxes)
-            with faults_of(first.file.name, place=one.feature.place):
-                shapes = overlay(one.nearby.near(other.boxes), near, "intersect") if near else []
+    for group in grouped(first.regions):
+        pairs = [(one, other) for one in group for other in second.near(one.boxes)]
+        near = [(one, other, other.nearby.near(one.boxes)) for one, other in pairs]
+        meeting = [each for each in near if each[2]]
+        asked = [Asked(one.feature.place, one.nearby.near(other.boxes), part) for one, other, part in meeting]
+        for (one, other, _), shapes in zip(meeting, overlaid(asked, first.file.name, "intersect")):
             if shapes:
                 yield Piece(shapes, one.feature, other.feature)
-        step()
+        for _ in group:
+            step()
 
 
-def pieces_of_one(layer: Layer, other: Layer, overlay: Overlay, step: Step, is_first: bool) -> Iterator[Piece]:
+def pieces_of_one(layer: Layer, other: Layer, overlaid: Overlaid, step: Step, is_first: bool) -> Iterator[Piece]:
     """The pieces of features that are in none of the other file."""
-    for each in layer.regions:
-        with faults_of(layer.file.name, place=each.feature.place):
-            shapes = overlay(each.contours, other.whole.near(each.boxes), "difference")
-        if shapes:
-            yield Piece(shapes, *((each.feature, None) if is_first else (None, each.feature)))
-        step()
+    for group in grouped(layer.regions):
+        asked = [Asked(each.feature.place, each.contours, other.whole.near(each.boxes)) for each in group]
+        for each, shapes in zip(group, overlaid(asked, layer.file.name, "difference")):
+            if shapes:
+                yield Piece(shapes, *((each.feature, None) if is_first else (None, each.feature)))
+            step()
+
+
+def grouped(regions: Sequence[Filled]) -> Iterator[Sequence[Filled]]:
+    """Features that are asked together."""
+    return (regions[at : at + AT_ONCE] for at in range(0, len(regions), AT_ONCE))
 
 
 # ---- properties
@@ -148,15 +157,21 @@ def features_of_both(given: Any, scaled: Scaled, first: File, second: File) -> l
     counts = [len(each.regions) for each in layers]
     count = counts[0] * (has_both + has_first) + counts[1] * has_second
 
-    def overlay(subject: Any, clip: Any, rule: Rule) -> Any:
-        return scaled.shapes(calls.overlay(subject, clip, rule, "nonzero", **look))
+    def overlaid(asked: Sequence[Asked], source: str, rule: Rule) -> Iterator[Any]:
+        found = together.answers(
+            asked,
+            source,
+            lambda pairs: together.overlays(pairs, rule, "nonzero", **look),
+            lambda pair: calls.overlay(*pair, rule, "nonzero", **look),
+        )
+        return map(scaled.rows, found)
 
     pieces: list[Piece] = []
     with long_work(f"overlay of {counts[0]} and {counts[1]} features", count, given.quiet) as step:
         if has_both:
-            pieces += pieces_of_both(*layers, overlay, step)
+            pieces += pieces_of_both(*layers, overlaid, step)
         if has_first:
-            pieces += pieces_of_one(*layers, overlay, step, True)
+            pieces += pieces_of_one(*layers, overlaid, step, True)
         if has_second:
-            pieces += pieces_of_one(*layers[::-1], overlay, step, False)
+            pieces += pieces_of_one(*layers[::-1], overlaid, step, False)
     return [feature_of(geojson.polygons(each.shapes), {"properties": columns.of(each)}) for each in pieces]

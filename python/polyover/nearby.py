@@ -173,8 +173,11 @@ class Index:
         """The things that come near any region, in order."""
         if not regions:
             return []
-        left, low = min(each.left for each in regions), min(each.low for each in regions)
-        right, high = max(each.right for each in regions), max(each.high for each in regions)
+        if len(regions) == 1:
+            left, low, right, high, _ = regions[0]
+        else:
+            left, low = min(each.left for each in regions), min(each.low for each in regions)
+            right, high = max(each.right for each in regions), max(each.high for each in regions)
         nodes = self.top
         for _ in range(self.depth):
             nodes = [
@@ -203,6 +206,18 @@ def add_kept(node: Node, regions: Sequence[Region], found: WholePath) -> None:
         found += node.points
 
 
+def add_in_box(node: Node, region: Region, found: WholePath) -> None:
+    """As `add_kept`, of a node whose box comes near one region without other sides."""
+    left, low, right, high, _ = region
+    for part in node.parts:
+        if part.right < left or part.left > right or part.high < low or part.low > high:
+            found.append(part.points[0])
+        elif part.parts:
+            add_in_box(part, region, found)
+        else:
+            found += part.points
+
+
 class Nearby:
     """A shape that is asked again and again for its part near lines, or near other contours."""
 
@@ -224,9 +239,17 @@ class Nearby:
     def near(self, regions: Sequence[Region]) -> list[WholePath]:
         """Contours that wind in the regions as those of the shape do."""
         kept: list[WholePath] = []
+        is_box = len(regions) == 1 and not regions[0].sides
         for root in self.index.near(regions):
+            if not root.parts:
+                # (a chain alone is near, as the index tells)
+                kept.append(root.points)
+                continue
             points: WholePath = []
-            add_kept(root, regions, points)
+            if is_box:
+                add_in_box(root, regions[0], points)
+            else:
+                add_kept(root, regions, points)
             kept.append(points)
         return kept
 

@@ -37,20 +37,24 @@ Polygon = list[Ring]
 Contour = tuple[WholePath, "list[Any] | None"]
 
 
-def contours_of_polygons(polygons: Sequence[Polygon], told: Told) -> list[Contour]:
-    """The contours of polygons by whole points, each with its points as they were given, where it is a ring that was.
+def contours_of_each(polygons: Sequence[Polygon], told: Told) -> list[list[Contour]]:
+    """The contours of each polygon by whole points, each with its points as they were given, where it is a ring that
+    was.
 
     What collapses at this scale is left out, and counted in `told`, and so are rings that cross themselves."""
-    left = [rings for rings in (without_flat(rings, told) for rings in polygons) if rings]
+    cleaned = [without_flat(rings, told) for rings in polygons]
+    left = [rings for rings in cleaned if rings]
     mark_simple([ring for rings in left for ring in rings], told)
     bad = polygons_with_bad_holes(left)
-    contours: list[Contour] = []
-    for number, rings in enumerate(left):
-        if number in bad or not all(ring.is_simple for ring in rings):
-            contours += [(contour, None) for contour in overlaid(rings)]
-        else:
-            contours += [taken(ring, at == 0) for at, ring in enumerate(rings)]
-    return contours
+    found = (contours_of_one(rings, number in bad) for number, rings in enumerate(left))
+    return [next(found) if rings else [] for rings in cleaned]
+
+
+def contours_of_one(rings: Polygon, has_bad_holes: bool) -> list[Contour]:
+    """The contours of a polygon whose rings have an inside."""
+    if has_bad_holes or not all(ring.is_simple for ring in rings):
+        return [(contour, None) for contour in overlaid(rings)]
+    return [taken(ring, at == 0) for at, ring in enumerate(rings)]
 
 
 def taken(ring: Ring, is_outline: bool) -> Contour:

@@ -10,7 +10,7 @@ from .contour import WholePath, extent_of
 from .errors import BadInput
 from .geojson import LINES, POLYGONS, Part, parts_of
 from .numbers import over_one_bottom
-from .polygons import Contour, Ring, contours_of_polygons
+from .polygons import Contour, Ring, contours_of_each
 from .text import LIMIT
 from .told import Told, counted
 
@@ -33,6 +33,10 @@ class Polygons:
     def contours(self, whole: Whole, has_range: bool = True) -> list[Contour]:
         """Their contours for the fill rule nonzero, by whole points and as they were given. Where there is a range a
         point that is out of it is a fault, which names its place."""
+        return [contour for contours in self.contours_of_each(whole, has_range) for contour in contours]
+
+    def contours_of_each(self, whole: Whole, has_range: bool = True) -> list[list[Contour]]:
+        """The same, polygon by polygon."""
         points = iter(whole([point for part in self.parts for path in part.paths for point in path]))
         polygons = [
             [
@@ -44,9 +48,9 @@ class Polygons:
         if has_range:
             check_range(self.source, [(ring.place, ring.whole) for rings in polygons for ring in rings])
         if self.is_raw:
-            return [(ring.whole, ring.given) for rings in polygons for ring in rings]
+            return [[(ring.whole, ring.given) for ring in rings] for rings in polygons]
         told = Told(self.source) if self.told is None else self.told
-        contours = contours_of_polygons(polygons, told)
+        contours = contours_of_each(polygons, told)
         if self.told is None:
             told.say()
         return contours

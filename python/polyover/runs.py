@@ -7,7 +7,7 @@ from fractions import Fraction
 from itertools import count, islice
 from typing import Any, Callable, Iterable, Iterator, Sequence
 
-from . import calls, files, geojson, leaving
+from . import calls, files, geojson, leaving, together
 from .answers import feature_of, leave, null_feature, say
 from .content import File
 from .contour import WholePath
@@ -22,12 +22,11 @@ from .progress import faults_of, long_work
 from .reading import Lines, Polygons, check_range
 from .scaled import Scaled
 from .systems import DEFAULT, DEGREES
-from .words import fill_of, look_of, paths_of, polygons_of, rings_of
+from .together import Asked, Pair
+from .words import contours_of, fill_of, groups_of, look_of, paths_of, polygons_of, rings_of
 
 KEEPING = ("intersect", "difference")
 LOCATION = "location"
-# (features whose lines are rounded together)
-AT_ONCE = 1000
 
 
 @contextmanager
@@ -98,22 +97,30 @@ def kept_pieces(given: Any, scaled: Scaled, first: File, second: File) -> Iterat
     with faults_of(second.name):
         clip = Nearby(scaled.whole(polygons_of(given, second)))
     with long_work(what, first.count, given.quiet) as step:
-        for each in first.features:
-            with faults_of(first.name, place=each.place):
-                shapes = kept_piece(given, scaled, polygons_of(given, first, each.parts), clip, look)
-            if shapes:
-                yield feature_of(geojson.polygons(shapes), each.members)
-            step()
+        for group in groups_of(first):
+            for each, shapes in zip(group, kept(given, scaled, first, group, clip, look)):
+                if shapes:
+                    yield feature_of(geojson.polygons(shapes), each.members)
+                step()
     first.told.say()
 
 
-def kept_piece(given: Any, scaled: Scaled, polygons: Polygons, clip: Nearby, look: dict[str, Any]) -> Any:
-    """The shapes of an overlay of polygons by what is near them."""
-    subject = scaled.whole(polygons)
-    near = clip.part_within(subject)
-    if not near and given.rule == "intersect":
-        return []
-    return scaled.shapes(calls.overlay(subject, near, given.rule, fill_of(given), **look))
+def kept(
+    given: Any, scaled: Scaled, first: File, group: Sequence[Feature], clip: Nearby, look: dict[str, Any]
+) -> Iterator[Any]:
+    """For each feature the shapes of its overlay by what is near it."""
+    found = contours_of(given, scaled, first, group)
+    asked = [Asked(each.place, subject, clip.part_within(subject)) for each, subject in zip(group, found)]
+    is_asked = [bool(each.second) or given.rule != "intersect" for each in asked]
+
+    def one(pair: Pair) -> Any:
+        return calls.overlay(*pair, given.rule, fill_of(given), **look)
+
+    def all_at_once(pairs: Sequence[Pair]) -> Any:
+        return together.overlays(pairs, given.rule, fill_of(given), **look)
+
+    told = together.answers([each for each, is_one in zip(asked, is_asked) if is_one], first.name, all_at_once, one)
+    return (scaled.rows(next(told)) if is_one else [] for is_one in is_asked)
 
 
 ANSWERS: dict[str | None, Callable[[Any, Scaled, File, File], Iterable[dict[str, Any]]]]
@@ -154,43 +161,50 @@ def clips_of(given: Any, area: File, roads: File, picture: Picture) -> Iterator[
         region = scaled.region("shape", polygons_of(given, area), fill_of(given), given.solver, is_joined=True)
         shape = Nearby(region)
     with long_work(f"clip of {roads.counted} by {rings_of(area)} rings", roads.count, given.quiet) as step:
-        for each, lines in with_lines(scaled, roads):
-            with faults_of(roads.name, place=each.place):
-                paths = clipped(given, scaled, shape, lines)
-            if given.svg:
-                picture.add_paths("answer", paths)
-            if each.is_null:
-                yield null_feature(each)
-            elif paths:
-                yield feature_of(geojson.lines(paths), each.members)
-            step()
+        for group in groups_with_lines(scaled, roads):
+            for (each, _), paths in zip(group, clipped(given, scaled, shape, roads.name, group)):
+                if given.svg:
+                    picture.add_paths("answer", paths)
+                if each.is_null:
+                    yield null_feature(each)
+                elif paths:
+                    yield feature_of(geojson.lines(paths), each.members)
+                step()
     roads.told.say()
 
 
-def with_lines(scaled: Scaled, roads: File) -> Iterator[tuple[Feature, list[WholePath]]]:
-    """Features, each with its lines by whole points: many are rounded at a time where they are all there."""
-    features = iter(roads.features)
-    while group := list(islice(features, AT_ONCE if roads.count else 1)):
+def groups_with_lines(scaled: Scaled, roads: File) -> Iterator[list[tuple[Feature, list[WholePath]]]]:
+    """Features, each with its lines by whole points: many at a time where they are all there."""
+    for group in groups_of(roads):
         parts = [part for each in group for part in each.parts]
         lines = iter(scaled.whole(Lines(parts, roads.name, roads.told)))
-        for each in group:
-            yield each, list(islice(lines, len(each.parts)))
+        yield [(each, list(islice(lines, len(each.parts)))) for each in group]
 
 
-def clipped(given: Any, scaled: Scaled, shape: Nearby, lines: list[WholePath]) -> Any:
-    """The parts of the lines of a feature that are kept."""
-    near = shape.part(lines)
-    if not lines or not near and not given.invert:
-        return []
+def clipped(
+    given: Any, scaled: Scaled, shape: Nearby, source: str, group: Sequence[tuple[Feature, list[WholePath]]]
+) -> Iterator[Any]:
+    """For each feature the parts of its lines that are kept."""
     options = {"invert": given.invert, "boundary": given.boundary, "solver": given.solver}
-    return scaled.paths(calls.clip(near, lines, fill_of(given), **options))
+    asked = [Asked(each.place, shape.part(lines), lines) for each, lines in group]
+    # (without an edge near lines all of them is inside, or all outside)
+    is_asked = [bool(each.second and (each.first or given.invert)) for each in asked]
+
+    def one(pair: Pair) -> Any:
+        return calls.clip(*pair, fill_of(given), **options)
+
+    def all_at_once(pairs: Sequence[Pair]) -> Any:
+        return together.clips(pairs, fill_of(given), **options)
+
+    found = together.answers([each for each, is_one in zip(asked, is_asked) if is_one], source, all_at_once, one)
+    return (scaled.rows(next(found)) if is_one else [] for is_one in is_asked)
 
 
 def run_slice(given: Any) -> None:
     """Slices the polygons of a file, feature by feature, along the lines of a second file"""
     walls = files.lines_of(given.other, given)
     scaled = Scaled.of_digits(given.digits)
-    lines = LinesNearby([path for _, paths in with_lines(scaled, walls) for path in paths])
+    lines = LinesNearby([path for group in groups_with_lines(scaled, walls) for _, paths in group for path in paths])
     walls.told.say()
 
     def cut(polygons: Polygons) -> Any:

@@ -68,10 +68,13 @@ class Axis:
         size = largest(found)
         if size < EXACT:
             near = list(map(NEAREST, found))
-            lost = largest(list(map(sub, found, near)))
+            lost = list(map(sub, found, near))
             # (a value times the scale is at most as large as what is found and the start times the scale)
-            if lost + size * ERROR + 2 * self.least_error < 0.5:
+            sure = 0.5 - size * ERROR - 2 * self.least_error
+            if largest(lost) < sure:
                 return near
+            whole = self.whole
+            return [kept if -sure < off < sure else whole(value) for kept, off, value in zip(near, lost, values)]
         return list(map(self.whole, values))
 
     def number(self, whole: int) -> float:
@@ -214,6 +217,13 @@ class Scaled(RulesAtScale):
             points = list(zip(across.numbers(flat.numbers[0::2]), up.numbers(flat.numbers[1::2])))
         contours = parted(points, flat.counts.tolist())
         return Shapes(map(Paths, parted(contours, shapes.shape_ends.tolist())))
+
+    def rows(self, rows: Iterable[Any]) -> Any:
+        """Paths, or shapes, whose whole coordinates stand in rows, with points of floats."""
+        listed = list(rows)
+        if listed and listed[0] and isinstance(listed[0][0], list):
+            return [self.rows(each) for each in listed]
+        return [small.points_of(row, self.axes) for row in listed]
 
     def filled(self, edges: Any) -> Any:
         """Edges with points of floats."""

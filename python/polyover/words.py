@@ -2,12 +2,19 @@
 
 from __future__ import annotations
 
-from typing import Any, Sequence
+from itertools import islice
+from typing import Any, Iterator, Sequence
 
 from .content import File
+from .contour import WholePath
+from .geojson import Feature
+from .progress import faults_of
 from .reading import Polygons
 from .scaled import Scaled
 from .text import Fill
+
+# (features that are asked together)
+AT_ONCE = 1000
 
 
 def fill_of(given: Any) -> Fill:
@@ -27,6 +34,22 @@ def polygons_of(given: Any, file: File, parts: Sequence[Any] | None = None) -> P
     if parts is None:
         return Polygons([part for each in file.features for part in each.parts], file.name, is_raw)
     return Polygons(list(parts), file.name, is_raw, file.told)
+
+
+def groups_of(file: File) -> Iterator[list[Feature]]:
+    """The features of a file, many at a time, or one by one where they come as they are read."""
+    features = iter(file.features)
+    while group := list(islice(features, AT_ONCE if file.count else 1)):
+        yield group
+
+
+def contours_of(given: Any, scaled: Scaled, file: File, group: Sequence[Feature]) -> list[list[WholePath]]:
+    """The contours of each feature of a group, by whole points."""
+    with faults_of(file.name):
+        polygons = polygons_of(given, file, [part for each in group for part in each.parts])
+        found = iter(polygons.contours_of_each(scaled.whole_path))
+        parts = [list(islice(found, len(each.parts))) for each in group]
+    return [[whole for contours in its for whole, _ in contours] for its in parts]
 
 
 def paths_of(file: File) -> list[Any]:

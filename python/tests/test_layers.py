@@ -162,7 +162,8 @@ class Both(unittest.TestCase):
             # (two places of a long box that meet two of these)
             found = kept(first, collection(feature("Polygon", [square(29, 0, 34, 1)], on=1)), "intersect")["features"]
         self.assertEqual([each["properties"] for each in found], [{"at": 10, "on": 1}, {"at": 11, "on": 1}])
-        self.assertEqual(counts, [(4, 4)] * 2)
+        # (side by side in one call)
+        self.assertEqual(counts, [(2 * 4, 2 * 4)])
 
 
 if __name__ == "__main__":
