@@ -158,10 +158,9 @@ def features_of(reader: Reader, things: Iterable[tuple[int, Any]], name: str, te
 
 def watched(features: Iterator[Feature], watch: Callable[[Feature], Feature], told: Told) -> Iterator[Feature]:
     """The features of a file, cut at the antimeridian or watched; at their end it is said what is left out."""
-    for each in features:
-        with faults_of(told.source):
-            found = watch(each)
-        yield found
+    with faults_of(told.source):
+        for each in features:
+            yield watch(each)
     told.say()
 
 

@@ -154,7 +154,7 @@ class Reader:
             for number, each in enumerate(items, 1):
                 yield from read(place._replace(part=f"{name} {number}"), each)
         elif len(items):
-            yield from read(place._replace(part=f"{name} 1"), items)
+            yield from read(Place(place.feature, place.geometries, f"{name} 1", 0, place.line), items)
 
     def features(self, things: Iterable[tuple[int, object]]) -> Iterator[Feature]:
         """Features as they come, each from its line, or from line 0 where it has none; at their end a fault where no

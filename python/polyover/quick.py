@@ -37,7 +37,9 @@ def is_of_shapely(kind: Any) -> bool:
 def new_writer() -> Writer:
     """What gives the bytes of a geometry of shapely's: a writer of version 1.8, and else its property."""
     geos: Any = sys.modules.get("shapely.geos")
-    return writer_of(geos) if hasattr(geos, "WKBWriter") else attrgetter("wkb")
+    if hasattr(geos, "WKBWriter"):
+        return writer_of(geos)
+    return attrgetter("wkb")
 
 
 def writer_of(geos: Any) -> Writer:
@@ -107,7 +109,7 @@ def ring_of(thing: Any) -> Sequence[float] | None:
 
 def plain_ring(geometry: dict[str, Any]) -> Sequence[float] | None:
     """The coordinates of a polygon of one ring of GeoJSON in a row, of lists of two numbers of Python's own."""
-    rings = geometry.get("coordinates")
+    rings: Any = geometry.get("coordinates")
     if geometry.get("type") != "Polygon" or type(rings) not in LISTS or len(rings) != 1:
         return None
     (ring,) = rings

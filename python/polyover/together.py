@@ -53,13 +53,17 @@ class Together:
         self.starts: list[int] = []
         self.moves: list[int] = []
         self.places: list[int] = []
+        self.has_room = True
         at = -LIMIT
         for place, pair in enumerate(pairs):
             rows = [list(chain.from_iterable(chain.from_iterable(paths))) for paths in pair]
             xs = [row[0::2] for row in rows if row]
             if not xs:
                 continue
-            left, right = min(map(min, xs)), max(map(max, xs))
+            left, right = min(min(each) for each in xs), max(max(each) for each in xs)
+            if at + right - left > LIMIT:
+                self.has_room = False
+                return
             move = at - left
             for side, paths, row in zip((self.first, self.second), pair, rows):
                 side.add(paths, row, move)
@@ -67,7 +71,6 @@ class Together:
             self.starts.append(at - MARGIN)
             self.moves.append(move)
             at += right - left + 2 * MARGIN
-        self.has_room = at <= LIMIT
 
     def moved_back(self, x: int) -> tuple[int, int]:
         """The place of the pair that is at an x, and by how much it was moved."""

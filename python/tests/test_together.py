@@ -22,7 +22,8 @@ def boxes(chance, count):
     """Contours round rectangles, all of whose edges meet in whole points."""
     found = []
     for _ in range(count):
-        x, y, wide, high = chance.randint(-50, 50), chance.randint(-50, 50), chance.randint(1, 40), chance.randint(1, 40)
+        x, y = chance.randint(-50, 50), chance.randint(-50, 50)
+        wide, high = chance.randint(1, 40), chance.randint(1, 40)
         found.append([(x, y), (x + wide, y), (x + wide, y + high), (x, y + high)][:: chance.choice((1, -1))])
     return found
 
