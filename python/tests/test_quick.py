@@ -155,9 +155,9 @@ class Quick(unittest.TestCase):
                 found.append(process_time() - start)
             return min(found)
 
-        # (some 2.1 times; with the reading of features 10)
+        # (some 1.2 times; with the reading of features 10)
         times = least(lambda: SCALED.overlay(one, two, "intersect")) / least(lambda: one.intersection(two))
-        self.assertLess(times, 6)
+        self.assertLess(times, 3)
 
 
 if __name__ == "__main__":
