@@ -12,8 +12,8 @@ use std::process::ExitCode;
 
 fn main(rt: HostRuntime) -> ExitCode {
     let exit = run(rt.alloc(), &mut rt.reader(), &mut io::writer(&rt));
-    let Ending { words, status } = report(&exit);
+    let Ending { message, status } = report(&exit);
     // There is nobody left to tell of a fault in telling.
-    let _ = eprint!(rt; "{words}");
+    let _ = eprint!(rt; "{message}");
     ExitCode::from(status)
 }

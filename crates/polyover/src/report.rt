@@ -1,7 +1,7 @@
 //! What the program says of how a run ended.
 
 ghost use Rattle.std.specs.Prelude.{◌≡◌, Some};
-ghost use Rattle.polyover.specs.Statuses.{status_of, refusal_number_of, words_of, text_of_words};
+ghost use Rattle.polyover.specs.Statuses.{status_of, refusal_number_of, message_of, text_of_message};
 
 use crate::exit::Exit;
 use overlay_geom::error::OverlayError;
@@ -11,15 +11,15 @@ use std::fmt::{Display, Formatter, Write};
 /// What the program says of how a run ended.
 #[derive(Drop)]
 pub struct Ending {
-    /// The words on standard error.
-    pub words: Words,
+    /// The message on standard error.
+    pub message: Message,
     /// The status that the program ends with.
     pub status: u8,
 }
 
-/// Words on standard error.
+/// A message on standard error.
 #[derive(Drop)]
-pub enum Words {
+pub enum Message {
     /// None.
     Nothing,
     /// `refused E`, the number of the refusal, and LF.
@@ -30,39 +30,39 @@ pub enum Words {
     Failed,
 }
 
-impl Display for Words {
-    ghost output = { λ words. Some (text_of_words words) };
+impl Display for Message {
+    ghost output = { λ message. Some (text_of_message message) };
 
     fn fmt<W: Write>(&self, f: &mut Formatter<W>) -> fmt::Result {
         match self {
-            Words::Nothing => Ok(()),
-            Words::Refused(number) => write!(f, "refused E{number}\n"),
-            Words::BadLine(line) => write!(f, "line {line}: bad input\n"),
-            Words::Failed => write!(f, "io failed\n"),
+            Message::Nothing => Ok(()),
+            Message::Refused(number) => write!(f, "refused E{number}\n"),
+            Message::BadLine(line) => write!(f, "line {line}: bad input\n"),
+            Message::Failed => write!(f, "io failed\n"),
         }
     }
 }
 
-/// The words on standard error and the status.
-pub fn report(exit: &Exit) -> Ending
-    ensures words { text_of_words result.words ≡ words_of exit.now }
+/// The message on standard error and the status.
+pub(crate) fn report(exit: &Exit) -> Ending
+    ensures message { text_of_message result.message ≡ message_of exit.now }
     ensures status { result.status ≡ status_of exit.now }
 {
     match exit {
         Exit::Answered => Ending {
-            words: Words::Nothing,
+            message: Message::Nothing,
             status: 0,
         },
         Exit::Refused(error) => Ending {
-            words: Words::Refused(refusal_number(error)),
+            message: Message::Refused(refusal_number(error)),
             status: 1,
         },
         Exit::BadInput(line) => Ending {
-            words: Words::BadLine(*line),
+            message: Message::BadLine(*line),
             status: 2,
         },
         Exit::Io => Ending {
-            words: Words::Failed,
+            message: Message::Failed,
             status: 3,
         },
     }

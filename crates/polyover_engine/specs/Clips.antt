@@ -6,12 +6,12 @@ use Rattle.overlay_builder.specs.PathLists.{AddedPath, HoldsPaths, MayRefuseBuil
 use Rattle.overlay_string.specs.OneShot.{shape_and_strings}
 use Rattle.overlay_string.specs.StringBuilder.{StringBuilder}
 use Rattle.overlay_string.specs.declared.clip_rule.ClipRule.{ClipRule}
-use Rattle.polyover_text.specs.declared.clip_options.ClipOptions.{ClipOptions}
+use Rattle.polyover_text.specs.declared.clip_options.KeptParts.{KeptParts}
 use Rattle.polyover_text.specs.Grammar.{GivenFigures}
 use Rattle.polyover_engine.specs.Subjects.{subject_of}
 
 -- which parts a clip with these options keeps
-abbrev pub clip_rule_of : ClipOptions → ClipRule
+abbrev pub clip_rule_of : KeptParts → ClipRule
 clip_rule_of o = record { invert = o.invert; boundary_included = o.boundary_included }
 
 -- the contours of the subject, as those of a shape, and then the open paths, as strings over it

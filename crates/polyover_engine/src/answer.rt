@@ -22,7 +22,7 @@ use std::alloc::Allocator;
 /// which the contours (and the open paths that are clipped, or slice) are added, and of the query on it; where points
 /// are asked about, `Memory`, and `BadInput` at the line of the first contour of the subject that is not resolved; and
 /// where tiles are, of a grid that does not fit the subject, `BadInput` at the line of the command.
-pub fn answer_text<A: Allocator + Copy>(alloc: A, input: Input<A>) -> Result<String<A>, Exit>
+pub(crate) fn answer_text<A: Allocator + Copy>(alloc: A, input: Input<A>) -> Result<String<A>, Exit>
     requires { FiguresInRange (figures_at input.figures) }
     ensures { MatchResult result
         (λ text. Answers (figures_at input.figures) input.query (string_bytes text))

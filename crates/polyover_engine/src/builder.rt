@@ -36,7 +36,7 @@ pub fn with_contours<A: Allocator + Clone>(
 }
 
 /// Returns the builder of the contours with the options that the query sets.
-pub fn asked_builder<A: Allocator + Clone>(
+pub(crate) fn asked_builder<A: Allocator + Clone>(
     alloc: A,
     contours: &[NumberedContour<A>],
     query: OverlayQuery,

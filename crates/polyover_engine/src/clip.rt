@@ -14,7 +14,7 @@ use crate::string_builder::with_subject_shape;
 use i_overlay::string::clip::ClipRule;
 use overlay_geom::error::OverlayError;
 use overlay_geom::path::IntPath;
-use polyover_text::clip_options::ClipOptions;
+use polyover_text::clip_options::KeptParts;
 use polyover_text::figures::Figures;
 use polyover_text::input::Input;
 use polyover_text::path_text::paths_text;
@@ -57,7 +57,7 @@ fn clipped_lines<A: Allocator + Clone>(
 }
 
 // Which parts a clip with these options keeps.
-fn clip_rule(options: ClipOptions) -> ClipRule
+fn clip_rule(options: KeptParts) -> ClipRule
     ensures { result ≡ clip_rule_of options }
 {
     ClipRule {

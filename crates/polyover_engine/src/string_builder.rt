@@ -13,7 +13,7 @@ ghost use Rattle.overlay_builder.specs.PathLists.{MayRefuseBuilder};
 use i_overlay::overlay::ShapeType;
 use i_overlay::string::overlay::StringOverlay;
 use overlay_geom::error::OverlayError;
-use polyover_text::contour::Contour;
+use polyover_text::contour::HeldContour;
 use polyover_text::figures::NumberedContour;
 use std::alloc::Allocator;
 
@@ -39,7 +39,7 @@ pub(crate) fn with_subject_shape<A: Allocator + Clone>(
 // Adds the contour to the shape, if it is of the subject.
 fn add<A: Allocator + Clone>(
     overlay: &mut StringOverlay<i64, A>,
-    contour: &Contour<A>,
+    contour: &HeldContour<A>,
 ) -> Result<(), OverlayError>
     requires { AllInRange greatest_of_64_bits (path_at contour.now).points }
     ensures { AddsToHeld (shape_contours (subject_part (path_at contour.now).shape_type (path_at contour.now).points))

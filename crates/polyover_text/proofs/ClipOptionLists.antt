@@ -1,15 +1,15 @@
 -- The options of a clip in a list of words, set one by one.
 use Rattle.std.proofs.Common.{◌≡◌, ◌↔◌, true, false, [], ◌∷◌, codes, sym, subst, Option, Some, None}
 use Rattle.std.proofs.Common.{MatchOption}
-use Rattle.polyover_text.specs.declared.clip_options.ClipOptions.{ClipOptions}
+use Rattle.polyover_text.specs.declared.clip_options.KeptParts.{KeptParts}
 use Rattle.polyover_text.specs.Grammar.{Word, Line, default_clip, SetClipOptions, none, invert, boundary}
 use Rattle.polyover_text.specs.ClipOptions.{SetsClipOption, SetsNoClipOption}
 
 -- what the words set is what the words left set from the options so far
-pub record HaveSetClip (ws : Line) (so_far : ClipOptions) (left : Line) : Type 0 where
-  pub same : (o : ClipOptions) → SetClipOptions default_clip ws o ↔ SetClipOptions so_far left o
+pub record HaveSetClip (ws : Line) (so_far : KeptParts) (left : Line) : Type 0 where
+  pub same : (o : KeptParts) → SetClipOptions default_clip ws o ↔ SetClipOptions so_far left o
 
-pub one_more_set : (ws : Line) (old new : ClipOptions) (left rest : Line) (w : Word) → HaveSetClip ws old left
+pub one_more_set : (ws : Line) (old new : KeptParts) (left rest : Line) (w : Word) → HaveSetClip ws old left
     → left ≡ w ∷ rest → ((others : Line) → SetsClipOption old (w ∷ others) new others) → HaveSetClip ws new rest
 one_more_set ws old new left rest w h next sets = record {
   same = λ o.
@@ -18,28 +18,28 @@ one_more_set ws old new left rest w h next sets = record {
 }
 
 -- where no word is left, the options so far are those that the words set
-pub all_set : (ws : Line) (options : ClipOptions) (left : Line) → HaveSetClip ws options left → left ≡ [] →
+pub all_set : (ws : Line) (options : KeptParts) (left : Line) → HaveSetClip ws options left → left ≡ [] →
     SetClipOptions default_clip ws options
 all_set ws options left h ended = (h.same options).1 (subst (λ l. SetClipOptions options l options) (sym ended) none)
 
 -- words that set no options are of no options
-pub none_with_word : (ws : Line) (old : ClipOptions) (left rest : Line) (w : Word) → HaveSetClip ws old left
-    → left ≡ w ∷ rest → ((others : Line) → SetsNoClipOption old (w ∷ others)) → (o : ClipOptions)
+pub none_with_word : (ws : Line) (old : KeptParts) (left rest : Line) (w : Word) → HaveSetClip ws old left
+    → left ≡ w ∷ rest → ((others : Line) → SetsNoClipOption old (w ∷ others)) → (o : KeptParts)
     → ¬ (SetClipOptions default_clip ws o)
 none_with_word ws old left rest w h next nothing o all =
     nothing rest o (subst (λ l. SetClipOptions old l o) next ((h.same o).0 all))
 
 -- ---- one option
 
-after_invert : (old o : ClipOptions) (ws : Line) → SetClipOptions old (codes "invert" ∷ ws) o
+after_invert : (old o : KeptParts) (ws : Line) → SetClipOptions old (codes "invert" ∷ ws) o
     → (old.invert ≡ false) × SetClipOptions (record old { invert = true }) ws o
 after_invert old o ws (invert e h) = (e, h)
 
-after_boundary : (old o : ClipOptions) (ws : Line) → SetClipOptions old (codes "boundary" ∷ ws) o
+after_boundary : (old o : KeptParts) (ws : Line) → SetClipOptions old (codes "boundary" ∷ ws) o
     → (old.boundary_included ≡ false) × SetClipOptions (record old { boundary_included = true }) ws o
 after_boundary old o ws (boundary e h) = (e, h)
 
-pub inverted : (old : ClipOptions) (w : Word) (o : Option ClipOptions) → w ≡ codes "invert"
+pub inverted : (old : KeptParts) (w : Word) (o : Option KeptParts) → w ≡ codes "invert"
     → MatchOption o (old.invert ≡ true) (λ new. (old.invert ≡ false) × (new ≡ record old { invert = true }))
     → MatchOption o ((ws : Line) → SetsNoClipOption old (w ∷ ws))
     (λ new. (ws : Line) → SetsClipOption old (w ∷ ws) new ws)
@@ -50,7 +50,7 @@ inverted old w (Some new) named h =
     (subst (λ v. SetsClipOption old (codes "invert" ∷ ws) v ws) (sym h.1)
     (λ o. (λ all. (after_invert old o ws all).1, λ others. invert h.0 others)))
 
-pub boundary_kept : (old : ClipOptions) (w : Word) (o : Option ClipOptions) → w ≡ codes "boundary"
+pub boundary_kept : (old : KeptParts) (w : Word) (o : Option KeptParts) → w ≡ codes "boundary"
     → MatchOption o (old.boundary_included ≡ true)
     (λ new. (old.boundary_included ≡ false) × (new ≡ record old { boundary_included = true }))
     → MatchOption o ((ws : Line) → SetsNoClipOption old (w ∷ ws))

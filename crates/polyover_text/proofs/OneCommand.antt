@@ -17,7 +17,7 @@ use Rattle.overlay_geom.specs.declared.options.ContourDirection.TheVariants.{Clo
 use Rattle.overlay_geom.specs.declared.options.ShapeType.{ShapeType}
 use Rattle.overlay_geom.specs.declared.options.ShapeType.TheVariants.{Subject, Clip}
 use Rattle.overlay_order.specs.Paths.{GivenPath}
-use Rattle.polyover_text.specs.declared.clip_options.ClipOptions.{ClipOptions}
+use Rattle.polyover_text.specs.declared.clip_options.KeptParts.{KeptParts}
 use Rattle.polyover_text.specs.declared.options.OutputOptions.{OutputOptions}
 use Rattle.polyover_text.specs.declared.query.ClipQuery.{ClipQuery}
 use Rattle.polyover_text.specs.declared.query.OverlayQuery.{OverlayQuery}
@@ -177,12 +177,12 @@ options_told old o ws (min {w = w} {n = n} {ws = rest} unset area others) =
     options_told (record old { min_output_area = Some n }) o rest others
     ∙ ap (λ m. options_after false (record old { min_output_area = Some m }) rest) (area_told w n area)
 
-abbrev clip_after : ClipOptions → Line → ClipOptions
+abbrev clip_after : KeptParts → Line → KeptParts
 clip_after o [] = o
 clip_after o (w ∷ ws) = clip_after (cond (get_or w 0 0 == 105) (record o { invert = true })
     (record o { boundary_included = true })) ws
 
-clip_told : (old o : ClipOptions) (ws : Line) → SetClipOptions old ws o → o ≡ clip_after old ws
+clip_told : (old o : KeptParts) (ws : Line) → SetClipOptions old ws o → o ≡ clip_after old ws
 clip_told old o ws none = refl
 clip_told old o ws (invert {ws = rest} unset others) = clip_told (record old { invert = true }) o rest others
 clip_told old o ws (boundary {ws = rest} unset others) =

@@ -16,7 +16,7 @@ use Rattle.overlay_geom.specs.declared.options.ContourDirection.TheVariants.{Cou
 use Rattle.overlay_geom.specs.declared.options.ShapeType.{ShapeType}
 use Rattle.overlay_geom.specs.declared.options.ShapeType.TheVariants.{Subject, Clip}
 use Rattle.overlay_order.specs.Paths.{GivenPath}
-use Rattle.polyover_text.specs.declared.clip_options.ClipOptions.{ClipOptions}
+use Rattle.polyover_text.specs.declared.clip_options.KeptParts.{KeptParts}
 use Rattle.polyover_text.specs.declared.options.OutputOptions.{OutputOptions}
 use Rattle.polyover_text.specs.declared.query.ClipQuery.{ClipQuery}
 use Rattle.polyover_text.specs.declared.query.OverlayQuery.{OverlayQuery}
@@ -147,16 +147,16 @@ pub data AsksOverlay : List Word → OverlayQuery → Type 0 where
       → AsksOverlay (rule_name query.overlay_rule ∷ fill_name query.fill_rule ∷ ws) query
 
 -- no option of a clip is set: the parts inside are kept, and none on the boundary
-abbrev pub default_clip : ClipOptions
+abbrev pub default_clip : KeptParts
 default_clip = record { invert = false; boundary_included = false }
 
 -- the words, read from left to right, set options of a clip that were not set, one after another, until these options
 -- are set: `invert` keeps the parts outside in place of those inside, `boundary` those on the boundary too
-pub data SetClipOptions : ClipOptions → List Word → ClipOptions → Type 0 where
-  none : {o : ClipOptions} → SetClipOptions o [] o
-  invert : {old o : ClipOptions} {ws : List Word} → old.invert ≡ false
+pub data SetClipOptions : KeptParts → List Word → KeptParts → Type 0 where
+  none : {o : KeptParts} → SetClipOptions o [] o
+  invert : {old o : KeptParts} {ws : List Word} → old.invert ≡ false
       → SetClipOptions (record old { invert = true }) ws o → SetClipOptions old (codes "invert" ∷ ws) o
-  boundary : {old o : ClipOptions} {ws : List Word} → old.boundary_included ≡ false
+  boundary : {old o : KeptParts} {ws : List Word} → old.boundary_included ≡ false
       → SetClipOptions (record old { boundary_included = true }) ws o → SetClipOptions old (codes "boundary" ∷ ws) o
 
 -- the words ask for a clip: they name its fill rule, and then set options

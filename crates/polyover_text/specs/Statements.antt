@@ -5,7 +5,7 @@ use Rattle.overlay_geom.specs.declared.options.ShapeType.{ShapeType}
 use Rattle.overlay_geom.specs.Plane.{Point as WholePoint}
 use Rattle.overlay_geom.specs.Points.{plain_point}
 use Rattle.polyover_text.specs.declared.query.Query.{Query}
-use Rattle.polyover_text.specs.declared.contour.Contour.{Contour as HeldContour}
+use Rattle.polyover_text.specs.declared.contour.HeldContour.{HeldContour}
 use Rattle.polyover_text.specs.declared.figures.Figures.{Figures}
 use Rattle.polyover_text.specs.declared.figures.NumberedContour.{NumberedContour}
 use Rattle.polyover_text.specs.declared.statement.Statement.{Statement}

@@ -1,7 +1,7 @@
 //! Options of a clip in words.
 
 ghost use Rattle.std.specs.Prelude.{◌≡◌, ◌∷◌, true, false, MatchOption};
-ghost use Rattle.polyover_text.specs.declared.clip_options.ClipOptions.{ClipOptions};
+ghost use Rattle.polyover_text.specs.declared.clip_options.KeptParts.{KeptParts};
 ghost use Rattle.polyover_text.specs.ClipOptions.{SetsClipOption, SetsNoClipOption};
 ghost use Rattle.polyover_text.specs.Grammar.{Line, SetClipOptions, default_clip};
 ghost use Rattle.polyover_text.specs.Words.{words_left};
@@ -10,7 +10,7 @@ use crate::words::Words;
 
 /// Which parts of lines a clip keeps.
 #[derive(Clone, Copy)]
-pub struct ClipOptions {
+pub struct KeptParts {
     /// Whether the parts outside of the shape are kept, in place of those inside.
     pub invert: bool,
     /// Whether the parts on its boundary are kept too.
@@ -19,31 +19,31 @@ pub struct ClipOptions {
 
 /// The options that the words set, read from left to right, each at most once. `None` where a word names no
 /// option, or one that is set.
-pub fn parse_clip_options(mut words: Words<'_>) -> Option<ClipOptions>
+pub(crate) fn parse_clip_options(mut words: Words<'_>) -> Option<KeptParts>
     ensures { MatchOption result
-        ((options : ClipOptions) → ¬ (SetClipOptions default_clip (words_left words.entry) options))
+        ((options : KeptParts) → ¬ (SetClipOptions default_clip (words_left words.entry) options))
         (λ options. SetClipOptions default_clip (words_left words.entry) options) }
 {
-    let mut options = ClipOptions::new();
+    let mut options = KeptParts::new();
     while let Some(word) = words.next() {
         options = options.with(word)?;
     }
     Some(options)
 }
 
-impl ClipOptions {
+impl KeptParts {
     // The parts inside are kept, and none on the boundary.
-    fn new() -> ClipOptions
+    fn new() -> KeptParts
         ensures { result ≡ default_clip }
     {
-        ClipOptions {
+        KeptParts {
             invert: false,
             boundary_included: false,
         }
     }
 
     // The options with the one set that the word names. `None` where it names none, or one that is set.
-    fn with(self, word: &[u8]) -> Option<ClipOptions>
+    fn with(self, word: &[u8]) -> Option<KeptParts>
         ensures { MatchOption result
             ((ws : Line) → SetsNoClipOption self (word.now ∷ ws))
             (λ new. (ws : Line) → SetsClipOption self (word.now ∷ ws) new ws) }
@@ -56,7 +56,7 @@ impl ClipOptions {
     }
 
     // The options with the parts outside kept, where they are not so already.
-    fn inverted(self) -> Option<ClipOptions>
+    fn inverted(self) -> Option<KeptParts>
         ensures { MatchOption result
             (self.invert ≡ true)
             (λ new. (self.invert ≡ false) × (new ≡ record self { invert = true })) }
@@ -64,14 +64,14 @@ impl ClipOptions {
         if self.invert {
             return None;
         }
-        Some(ClipOptions {
+        Some(KeptParts {
             invert: true,
             ..self
         })
     }
 
     // The options with the parts on the boundary kept too, where they are not so already.
-    fn with_boundary(self) -> Option<ClipOptions>
+    fn with_boundary(self) -> Option<KeptParts>
         ensures { MatchOption result
             (self.boundary_included ≡ true)
             (λ new. (self.boundary_included ≡ false) × (new ≡ record self { boundary_included = true })) }
@@ -79,7 +79,7 @@ impl ClipOptions {
         if self.boundary_included {
             return None;
         }
-        Some(ClipOptions {
+        Some(KeptParts {
             boundary_included: true,
             ..self
         })

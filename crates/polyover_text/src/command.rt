@@ -19,7 +19,7 @@ use crate::words::Words;
 use overlay_geom::fill_rule::FillRule;
 
 /// What the command asks for, after the word `run`.
-pub fn parse_command(mut words: Words<'_>) -> Option<Query>
+pub(crate) fn parse_command(mut words: Words<'_>) -> Option<Query>
     ensures { MatchOption result
         ((query : Query) → ¬ (IsCommand (codes "run" ∷ words_left words.entry) query))
         (λ query. IsCommand (codes "run" ∷ words_left words.entry) query) }

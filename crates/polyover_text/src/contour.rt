@@ -6,7 +6,7 @@ use std::alloc::Allocator;
 
 /// A closed list of points, and the shape that it belongs to.
 #[derive(Drop)]
-pub struct Contour<A: Allocator> {
+pub struct HeldContour<A: Allocator> {
     /// The shape.
     pub shape_type: ShapeType,
     /// The points; the first follows the last.

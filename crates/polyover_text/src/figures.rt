@@ -1,6 +1,6 @@
 //! What the lines of an input give.
 
-use crate::contour::Contour;
+use crate::contour::HeldContour;
 use overlay_geom::point::IntPoint;
 use std::alloc::Allocator;
 
@@ -21,7 +21,7 @@ pub struct NumberedContour<A: Allocator> {
     /// The number of the line, counted from 1.
     pub line: usize,
     /// The contour.
-    pub contour: Contour<A>,
+    pub contour: HeldContour<A>,
 }
 
 impl<A: Allocator + Copy> Figures<A> {

@@ -7,7 +7,7 @@ ghost use Rattle.polyover_text.specs.Grammar.{fill_name};
 use overlay_geom::fill_rule::FillRule;
 
 /// The fill rule that a word names.
-pub fn parse_fill_rule(word: &[u8]) -> Option<FillRule>
+pub(crate) fn parse_fill_rule(word: &[u8]) -> Option<FillRule>
     ensures { MatchOption result
         ((fill : FillRule) → word.now ≢ fill_name fill)
         (λ fill. word.now ≡ fill_name fill) }

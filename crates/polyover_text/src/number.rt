@@ -8,7 +8,7 @@ ghost use Rattle.polyover_text.specs.Grammar.{IsNumber, IsCoordinate, IsArea, Is
 use overlay_geom::number::IntNumber;
 
 /// The coordinate that a word writes, or `None` where the word is no number in the coordinate range.
-pub fn parse_coordinate(word: &[u8]) -> Option<i64>
+pub(crate) fn parse_coordinate(word: &[u8]) -> Option<i64>
     ensures { MatchOption result
         ((c : ℤ) → ¬ (IsCoordinate word.now c))
         (λ c. IsCoordinate word.now c) }
@@ -20,7 +20,7 @@ pub fn parse_coordinate(word: &[u8]) -> Option<i64>
 }
 
 /// The area that a word writes, or `None` where the word is no number from 0 to 2^127 - 1.
-pub fn parse_area(word: &[u8]) -> Option<u128>
+pub(crate) fn parse_area(word: &[u8]) -> Option<u128>
     ensures { MatchOption result
         ((n : ℕ) → ¬ (IsArea word.now n))
         (λ n. IsArea word.now n) }
@@ -33,7 +33,7 @@ pub fn parse_area(word: &[u8]) -> Option<u128>
 
 /// The side of a cell that a word writes: the number, or 0 where that is out of the coordinate range. `None` where the
 /// word is no number.
-pub fn parse_side(word: &[u8]) -> Option<i64>
+pub(crate) fn parse_side(word: &[u8]) -> Option<i64>
     ensures { MatchOption result
         ((side : ℤ) → ¬ (IsSide word.now side))
         (λ side. IsSide word.now side) }

@@ -25,7 +25,7 @@ pub struct OutputOptions {
 
 /// The options that the words set, read from left to right, each at most once. `None` where a word begins
 /// no option, one comes twice, or no minimum area follows `min`.
-pub fn parse_options(mut words: Words<'_>) -> Option<OutputOptions>
+pub(crate) fn parse_options(mut words: Words<'_>) -> Option<OutputOptions>
     ensures { MatchOption result
         ((options : OutputOptions) → ¬ (SetOptions default_output (words_left words.entry) options))
         (λ options. SetOptions default_output (words_left words.entry) options) }

@@ -14,7 +14,7 @@ use overlay_geom::point::IntPoint;
 use std::alloc::Allocator;
 
 /// The points whose coordinates the words are, x before y.
-pub fn parse_points<A: Allocator>(
+pub(crate) fn parse_points<A: Allocator>(
     alloc: A,
     mut words: Words<'_>,
 ) -> Result<Vec<IntPoint<i64>, A>, LineError>
@@ -30,7 +30,7 @@ pub fn parse_points<A: Allocator>(
 }
 
 /// The point whose coordinates the two words are, after the word `point`.
-pub fn parse_point(mut words: Words<'_>) -> Option<IntPoint<i64>>
+pub(crate) fn parse_point(mut words: Words<'_>) -> Option<IntPoint<i64>>
     ensures { MatchOption result
         ((p : Point) → ¬ (GivesPoint (codes "point" ∷ words_left words.entry) p))
         (λ p. GivesPoint (codes "point" ∷ words_left words.entry) (plain_point (λ z. z) p)) }

@@ -1,6 +1,6 @@
 //! What an input asks for.
 
-use crate::clip_options::ClipOptions;
+use crate::clip_options::KeptParts;
 use crate::options::OutputOptions;
 use overlay_geom::fill_rule::FillRule;
 use overlay_geom::overlay_rule::OverlayRule;
@@ -54,7 +54,7 @@ pub struct ClipQuery {
     /// Which windings are filled.
     pub fill_rule: FillRule,
     /// Which parts are kept.
-    pub options: ClipOptions,
+    pub options: KeptParts,
 }
 
 /// The rule of tiles, and the grid along which the subject is cut. A side of its cells that was given out of the

@@ -7,7 +7,7 @@ ghost use Rattle.polyover_text.specs.Grammar.{rule_name};
 use overlay_geom::overlay_rule::OverlayRule;
 
 /// The overlay rule that a word names.
-pub fn parse_overlay_rule(word: &[u8]) -> Option<OverlayRule>
+pub(crate) fn parse_overlay_rule(word: &[u8]) -> Option<OverlayRule>
     ensures { MatchOption result
         ((rule : OverlayRule) → word.now ≢ rule_name rule)
         (λ rule. word.now ≡ rule_name rule) }

@@ -4,7 +4,7 @@ ghost use Rattle.std.specs.Prelude.{◌≡◌, ◌==◌, ◌<◌, [], ◌∷◌,
 ghost use Rattle.std.specs.List.{slice_split};
 
 /// The bytes before the first separator, and those after it.
-pub fn split_once(text: &[u8], separator: u8) -> Option<(&[u8], &[u8])>
+pub(crate) fn split_once(text: &[u8], separator: u8) -> Option<(&[u8], &[u8])>
     ensures parts { MatchOption result
         (slice_split (λ b. b == separator) text.now ≡ text.now ∷ [])
         (λ p. slice_split (λ b. b == separator) text.now

@@ -6,7 +6,7 @@ ghost use Rattle.polyover_text.specs.Statements.{Says, IsFaultOf};
 ghost use Rattle.polyover_text.specs.Words.{words_left};
 
 use crate::command::parse_command;
-use crate::contour::Contour;
+use crate::contour::HeldContour;
 use crate::line_error::LineError;
 use crate::points::{parse_point, parse_points};
 use crate::query::Query;
@@ -21,7 +21,7 @@ pub enum Statement<A: Allocator> {
     /// Nothing: it has no word.
     Blank,
     /// A contour.
-    Contour(Contour<A>),
+    Contour(HeldContour<A>),
     /// An open path.
     OpenPath(Vec<IntPoint<i64>, A>),
     /// A point.
@@ -32,7 +32,10 @@ pub enum Statement<A: Allocator> {
 
 /// What a line says, if it is of the grammar. `Memory` comes where the points of a contour or of an open path did not
 /// fit.
-pub fn parse_statement<A: Allocator>(alloc: A, line: &[u8]) -> Result<Statement<A>, LineError>
+pub(crate) fn parse_statement<A: Allocator>(
+    alloc: A,
+    line: &[u8],
+) -> Result<Statement<A>, LineError>
     ensures { MatchResult result
         (λ s. Says (words line.now) s)
         (λ e. IsFaultOf (words line.now) e) }
@@ -66,7 +69,7 @@ fn parse_contour<A: Allocator>(
         (λ e. IsFaultOf (shape_name shape_type ∷ words_left words.entry) e) }
 {
     let points = parse_points(alloc, words)?;
-    Ok(Statement::Contour(Contour { shape_type, points }))
+    Ok(Statement::Contour(HeldContour { shape_type, points }))
 }
 
 // The open path, after the word `line`.

@@ -1,7 +1,7 @@
 use Rattle.std.proofs.Common.{◌≡◌, codes, rules}
 use Rattle.std.proofs.lemmas.Slice.Eq.{text_from_reads}
 use Rattle.polyover_text.proofs.ClipOptionLists.{inverted, boundary_kept}
-use Rattle.polyover_text.proofs.clip_options.ClipOptions.with.Goals as goal
+use Rattle.polyover_text.proofs.clip_options.KeptParts.with.Goals as goal
 
 pub returns-in-invert : goal.returns-in-invert
 returns-in-invert c =
