@@ -91,7 +91,7 @@ class Paint(unittest.TestCase):
         self.page.run(RINGS, 10000)
         self.page.wait()
         # (a busy machine is asked until it has a moment for it)
-        self.assertTrue(any(self.page.run(MOVED, (-1) ** at) < FRAME for at in range(100)))
+        self.assertTrue(any(self.page.run(MOVED, (-1) ** at) < FRAME for at in range(400)))
         self.assertLess(min(self.page.run(STILL) for _ in range(9)), FRAME)
 
     def test_what_is_not_seen_is_left_out(self):
