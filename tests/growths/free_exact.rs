@@ -6,6 +6,7 @@ use overlay_exact::along::{push_met, sort_along};
 use overlay_exact::exact_int::ExactInt;
 use overlay_exact::meetings::find_meetings;
 use overlay_exact::met::MetAlong;
+use overlay_exact::point_windings::windings_at_points;
 use overlay_geom::edge::IntEdge;
 use overlay_order::count::ShapeCountBoolean;
 use overlay_order::edge::CountedEdge;
@@ -84,6 +85,11 @@ fn check_meetings<I: Width + ExactInt>(trial: &Trial<'_, impl Abort>) -> Result<
         find_meetings(memory, &edges)
     })?;
     assert!(trial.rt; found.met.len() == 6);
+    let points = [point::<I>(1, 4), point(3, 2)];
+    let wound = trial.refuse_call("overlay_exact::windings_at_points", || {
+        windings_at_points(memory, &edges, &points)
+    })?;
+    assert!(trial.rt; wound[0].subj == 2 && wound[1].subj == 1);
     Ok(())
 }
 

@@ -2,6 +2,7 @@ pub mod AddedMet
 pub mod CrossingParts
 pub mod GatheredMet
 pub mod GroupEnds
+pub mod LiveEdges
 pub mod MetByStarts
 pub mod MetOrder
 pub mod MetRises

@@ -1,6 +1,6 @@
 -- Which edges of a list meet an edge at a place, told by the group of meeting points there, and sums over them.
 use Rattle.std.proofs.Common.{◌≡◌, ◌≢◌, ⊎_elim, ℕ, ◌+◌, ◌-◌, ◌<◌, ◌≤◌, true, false, cond, ℤ, pos, ◌+ℤ◌, List, length}
-use Rattle.std.proofs.Common.{take, drop, get_or, slice_range, AllPairs, Contains, refl, sym, ap, ap₂, ◌∙◌, subst, arith}
+use Rattle.std.proofs.Common.{drop, get_or, slice_range, AllPairs, Contains, refl, sym, ap, ◌∙◌, subst, arith}
 use Rattle.std.proofs.lemmas.Bool.{cases_Bool, cases_lt, both_ways}
 use Rattle.std.proofs.lemmas.List.{get_or_default, get_or-drop, get_or-take, length-take-le, length-drop}
 use Rattle.std.proofs.lemmas.List.Elements.{Contains-get_or}

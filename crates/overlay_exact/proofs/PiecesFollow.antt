@@ -19,7 +19,8 @@ use Rattle.overlay_scaled.specs.Pieces.{IsPlaceOn, IsPiece, IsWithinPiece}
 use Rattle.overlay_scaled.specs.PlainPoints.{IsPlain}
 use Rattle.overlay_scaled.proofs.CrossedLines.{by_smaller}
 use Rattle.overlay_exact.specs.PieceOrder.{IsUpTo, PiecesFollow}
-use Rattle.overlay_exact.proofs.PlaneOrder.{flipped, smaller_from_same, smaller_to_same, smaller_or_up_to, up_to_of_place}
+use Rattle.overlay_exact.proofs.PlaneOrder.{flipped, smaller_from_same, smaller_or_up_to}
+use Rattle.overlay_exact.proofs.PlaneOrder.{up_to_of_place}
 
 -- ---- a point between two others
 

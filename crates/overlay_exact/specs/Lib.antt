@@ -7,4 +7,5 @@ pub mod PartLaws
 pub mod Parts
 pub mod PieceOrder
 pub mod PlacesAlong
+pub mod PointWindings
 pub mod WindingSteps

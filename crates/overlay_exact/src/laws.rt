@@ -39,8 +39,7 @@ pub fn plain_points_lie_in_pieces()
     ensures { PlainPointsLieInPieces }
 {}
 
-/// A sum over the edges of a list that have a meeting point with an edge at a place of it is one over the group of
-/// meeting points there.
+/// A sum over the edges that meet an edge at a place is a sum over its meeting points there.
 pub fn met_tell_totals()
     ensures { MetTellTotals }
 {}

@@ -10,4 +10,5 @@ pub mod meetings;
 pub mod met;
 pub mod part;
 pub mod place;
+pub mod point_windings;
 pub mod winding;
