@@ -177,7 +177,18 @@ class Reader:
             raise BadInput(f"{place}: properties: {shown(members['properties'])} is no object")
         if geometry is None:
             return Feature(place, [], members, is_null=True)
-        return Feature(place, list(self.parts(place, geometry)), members)
+        line = self.plain_line(place, geometry)
+        return Feature(place, list(self.parts(place, geometry)) if line is None else [line], members)
+
+    def plain_line(self, place: Place, geometry: object) -> Part | None:
+        """The line of a geometry that is one, of points of two numbers of Python's own, where lines are wanted."""
+        if type(geometry) is not dict or geometry.get("type") != LINES[0] or LINES[0] not in self.kinds:
+            return None
+        points = plain_points(geometry.get("coordinates"))
+        if points is None or len(points) < 2:
+            return None
+        self.finds_any = True
+        return Part(Place(place.feature, place.geometries, "line 1", 0, place.line), [points])
 
 
 # ---- what stands where it should

@@ -77,7 +77,7 @@ class Lines:
         check_range(self.source, [(part.place, path) for part, path in zip(self.parts, paths)])
         told = Told(self.source) if self.told is None else self.told
         for part, path in zip(self.parts, paths):
-            if len(set(path)) < 2:
+            if not path or path[0] == path[-1] and len(set(path)) < 2:
                 told.add(COLLAPSED, part.place)
         if self.told is None:
             told.say()
