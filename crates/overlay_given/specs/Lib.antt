@@ -1,0 +1,6 @@
+pub mod Beside
+pub mod Laws
+pub mod Relations
+pub mod Sides
+pub mod Steps
+pub mod Walk

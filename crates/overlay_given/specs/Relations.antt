@@ -1,0 +1,33 @@
+-- Relations of the contours as given, and the tests of filled sides from which they are answered.
+use Rattle.std.specs.Prelude.{◌≡◌, ◌↔◌, Bool, not, ◌&&◌, ℤ, List, IsTrue}
+use Rattle.std.specs.List.{list_any}
+use Rattle.overlay_geom.specs.Edges.{CountedEdge}
+use Rattle.overlay_plane.specs.Predicates.{InteriorsIntersect, IsWithin, Covers}
+use Rattle.overlay_given.specs.Sides.{sides_pass}
+use Rattle.overlay_given.specs.declared.relations.Found.{Found}
+use Rattle.overlay_given.specs.declared.relations.InteriorRelations.{InteriorRelations}
+use Rattle.overlay_given.specs.declared.sides.FilledSides.{FilledSides}
+use Rattle.overlay_given.specs.declared.sides.SideTest.TheVariants.{CommonSide, SubjectSide, SubjectOutside, ClipSide}
+use Rattle.overlay_given.specs.declared.sides.SideTest.TheVariants.{ClipOutside}
+
+-- these tests pass of some sides of the list
+pub record IsFoundOf (sides : List FilledSides) (f : Found) : Type 0 where
+  pub has_common_side : f.has_common_side ≡ list_any (sides_pass CommonSide) sides
+  pub has_subject : f.has_subject ≡ list_any (sides_pass SubjectSide) sides
+  pub subject_pokes_out : f.subject_pokes_out ≡ list_any (sides_pass SubjectOutside) sides
+  pub has_clip : f.has_clip ≡ list_any (sides_pass ClipSide) sides
+  pub clip_pokes_out : f.clip_pokes_out ≡ list_any (sides_pass ClipOutside) sides
+
+-- what was found answers so
+abbrev pub relations_by : Found → InteriorRelations
+relations_by f = record {
+  interiors_intersect = f.has_common_side;
+  within = f.has_subject && not f.subject_pokes_out;
+  covers = f.has_clip && not f.clip_pokes_out;
+}
+
+-- each of these tells whether the relation holds of the content
+pub record AreInteriorRelations (filled : ℤ → Bool) (content : List CountedEdge) (r : InteriorRelations) : Type 0 where
+  pub interiors_intersect : IsTrue r.interiors_intersect ↔ InteriorsIntersect filled content
+  pub within : IsTrue r.within ↔ IsWithin filled content
+  pub covers : IsTrue r.covers ↔ Covers filled content
