@@ -337,7 +337,7 @@ def polygons(shapes: Iterable[list[Path]]) -> dict[str, Any]:
 
 def lines(paths: Iterable[Path]) -> dict[str, Any]:
     """A geometry of open paths."""
-    return {"type": "MultiLineString", "coordinates": [[list(point) for point in path] for path in paths]}
+    return {"type": "MultiLineString", "coordinates": [list(path) for path in paths]}
 
 
 def collection(features: Iterable[dict[str, Any]], **members: Any) -> dict[str, Any]:

@@ -48,10 +48,8 @@ class Small(unittest.TestCase):
     def test_as_the_longer_way(self):
         chance = random.Random(12)
         for _ in range(60):
-            rings = [
-                star(chance.uniform(0, 2), chance.uniform(0, 2), chance.randint(2, 40), 2, chance.uniform(0.3, 1.9))
-                for _ in range(3)
-            ]
+            places = [(chance.uniform(0, 2), chance.uniform(0, 2)) for _ in range(3)]
+            rings = [star(x, y, chance.randint(2, 40), 2, chance.uniform(0.3, 1.9)) for x, y in places]
             rings[0] = rings[0][:: chance.choice((1, -1))]
             scaled = chance.choice((SCALED, polyover.Scaled(3, (0.1, 0)), polyover.Scaled(10**12)))
             for one, other in ((ring(rings[0]), ring(rings[1])), ([rings[0], rings[2]], ring(rings[1])), (rings, [])):
