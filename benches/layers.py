@@ -2,7 +2,7 @@
 """Times commands of `python -m polyover` on layers of the world beside the same task by shapely, and compares answers.
 
     apt-get install gmt-gshhg-low gmt-gshhg-high python3-cartopy    (the layers, and libnetcdf, which reads them)
-    benches/layers.py [--data FOLDER] [--only clip,overlay ..]      prints a table in Markdown
+    /usr/bin/python3 benches/layers.py --land l [--only clip overlay ..]    prints a table in Markdown
 
 The layers are the rivers of GSHHG in high resolution, the land in the resolution that is named, cut at 180 degrees, and
 the lakes in low resolution, with properties. Each task is a process by itself, that reads GeoJSON and writes it. That

@@ -1,7 +1,7 @@
 #!/usr/bin/env python3
 """Times small overlays of Python beside shapely, and prints a table in Markdown: microseconds of processor time a call.
 
-    benches/small.py [--points 4 8 32 128]      with an interpreter that has shapely, by the library in out/
+    /usr/bin/python3 benches/small.py [--points 4 8 32 128]     by Debian's shapely and the library in out/
 
 Each call is the intersection of two stars with that many corners, in turn far and near, moved a little. The columns are
 `Scaled.overlay` of shapely's polygons, with an answer that is made shapely's again, of GeoJSON and of lists of points.
