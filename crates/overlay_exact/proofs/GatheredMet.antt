@@ -102,7 +102,7 @@ module _ (es : List CountedEdge) (i : ℕ) (e : CountedEdge) where
   }
 
   -- a meeting point before place n is one before a later place
-  later : (n l : ℕ) → n ≤ l → (m : Met) → IsMetBefore es n i e m → IsMetBefore es l i e m
+  pub later : (n l : ℕ) → n ≤ l → (m : Met) → IsMetBefore es n i e m → IsMetBefore es l i e m
   later n l le m met = record {
     before = let less = met.before in omega arith;
     other = met.other;

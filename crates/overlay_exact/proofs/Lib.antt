@@ -12,6 +12,7 @@ pub mod Overlaps
 pub mod PartEnds
 pub mod PartOrder
 pub mod PartPoints
+pub mod PassedEdges
 pub mod PickedTotals
 pub mod PiecesFollow
 pub mod PlacesTold

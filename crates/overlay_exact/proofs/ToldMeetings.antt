@@ -27,7 +27,8 @@ module _ (es : List CountedEdge) (i : ℕ) (e : CountedEdge) (at : IsAt es i e) 
 
   module _ (up : IsAscending es) where
     -- an edge at a later place comes later
-    less_at : (j k : ℕ) (f g : CountedEdge) → j < k → IsAt es j f → IsAt es k g → edge_lt (ends_of f) (ends_of g) ≡ true
+    pub less_at : (j k : ℕ) (f g : CountedEdge) → j < k → IsAt es j f → IsAt es k g →
+        edge_lt (ends_of f) (ends_of g) ≡ true
     less_at j k f g less at_f at_g =
         let first : get_or es j g ≡ f = get_or_default es j g f at_f.0 ∙ at_f.1 in
         sym (ap₂ (λ x y. edge_lt (ends_of x) (ends_of y)) first at_g.1) ∙ up j k g less at_g.0

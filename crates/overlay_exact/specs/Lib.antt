@@ -5,6 +5,7 @@ pub mod MetLaws
 pub mod MetTotals
 pub mod PartLaws
 pub mod Parts
+pub mod Passed
 pub mod PieceOrder
 pub mod PlacesAlong
 pub mod PointWindings

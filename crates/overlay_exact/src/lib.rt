@@ -9,6 +9,7 @@ pub mod laws;
 pub mod meetings;
 pub mod met;
 pub mod part;
+mod passed;
 pub mod place;
 pub mod point_windings;
 pub mod winding;

@@ -16,7 +16,7 @@ returns g c =
     let plain = plain_edge g.I.IntNumber.whole g.C.EdgeCount.counts in
     let es = plain_edges g.I.IntNumber.whole g.C.EdgeCount.counts c.args.edges.now in
     let i = c.args.i in
-    let old = c.push_all_met.new.met.items in
+    let old = c.push_met_behind.new.met.items in
     let new = c.sort_along.new.met.items in
     record {
       ok = λ e at.
@@ -25,7 +25,7 @@ returns g c =
             all = gathered_shuffled es i e (length es) (plain_mets whole old) (plain_mets whole new)
                 (IsPermutation-map (plain_met whole) old new c.sort_along.ensures.permutation)
                 (subst (λ n. AreMetBefore es n i e (plain_mets whole old)) (sym (length-map c.args.edges.now plain))
-                (c.in_ok-push_all_met.ensures.ok e at));
+                (c.in_ok-push_met_behind.ensures.ok e at));
             order = c.in_ok-sort_along.ensures.order (ends_of e) held.forward;
           };
     }
