@@ -88,7 +88,13 @@ fn ends_of_the_range(rt: HostRuntime) {
         edge(-l, -l, l, l - 1, 1000000000, 0),
         edge(-l, 1 - l, l, l, 0, -1000000000),
     ];
-    assert_eq!(rt; windings_at(&edges, IntPoint::new(0, 0)), wound(1000000000, 0));
-    assert_eq!(rt; windings_at(&edges, IntPoint::new(0, 1)), wound(1000000000, -1000000000));
+    assert_eq!(rt;
+        windings_at(&edges, IntPoint::new(0, 0)),
+        wound(1000000000, 0)
+    );
+    assert_eq!(rt;
+        windings_at(&edges, IntPoint::new(0, 1)),
+        wound(1000000000, -1000000000)
+    );
     assert_eq!(rt; windings_at(&edges, IntPoint::new(l, l)), wound(0, 0));
 }
