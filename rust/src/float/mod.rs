@@ -13,6 +13,7 @@
 //! ([`NotFinite`](crate::error::OverlayError::NotFinite)), and so are coordinates above 2^1022 (`f32`: 2^126).
 
 pub mod clip;
+pub mod graph;
 pub mod grid;
 pub mod overlay;
 pub mod relate;
@@ -20,3 +21,4 @@ pub mod scale;
 pub mod simplify;
 pub mod single;
 pub mod slice;
+pub mod string;

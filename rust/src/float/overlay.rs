@@ -6,6 +6,7 @@ use crate::core::overlay::{ContourDirection, IntOverlayOptions, Overlay};
 use crate::core::overlay_rule::OverlayRule;
 use crate::core::solver::Solver;
 use crate::error::{answered, OverlayError};
+use crate::float::graph::FloatOverlayGraph;
 use crate::float::grid::Grid;
 use crate::float::scale::{fixed, fixed_grid, FixedScaleOverlayError};
 use crate::i_float::float::compatible::FloatPointCompatible;
@@ -19,8 +20,6 @@ use alloc::vec::Vec;
 #[derive(Debug, Clone, Copy, PartialEq)]
 pub struct OverlayOptions<T: FloatNumber> {
     /// Whether points of given contours on one line with their neighbours are nodes of the arrangement.
-    ///
-    /// This version has it not yet: where it is true, each query is refused ([`NotHad`](OverlayError::NotHad)).
     pub preserve_input_collinear: bool,
     /// Which way outlines run; holes run the other way.
     pub output_direction: ContourDirection,
@@ -270,6 +269,33 @@ impl<P: FloatPointCompatible, I: OverlayInt> FloatOverlay<P, I> {
     #[track_caller]
     pub fn overlay(&mut self, overlay_rule: OverlayRule, fill_rule: FillRule) -> Shapes<P> {
         answered(self.try_overlay(overlay_rule, fill_rule))
+    }
+
+    /// A view of the arrangement; none where no edge is left.
+    ///
+    /// # Errors
+    /// As of [`Overlay::try_build_graph_view`]; `NotFinite`, of the smallest area.
+    pub fn try_build_graph_view(
+        &mut self,
+        fill_rule: FillRule,
+    ) -> Result<Option<FloatOverlayGraph<'_, P, I>>, OverlayError> {
+        self.overlay.options = self.options.on(&self.grid)?;
+        self.overlay.solver = self.solver;
+        let view = self.overlay.try_build_graph_view(fill_rule)?;
+        Ok(view.map(|graph| FloatOverlayGraph {
+            graph,
+            grid: self.grid,
+            point: PhantomData,
+        }))
+    }
+
+    /// A view of the arrangement; none where no edge is left.
+    ///
+    /// # Panics
+    /// Where [`Self::try_build_graph_view`] is refused.
+    #[track_caller]
+    pub fn build_graph_view(&mut self, fill_rule: FillRule) -> Option<FloatOverlayGraph<'_, P, I>> {
+        answered(self.try_build_graph_view(fill_rule))
     }
 
     /// The grid of the contours.
