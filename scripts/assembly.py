@@ -1,7 +1,7 @@
 #!/usr/bin/env python3
 """Leaves the assembly of the library for a processor, which any C compiler for it assembles (c/library.mk).
 
-    assembly.py FILE.s [--processor x86_64|aarch64|wasm64] [--proved]
+    assembly.py FILE.s [--processor x86_64|aarch64|wasm64|x86_64-macos|arm64-macos] [--proved]
 
 It is made of the proved module, where `.ci/library` has left that and nothing is newer; else of one without a proof,
 which takes a minute more (unproved.py). With --proved the library is proved first if it is not, an hour or more. It
@@ -70,6 +70,17 @@ PROCESSORS = {
     "aarch64": Processor(
         "aarch64-unknown-linux-gnu",
         "e-m:e-p270:32:32-p271:32:32-p272:64:64-i8:8:32-i16:16:32-i64:64-i128:128-n32:64-S128-Fn32",
+        "-march=armv8-a",
+    ),
+    # (macOS: assembled by tests, and not run)
+    "x86_64-macos": Processor(
+        "x86_64-apple-macosx11.0.0",
+        "e-m:o-p270:32:32-p271:32:32-p272:64:64-i64:64-i128:128-f80:128-n8:16:32:64-S128",
+        "-march=x86-64",
+    ),
+    "arm64-macos": Processor(
+        "arm64-apple-macosx11.0.0",
+        "e-m:o-p270:32:32-p271:32:32-p272:64:64-i64:64-i128:128-n32:64-S128-Fn32",
         "-march=armv8-a",
     ),
     # (WebAssembly, for js/Makefile)

@@ -39,8 +39,10 @@ module _ (e f : Edge) (e_before : IsBefore e.a e.b) (f_before : IsBefore f.a f.b
           (level f.b zero) (end_on f).on_line) (at_itself f.b))))
     ]
       where
-        across : int_eq (cross_at e.a e.b f.a) (pos 0) ≡ false → ¬ (cross_at e.a e.b f.b -ℤ cross_at e.a e.b f.a ≡ pos 0)
-        across other_side same = false≢true (sym other_side ∙ (Decides-int_eq (cross_at e.a e.b f.a) (pos 0)).1 (omega linear))
+        across : int_eq (cross_at e.a e.b f.a) (pos 0) ≡ false →
+            ¬ (cross_at e.a e.b f.b -ℤ cross_at e.a e.b f.a ≡ pos 0)
+        across other_side same =
+            false≢true (sym other_side ∙ (Decides-int_eq (cross_at e.a e.b f.a) (pos 0)).1 (omega linear))
 
     along_told : are_along e f ≡ int_eq (cross_at e.a e.b f.b) (pos 0)
     along_told = elim (cases_Bool (int_eq (cross_at e.a e.b f.b) (pos 0))) [
