@@ -1,17 +1,17 @@
 -- An edge through the start of e leads on along e where its end is another point of e's line.
-use Rattle.std.proofs.Common.{◌≡◌, inl, inr, Bool, true, false, not, ◌&&◌, ℤ, pos, ◌-ℤ◌, refl, sym, ap, ap₂, ◌∙◌, subst}
+use Rattle.std.proofs.Common.{◌≡◌, inl, inr, Bool, true, false, not, ◌&&◌, pos, ◌-ℤ◌, refl, sym, ap, ap₂, ◌∙◌, subst}
 use Rattle.std.specs.Ordering.{int_eq}
 use Rattle.std.proofs.lemmas.Bool.{cases_Bool, false_from_ne_true, false≢true}
 use Rattle.std.proofs.lemmas.Bool.Decides.{Decides-int_eq}
-use Rattle.overlay_geom.specs.Plane.{Point, PlanePoint, Edge, IsOn, IsAt, side, in_plane, cross_at, point_eq}
+use Rattle.overlay_geom.specs.Plane.{Point, Edge, IsOn, side, in_plane, cross_at, point_eq}
 use Rattle.overlay_geom.proofs.Cross.{cross_at_first}
 use Rattle.overlay_geom.proofs.Orders.{point_eq-same, point_eq-of_same}
 use Rattle.overlay_geom.proofs.PointOrder.{IsBefore}
 use Rattle.overlay_geom.proofs.Signs.{linear, mul-zero}
 use Rattle.overlay_plane.specs.CutPoints.{are_along}
 use Rattle.overlay_plane.proofs.CommonPoints.{one_on_both}
-use Rattle.overlay_plane.proofs.Ends.{start_on, end_on}
-use Rattle.overlay_plane.proofs.WholeOnEdges.{at_itself, at_whole, side_at, same_place_at, Decides-is_at}
+use Rattle.overlay_plane.proofs.Ends.{end_on}
+use Rattle.overlay_plane.proofs.WholeOnEdges.{at_itself, at_whole, side_at, Decides-is_at}
 use Rattle.overlay_plane.proofs.WholePlaces.{at_moved}
 use Rattle.overlay_scaled.specs.BesidePieces.{is_at}
 use Rattle.overlay_given.specs.Steps.{leads_on}
@@ -41,8 +41,8 @@ module _ (e f : Edge) (e_before : IsBefore e.a e.b) (f_before : IsBefore f.a f.b
       where
         across : int_eq (cross_at e.a e.b f.a) (pos 0) ≡ false →
             ¬ (cross_at e.a e.b f.b -ℤ cross_at e.a e.b f.a ≡ pos 0)
-        across other_side same =
-            false≢true (sym other_side ∙ (Decides-int_eq (cross_at e.a e.b f.a) (pos 0)).1 (omega linear))
+        across off same = false≢true (sym off
+            ∙ (Decides-int_eq (cross_at e.a e.b f.a) (pos 0)).1 (omega linear))
 
     along_told : are_along e f ≡ int_eq (cross_at e.a e.b f.b) (pos 0)
     along_told = elim (cases_Bool (int_eq (cross_at e.a e.b f.b) (pos 0))) [

@@ -1,10 +1,9 @@
 -- Where f meets e at p, the counts of f are added to the winding above e as often as f starts on the left of e's line,
 -- less as often as it ends there: below e it adds its steps to the right, along e its start or its end.
-use Rattle.std.proofs.Common.{◌≡◌, ◌⊎◌, inl, inr, ⊎_elim, Bool, true, false, cond, not, ◌&&◌, ℤ, pos, ◌+ℤ◌, ◌-ℤ◌, ◌*ℤ◌}
+use Rattle.std.proofs.Common.{◌≡◌, ◌⊎◌, inl, inr, ⊎_elim, Bool, true, false, cond, ℤ, pos, ◌+ℤ◌, ◌-ℤ◌}
 use Rattle.std.proofs.Common.{◌<ℤ◌, ◌≤ℤ◌, refl, sym, ap, ◌∙◌}
-use Rattle.std.specs.Ordering.{int_eq}
 use Rattle.std.proofs.lemmas.Bool.{cases_Bool, false_from_ne_true, false≢true}
-use Rattle.overlay_geom.specs.Plane.{Point, PlanePoint, Edge, IsOn, IsAt, side, cross_at, in_plane}
+use Rattle.overlay_geom.specs.Plane.{Point, PlanePoint, Edge, IsOn, IsAt, cross_at, in_plane}
 use Rattle.overlay_geom.proofs.Beside.{beside_meet_in_ends}
 use Rattle.overlay_geom.proofs.Crossing.{at_one_point}
 use Rattle.overlay_geom.proofs.PointOrder.{IsBefore, before_is_other}

@@ -1,5 +1,12 @@
+pub mod BelowWhole
 pub mod FirstSteps
 pub mod LeftSteps
+pub mod MoreSides
 pub mod RisesTold
+pub mod StartSums
+pub mod StepBounds
+pub mod Sums
 pub mod ToldRelations
+pub mod WalkSteps
+pub mod Walked
 pub mod Winds

@@ -1,14 +1,12 @@
 -- The sums by which the windings beside an edge change at a place, in the form in which a walk computes them.
-use Rattle.std.proofs.Common.{◌≡◌, inl, inr, ⊎_elim, ℕ, Bool, true, false, cond, not, ◌&&◌, ℤ, pos, ◌+ℤ◌, ◌-ℤ◌, ◌*ℤ◌}
-use Rattle.std.proofs.Common.{List, Contains, slice_range, refl, sym, ap, ap₂, ◌∙◌}
-use Rattle.std.specs.Ordering.{int_eq}
-use Rattle.std.proofs.lemmas.Bool.{cases_Bool, false_from_ne_true, false≢true}
-use Rattle.std.proofs.lemmas.Bool.Decides.{Decides-int_eq}
+use Rattle.std.proofs.Common.{◌≡◌, inl, inr, ℕ, false, cond, not, ◌&&◌, ℤ, pos, ◌+ℤ◌, ◌-ℤ◌, ◌*ℤ◌}
+use Rattle.std.proofs.Common.{List, Contains, slice_range, sym, ap, ap₂, ◌∙◌}
+use Rattle.std.proofs.lemmas.Bool.{false_from_ne_true}
 use Rattle.overlay_geom.specs.Edges.{CountedEdge, ends_of}
-use Rattle.overlay_geom.specs.Plane.{Point, PlanePoint, IsOn, IsAt, IsEnd, in_plane, edge_eq, cross_at, total, point_eq}
+use Rattle.overlay_geom.specs.Plane.{Point, PlanePoint, IsOn, IsAt, IsEnd, in_plane}
 use Rattle.overlay_geom.proofs.Cross.{cross_at_same, cross_at_first}
 use Rattle.overlay_geom.proofs.Identities.{solve, number, ◌⊕◌, ◌⊗◌, ◌⊖◌, ◌≗◌}
-use Rattle.overlay_geom.proofs.Signs.{linear, mul-zero}
+use Rattle.overlay_geom.proofs.Signs.{linear}
 use Rattle.overlay_plane.specs.CutPoints.{are_along}
 use Rattle.overlay_plane.specs.EdgeLists.{IsBalanced}
 use Rattle.overlay_plane.specs.Meetings.{IsMeetingPoint}
@@ -24,11 +22,11 @@ use Rattle.overlay_exact.specs.Along.{Met}
 use Rattle.overlay_exact.specs.MetTotals.{IsOfMet, total_met}
 use Rattle.overlay_exact.specs.PlacesAlong.{AreMetIn, IsPlaceWith}
 use Rattle.overlay_exact.specs.WindingSteps.{winding_step, along_step}
-use Rattle.overlay_exact.proofs.MetRises.{rises_told, starts_told}
+use Rattle.overlay_exact.proofs.MetRises.{rises_told}
 use Rattle.overlay_exact.proofs.MetTotals.{edge_of_met, of_met, totals_told}
 use Rattle.overlay_exact.proofs.PiecesFollow.{before_in}
 use Rattle.overlay_exact.proofs.PlacesTold.{e_before}
-use Rattle.overlay_given.specs.Steps.{is_left_of, leads_on, below_by, above_by}
+use Rattle.overlay_given.specs.Steps.{leads_on, below_by, above_by}
 use Rattle.overlay_given.specs.declared.steps.Stop.TheVariants.{First, Later}
 use Rattle.overlay_given.proofs.LeftSteps.{left_steps}
 use Rattle.overlay_given.proofs.FirstSteps.{leading_on}

@@ -1,5 +1,5 @@
 -- The windings beside the pieces of an edge, from its start to its end.
-use Rattle.std.proofs.Common.{◌≡◌, ℕ, ℤ, pos, ◌+ℤ◌, ◌*ℤ◌, List, slice_range, sym, ap, ap₂, ◌∙◌}
+use Rattle.std.proofs.Common.{◌≡◌, ℕ, ℤ, ◌+ℤ◌, ◌*ℤ◌, List, slice_range, sym, ap, ap₂, ◌∙◌}
 use Rattle.overlay_geom.specs.Edges.{CountedEdge, ends_of, subj_of, clip_of, winding_by}
 use Rattle.overlay_geom.specs.Plane.{PlanePoint, in_plane}
 use Rattle.overlay_geom.proofs.Signs.{linear}

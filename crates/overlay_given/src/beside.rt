@@ -22,7 +22,7 @@ pub struct Beside {
 
 impl Beside {
     /// Returns four times 0.
-    pub fn none() -> Beside
+    pub(crate) fn none() -> Beside
         ensures { result ≡ record { subj_below = pos 0; subj_above = pos 0; clip_below = pos 0; clip_above = pos 0 } }
     {
         Beside {
@@ -34,7 +34,7 @@ impl Beside {
     }
 
     /// Returns the sums of the windings and of those of `other`. No number is further than 2^100 from 0.
-    pub fn plus(self, other: Beside) -> Beside
+    pub(crate) fn plus(self, other: Beside) -> Beside
         requires this { IsNear (2 ^ 100) self }
         requires other { IsNear (2 ^ 100) other }
         ensures subj_below { result.subj_below ≡ self.subj_below +ℤ other.subj_below }
@@ -51,7 +51,7 @@ impl Beside {
     }
 
     /// Returns the sides that the shapes fill under the rule.
-    pub fn filled(self, rule: FillRule) -> FilledSides
+    pub(crate) fn filled(self, rule: FillRule) -> FilledSides
         ensures { result ≡ filled_beside (is_filled rule) self }
     {
         FilledSides {

@@ -1,9 +1,20 @@
 //! Relations of a subject and a clip as given, told by the filled sides of the pieces of their merged edges.
 
-ghost use Rattle.std.specs.Prelude.{◌≡◌};
-ghost use Rattle.overlay_given.specs.Relations.{IsFoundOf, relations_by};
+ghost use Rattle.std.specs.Prelude.{◌≡◌, All, IfOk};
+ghost use Rattle.overlay_geom.specs.Merged.{IsMerged};
+ghost use Rattle.overlay_geom.specs.Rules.{is_filled};
+ghost use Rattle.overlay_plane.specs.Balance.{HasBalancedCounts};
+ghost use Rattle.overlay_order.specs.Content.{plain_edges, IsHeld, IsAscending};
+ghost use Rattle.overlay_given.specs.Relations.{AreInteriorRelations, IsFoundOf, relations_by};
 
 use crate::sides::{FilledSides, SideTest, some_pass};
+use crate::walk::find_sides;
+use overlay_exact::exact_int::ExactInt;
+use overlay_exact::meetings::find_meetings;
+use overlay_geom::fill_rule::FillRule;
+use overlay_order::count::EdgeCount;
+use overlay_order::edge::CountedEdge;
+use std::alloc::{AllocError, Allocator};
 
 /// Whether each relation holds that tells of the interiors of a subject and a clip alone.
 #[derive(Debug, Clone, Copy, PartialEq, Eq)]
@@ -17,24 +28,43 @@ pub struct InteriorRelations {
     pub covers: bool,
 }
 
-/// What is found of the filled sides of all pieces.
-#[derive(Debug, Clone, Copy, PartialEq, Eq)]
-pub struct Found {
-    /// Both shapes fill the same side of some piece.
-    pub has_common_side: bool,
-    /// The subject fills a side of some piece.
-    pub has_subject: bool,
-    /// It fills one that the clip does not fill.
-    pub subject_pokes_out: bool,
-    /// The clip fills a side of some piece.
-    pub has_clip: bool,
-    /// It fills one that the subject does not fill.
-    pub clip_pokes_out: bool,
+/// Returns the relations of the interiors of subject and clip, told by their merged edges with balanced counts. Nothing
+/// is rounded: each answer is that of the contours as given. The error is that memory is refused.
+pub fn interior_relations<I: ExactInt, C: EdgeCount, A: Allocator + Clone>(
+    alloc: A,
+    edges: &[CountedEdge<I, C>],
+    rule: FillRule,
+) -> Result<InteriorRelations, AllocError>
+    requires held { All (IsHeld I.limit) (plain_edges I.whole C.counts edges.now) }
+    requires ascending { IsAscending (plain_edges I.whole C.counts edges.now) }
+    requires balanced { HasBalancedCounts (plain_edges I.whole C.counts edges.now) }
+    ensures ok { IfOk result (λ r. (content : _) → IsMerged content (plain_edges I.whole C.counts edges.now)
+        → AreInteriorRelations (is_filled rule) content r) }
+{
+    let found = find_meetings(alloc.clone()?, edges)?;
+    let sides = find_sides(alloc, edges, &found, rule)?;
+    let told = found_in(&sides);
+    Ok(told.relations())
+}
+
+// What is found of the filled sides of all pieces.
+#[derive(Clone, Copy)]
+struct Found {
+    // Both shapes fill the same side of some piece.
+    has_common_side: bool,
+    // The subject fills a side of some piece.
+    has_subject: bool,
+    // It fills one that the clip does not fill.
+    subject_pokes_out: bool,
+    // The clip fills a side of some piece.
+    has_clip: bool,
+    // It fills one that the subject does not fill.
+    clip_pokes_out: bool,
 }
 
 impl Found {
-    /// Returns the relations that it tells.
-    pub fn relations(self) -> InteriorRelations
+    // Returns the relations that it tells.
+    fn relations(self) -> InteriorRelations
         ensures { result ≡ relations_by self }
     {
         InteriorRelations {
@@ -45,8 +75,8 @@ impl Found {
     }
 }
 
-/// Tests the filled sides of all pieces.
-pub fn found_in(sides: &[FilledSides]) -> Found
+// Tests the sides of the list.
+fn found_in(sides: &[FilledSides]) -> Found
     ensures { IsFoundOf sides.now result }
 {
     Found {

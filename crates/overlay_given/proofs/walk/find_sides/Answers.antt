@@ -1,0 +1,129 @@
+-- The meeting points of each edge stand between two starts, and its sides are added to those of the edges before it.
+use Rattle.std.proofs.Common.{◌≡◌, length, map, slice_range, sym, subst, ap, arith}
+use Rattle.std.proofs.lemmas.List.{length-map}
+use Rattle.overlay_geom.specs.Rules.{is_filled}
+use Rattle.overlay_geom.proofs.Mapped.{mapped_range}
+use Rattle.overlay_order.specs.Content.{plain_edge, plain_edges}
+use Rattle.overlay_exact.specs.AllMet.{AreMetOf}
+use Rattle.overlay_exact.specs.Along.{plain_met, plain_mets}
+use Rattle.overlay_exact.proofs.MetByStarts.{entry_at}
+use Rattle.overlay_given.specs.Walk.{AreSidesOf}
+use Rattle.overlay_given.proofs.MoreSides.{sides_none, sides_more}
+use Rattle.overlay_given.proofs.WalkSteps.{at_start, at_next, starts_rise, start_within}
+use Rattle.overlay_given.proofs.walk.find_sides.Goals as goal
+
+pub loop-i-init : goal.loop-i-init
+loop-i-init g c =
+    let es = plain_edges g.I.IntNumber.whole g.C.EdgeCount.counts c.args.edges.now in
+    subst (AreSidesOf (is_filled c.args.rule) es 0) (sym c.new-sides.ensures.items)
+    (sides_none (is_filled c.args.rule) es)
+
+pub index-requires : goal.index-requires
+index-requires g c =
+    let count = c.requires.found.count in
+    let less = c.loop-i-test.true in
+    grind (arith, count, less)
+
+pub index-requires-in-loop-i : goal.index-requires-in-loop-i
+index-requires-in-loop-i g c =
+    let count = c.requires.found.count in
+    let less = c.loop-i-test.true in
+    grind (arith, count, less)
+
+pub slice_bounds-met-count : goal.slice_bounds-met-count
+slice_bounds-met-count g c = starts_rise (plain_edges g.I.IntNumber.whole g.C.EdgeCount.counts c.args.edges.now)
+    (length c.args.edges.now) c.args.found.now.starts.items
+    (plain_mets g.I.Wide.WideIntNumber.whole c.args.found.now.met.items) c.requires.found c.loop-i.i c.loop-i-test.true
+    c.index.result.now c.index-in-loop-i.result.now c.index.ensures c.index-in-loop-i.ensures
+
+pub push_sides-requires-clause-met : goal.push_sides-requires-clause-met
+push_sides-requires-clause-met g c = λ e at.
+    let met = plain_met g.I.Wide.WideIntNumber.whole in
+    let es = plain_edges g.I.IntNumber.whole g.C.EdgeCount.counts c.args.edges.now in
+    let items = c.args.found.now.met.items in
+    let starts = c.args.found.now.starts.items in
+    let n = length c.args.edges.now in
+    let s = c.index.result.now in
+    let t = c.index-in-loop-i.result.now in
+    let i = c.loop-i.i in
+    subst (AreMetOf es i e) (sym (mapped_range met c.deref.result.now s t))
+    (subst (λ xs. AreMetOf es i e (slice_range (map met xs) s t)) (sym c.deref.ensures.value)
+    (c.requires.found.of_each i s t e at
+    (at_start es n starts (map met items) c.requires.found i c.loop-i-test.true s t c.index.ensures
+    c.index-in-loop-i.ensures)
+    (at_next es n starts (map met items) c.requires.found i c.loop-i-test.true s t c.index.ensures
+    c.index-in-loop-i.ensures)))
+
+pub loop-i-preserved : goal.loop-i-preserved
+loop-i-preserved g c =
+    let plain = plain_edge g.I.IntNumber.whole g.C.EdgeCount.counts in
+    let es = plain_edges g.I.IntNumber.whole g.C.EdgeCount.counts c.args.edges.now in
+    let l = length-map c.args.edges.now plain in
+    let less = c.loop-i-test.true in
+    let at = entry_at es c.loop-i.i (omega (arith, l, less)) in
+    sides_more (is_filled c.args.rule) es c.loop-i.i c.loop-i.sides.items c.push_sides.new.sides.items
+    c.loop-i.invariant at.0 at.1 (c.in_ok-push_sides.ensures.ok at.0 at.1)
+
+pub returns : goal.returns
+returns g c =
+    let ended = c.loop-i-test.false in
+    let within = c.loop-i.auto.i-end in
+    record {
+      ok = subst (λ n. AreSidesOf (is_filled c.args.rule)
+          (plain_edges g.I.IntNumber.whole g.C.EdgeCount.counts c.args.edges.now) n c.loop-i.sides.items)
+          (omega (arith, ended, within)) c.loop-i.invariant;
+    }
+
+pub offset_bounds-deref-index : goal.offset_bounds-deref-index
+offset_bounds-deref-index g c =
+    let met = plain_met g.I.Wide.WideIntNumber.whole in
+    let es = plain_edges g.I.IntNumber.whole g.C.EdgeCount.counts c.args.edges.now in
+    let items = c.args.found.now.met.items in
+    let starts = c.args.found.now.starts.items in
+    let n = length c.args.edges.now in
+    let s = c.index.result.now in
+    let t = c.index-in-loop-i.result.now in
+    let rise = starts_rise es n starts (map met items) c.requires.found c.loop-i.i c.loop-i-test.true s t
+    c.index.ensures c.index-in-loop-i.ensures in
+    let within = start_within es n starts (map met items) c.requires.found c.loop-i.i c.loop-i-test.true s t
+    c.index.ensures c.index-in-loop-i.ensures in
+    let l = length-map items met in
+    let len = c.deref.ensures.len in
+    let value : length c.deref.result.now ≡ length items = ap length c.deref.ensures.value in
+    grind (arith, rise, within, l, value)
+
+pub slice_bounds-met-start : goal.slice_bounds-met-start
+slice_bounds-met-start g c =
+    let met = plain_met g.I.Wide.WideIntNumber.whole in
+    let es = plain_edges g.I.IntNumber.whole g.C.EdgeCount.counts c.args.edges.now in
+    let items = c.args.found.now.met.items in
+    let starts = c.args.found.now.starts.items in
+    let n = length c.args.edges.now in
+    let s = c.index.result.now in
+    let t = c.index-in-loop-i.result.now in
+    let rise = starts_rise es n starts (map met items) c.requires.found c.loop-i.i c.loop-i-test.true s t
+    c.index.ensures c.index-in-loop-i.ensures in
+    let within = start_within es n starts (map met items) c.requires.found c.loop-i.i c.loop-i-test.true s t
+    c.index.ensures c.index-in-loop-i.ensures in
+    let l = length-map items met in
+    let len = c.deref.ensures.len in
+    let value : length c.deref.result.now ≡ length items = ap length c.deref.ensures.value in
+    grind (arith, rise, within, l, value)
+
+pub slice_bounds-met-end : goal.slice_bounds-met-end
+slice_bounds-met-end g c =
+    let met = plain_met g.I.Wide.WideIntNumber.whole in
+    let es = plain_edges g.I.IntNumber.whole g.C.EdgeCount.counts c.args.edges.now in
+    let items = c.args.found.now.met.items in
+    let starts = c.args.found.now.starts.items in
+    let n = length c.args.edges.now in
+    let s = c.index.result.now in
+    let t = c.index-in-loop-i.result.now in
+    let rise = starts_rise es n starts (map met items) c.requires.found c.loop-i.i c.loop-i-test.true s t
+    c.index.ensures c.index-in-loop-i.ensures in
+    let within = start_within es n starts (map met items) c.requires.found c.loop-i.i c.loop-i-test.true s t
+    c.index.ensures c.index-in-loop-i.ensures in
+    let l = length-map items met in
+    let len = c.deref.ensures.len in
+    let value : length c.deref.result.now ≡ length items = ap length c.deref.ensures.value in
+    grind (arith, rise, within, l, value)

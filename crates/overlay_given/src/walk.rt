@@ -1,0 +1,110 @@
+//! The filled sides of all pieces of merged edges, found by a walk along each edge from meeting point to meeting point.
+
+ghost use Rattle.std.specs.Prelude.{◌+◌, ◌*◌, ◌^◌, ◌<◌, length, All, IfOk, OnOk};
+ghost use Rattle.overlay_geom.specs.Edges.{ends_of, subj_of, clip_of, winding_by};
+ghost use Rattle.overlay_geom.specs.Plane.{in_plane};
+ghost use Rattle.overlay_geom.specs.Rules.{is_filled};
+ghost use Rattle.overlay_plane.specs.Balance.{HasBalancedCounts};
+ghost use Rattle.overlay_order.specs.Content.{plain_edge, plain_edges, IsHeld, IsAscending};
+ghost use Rattle.overlay_pairs.specs.Places.{IsAt};
+ghost use Rattle.overlay_exact.specs.AllMet.{AreMetByStarts, AreMetOf};
+ghost use Rattle.overlay_exact.specs.Along.{plain_mets};
+ghost use Rattle.overlay_exact.specs.Groups.{AreInOrderAlongOne};
+ghost use Rattle.overlay_given.specs.Beside.{IsNear};
+ghost use Rattle.overlay_given.specs.Walk.{AddsSides, AreSidesOf, IsFirstEnd, WindsAtStart, WindsFromStart};
+
+use crate::beside::Beside;
+use crate::sides::FilledSides;
+use crate::start::windings_at_start;
+use crate::steps::{Stop, sum_met};
+use overlay_exact::exact_int::ExactInt;
+use overlay_exact::group::group_end;
+use overlay_exact::meetings::Meetings;
+use overlay_exact::met::MetAlong;
+use overlay_geom::fill_rule::FillRule;
+use overlay_geom::number::IntNumber;
+use overlay_order::count::EdgeCount;
+use overlay_order::edge::CountedEdge;
+use std::alloc::{AllocError, Allocator};
+
+/// Returns the sides that the shapes fill beside the pieces of the edges: those of the first edge in their order along
+/// it, then those of the next, and so on. `found` holds the meeting points of the edges.
+pub fn find_sides<I: ExactInt, C: EdgeCount, A: Allocator>(
+    alloc: A,
+    edges: &[CountedEdge<I, C>],
+    found: &Meetings<I::Wide, A>,
+    rule: FillRule,
+) -> Result<Vec<FilledSides, A>, AllocError>
+    requires held { All (IsHeld I.limit) (plain_edges I.whole C.counts edges.now) }
+    requires ascending { IsAscending (plain_edges I.whole C.counts edges.now) }
+    requires balanced { HasBalancedCounts (plain_edges I.whole C.counts edges.now) }
+    requires found { AreMetByStarts (plain_edges I.whole C.counts edges.now) (length edges.now)
+        found.now.starts.items (plain_mets I.Wide.whole found.now.met.items) }
+    ensures ok { IfOk result (λ v.
+        AreSidesOf (is_filled rule) (plain_edges I.whole C.counts edges.now) (length edges.now) v.items) }
+{
+    let mut sides = Vec::new(alloc);
+    for i in 0..edges.len() {
+        let met = &found.met[found.starts[i]..found.starts[i + 1]];
+        push_sides(&mut sides, edges, i, met, rule)?;
+    }
+    Ok(sides)
+}
+
+// Adds the filled sides of the pieces of the edge at place i, in their order along it.
+fn push_sides<I: ExactInt, C: EdgeCount, A: Allocator>(
+    sides: &mut Vec<FilledSides, A>,
+    edges: &[CountedEdge<I, C>],
+    i: usize,
+    met: &[MetAlong<I::Wide>],
+    rule: FillRule,
+) -> Result<(), AllocError>
+    requires held { All (IsHeld I.limit) (plain_edges I.whole C.counts edges.now) }
+    requires ascending { IsAscending (plain_edges I.whole C.counts edges.now) }
+    requires balanced { HasBalancedCounts (plain_edges I.whole C.counts edges.now) }
+    requires within { i < length edges.now }
+    requires met { (e : _) → IsAt (plain_edges I.whole C.counts edges.now) i e
+        → AreMetOf (plain_edges I.whole C.counts edges.now) i e (plain_mets I.Wide.whole met.now) }
+    ensures ok { OnOk result ((e : _) → IsAt (plain_edges I.whole C.counts edges.now) i e
+        → AddsSides (is_filled rule) (plain_edges I.whole C.counts edges.now) e sides.old.items sides.new.items) }
+{
+    let mut from = first_end::<I>(met);
+    let mut beside = beside_first_piece(edges, &edges[i], &met[..from]);
+    sides.push(beside.filled(rule))?;
+    while from < met.len() && !met[from].part.is_end() {
+        let end = group_end::<I>(met, from);
+        beside = beside.plus(sum_met(Stop::Later, edges, &edges[i], &met[from..end]));
+        sides.push(beside.filled(rule))?;
+        from = end;
+    }
+    Ok(())
+}
+
+// Returns the number of meeting points at the start of the edge.
+fn first_end<I: ExactInt>(met: &[MetAlong<I::Wide>]) -> usize
+    requires { AreInOrderAlongOne (plain_mets I.Wide.whole met.now) }
+    ensures { IsFirstEnd (plain_mets I.Wide.whole met.now) result }
+{
+    if !met.is_empty() && met[0].part.is_start() {
+        group_end::<I>(met, 0)
+    } else {
+        0
+    }
+}
+
+// Returns the windings beside the first piece of the edge. Those met at its start are given.
+fn beside_first_piece<I: IntNumber, C: EdgeCount>(
+    edges: &[CountedEdge<I, C>],
+    edge: &CountedEdge<I, C>,
+    met: &[MetAlong<I::Wide>],
+) -> Beside
+    requires held { All (IsHeld I.limit) (plain_edges I.whole C.counts edges.now) }
+    requires edge { IsHeld I.limit (plain_edge I.whole C.counts edge.now) }
+    requires others { All (λ m. m.other < length edges.now) (plain_mets I.Wide.whole met.now) }
+    ensures sums { WindsFromStart (plain_edges I.whole C.counts edges.now) (plain_edge I.whole C.counts edge.now)
+        (plain_mets I.Wide.whole met.now) result }
+    ensures near { IsNear (2 ^ 97 + length met.now * 2 ^ 32) result }
+{
+    let start = windings_at_start(edges, edge);
+    start.plus(sum_met(Stop::First, edges, edge, met))
+}
