@@ -1,5 +1,5 @@
 /* The results of library_results.c at one width, by the names at it: CONTOURS, PATHS, OPTIONS, RESULT,
- * PREPARED, NAME(call). */
+ * PREPARED, GRAPH, SLICE_OPTIONS, NAME(call). */
 
 /* (these are proved) */
 polyover_status NAME(polyover_overlay_result_with)(polyover_rule rule, polyover_fill fill, const OPTIONS *options,
@@ -10,6 +10,19 @@ polyover_status NAME(polyover_hierarchy_result_with)(polyover_rule rule, polyove
                                                      const CONTOURS *subject, const CONTOURS *clip, RESULT *result);
 polyover_status NAME(polyover_clip_result_with)(polyover_fill fill, const polyover_clip_options *options,
                                                 const CONTOURS *shape, const PATHS *lines, RESULT *result);
+polyover_status NAME(polyover_slice_custom_result_with)(polyover_fill fill, const SLICE_OPTIONS *options,
+                                                        const CONTOURS *subject, const PATHS *lines, RESULT *result);
+polyover_status NAME(polyover_simplify_shape_result_with)(polyover_fill fill, const OPTIONS *options,
+                                                          const CONTOURS *contours, RESULT *result,
+                                                          uint32_t *as_given);
+polyover_status NAME(polyover_arrange_with)(polyover_fill fill, polyover_solver solver, uint32_t keep_given,
+                                            const CONTOURS *subject, const CONTOURS *clip, GRAPH *graph);
+polyover_status NAME(polyover_graph_overlay_result_with)(const GRAPH *graph, polyover_rule rule,
+                                                         const OPTIONS *options, RESULT *result);
+polyover_status NAME(polyover_graph_hierarchy_result_with)(const GRAPH *graph, polyover_rule rule,
+                                                           const OPTIONS *options, RESULT *result);
+polyover_status NAME(polyover_edges_result_with)(polyover_fill fill, polyover_solver solver, const CONTOURS *subject,
+                                                 const CONTOURS *clip, RESULT *result);
 
 polyover_status NAME(polyover_overlay_result)(polyover_rule rule, polyover_fill fill, const OPTIONS *options,
                                               const CONTOURS *subject, const CONTOURS *clip, RESULT *result) {
@@ -39,6 +52,25 @@ polyover_status NAME(polyover_clip_result)(polyover_fill fill, const polyover_cl
     return NAME(polyover_clip_result_with)(fill, options ? options : &by_default, shape, lines, result);
 }
 
+polyover_status NAME(polyover_slice_custom_result)(polyover_fill fill, const SLICE_OPTIONS *options,
+                                                   const CONTOURS *subject, const PATHS *lines, RESULT *result) {
+    const SLICE_OPTIONS by_default = {0};
+    return NAME(polyover_slice_custom_result_with)(fill, options ? options : &by_default, subject, lines, result);
+}
+
+polyover_status NAME(polyover_simplify_shape_result)(polyover_fill fill, const OPTIONS *options,
+                                                     const CONTOURS *contours, RESULT *result, uint32_t *as_given) {
+    const OPTIONS by_default = {0};
+    return NAME(polyover_simplify_shape_result_with)(fill, options ? options : &by_default, contours, result,
+                                                     as_given);
+}
+
+polyover_status NAME(polyover_edges_result)(polyover_fill fill, polyover_solver solver, const CONTOURS *subject,
+                                            const CONTOURS *clip, RESULT *result) {
+    const CONTOURS none = {0};
+    return NAME(polyover_edges_result_with)(fill, solver, subject, clip ? clip : &none, result);
+}
+
 void NAME(polyover_free)(RESULT *result) {
     if (result == NULL) {
         return;
@@ -59,4 +91,30 @@ void NAME(polyover_prepared_free)(PREPARED *prepared) {
     free_array(prepared->blocks, prepared->block_count);
     free_array(prepared->groups, prepared->group_count);
     *prepared = (PREPARED){0};
+}
+
+polyover_status NAME(polyover_arrange)(polyover_fill fill, polyover_solver solver, uint32_t keep_given,
+                                       const CONTOURS *subject, const CONTOURS *clip, GRAPH *graph) {
+    const CONTOURS none = {0};
+    return NAME(polyover_arrange_with)(fill, solver, keep_given, subject, clip ? clip : &none, graph);
+}
+
+polyover_status NAME(polyover_graph_overlay_result)(const GRAPH *graph, polyover_rule rule, const OPTIONS *options,
+                                                    RESULT *result) {
+    const OPTIONS by_default = {.keep = 2 * graph->keep_given, .solver = graph->solver};
+    return NAME(polyover_graph_overlay_result_with)(graph, rule, options ? options : &by_default, result);
+}
+
+polyover_status NAME(polyover_graph_hierarchy_result)(const GRAPH *graph, polyover_rule rule, const OPTIONS *options,
+                                                      RESULT *result) {
+    const OPTIONS by_default = {.keep = 2 * graph->keep_given, .solver = graph->solver};
+    return NAME(polyover_graph_hierarchy_result_with)(graph, rule, options ? options : &by_default, result);
+}
+
+void NAME(polyover_graph_free)(GRAPH *graph) {
+    if (graph == NULL) {
+        return;
+    }
+    free_array(graph->edges, graph->edge_count);
+    *graph = (GRAPH){0};
 }

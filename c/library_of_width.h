@@ -18,6 +18,13 @@ polyover_status NAME(polyover_clip_with)(polyover_fill fill, const polyover_clip
                                          const CONTOURS *shape, const CONTOURS *lines, NUMBER *coordinates,
                                          size_t coordinate_room, size_t *path_ends, size_t path_room,
                                          polyover_path_counts *counts);
+polyover_status NAME(polyover_relate_with)(polyover_fill fill, polyover_solver solver, const CONTOURS *subject,
+                                           const CONTOURS *clip, polyover_relations *relations);
+polyover_status NAME(polyover_relate_one_with)(polyover_relations relation, polyover_fill fill, polyover_solver solver,
+                                               const CONTOURS *subject, const CONTOURS *clip, uint32_t *holds);
+polyover_status NAME(polyover_edges_with)(polyover_fill fill, polyover_solver solver, const CONTOURS *subject,
+                                          const CONTOURS *clip, NUMBER *coordinates, size_t coordinate_room,
+                                          uint8_t *fills, size_t fill_room, size_t *count);
 
 polyover_status NAME(polyover_overlay)(polyover_rule rule, polyover_fill fill, const OPTIONS *options,
                                        const CONTOURS *subject, const CONTOURS *clip, NUMBER *coordinates,
@@ -57,4 +64,24 @@ polyover_status NAME(polyover_clip)(polyover_fill fill, const polyover_clip_opti
     const polyover_clip_options by_default = {0};
     return NAME(polyover_clip_with)(fill, options ? options : &by_default, shape, lines, coordinates, coordinate_room,
                                     path_ends, path_room, counts);
+}
+
+polyover_status NAME(polyover_relate)(polyover_fill fill, polyover_solver solver, const CONTOURS *subject,
+                                      const CONTOURS *clip, polyover_relations *relations) {
+    const CONTOURS none = {0};
+    return NAME(polyover_relate_with)(fill, solver, subject, clip ? clip : &none, relations);
+}
+
+polyover_status NAME(polyover_relate_one)(polyover_relations relation, polyover_fill fill, polyover_solver solver,
+                                          const CONTOURS *subject, const CONTOURS *clip, uint32_t *holds) {
+    const CONTOURS none = {0};
+    return NAME(polyover_relate_one_with)(relation, fill, solver, subject, clip ? clip : &none, holds);
+}
+
+polyover_status NAME(polyover_edges)(polyover_fill fill, polyover_solver solver, const CONTOURS *subject,
+                                     const CONTOURS *clip, NUMBER *coordinates, size_t coordinate_room, uint8_t *fills,
+                                     size_t fill_room, size_t *count) {
+    const CONTOURS none = {0};
+    return NAME(polyover_edges_with)(fill, solver, subject, clip ? clip : &none, coordinates, coordinate_room, fills,
+                                     fill_room, count);
 }

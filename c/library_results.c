@@ -1,5 +1,5 @@
 /* The part of results in C: it replaces null options by the defaults, a null clip by an empty one, and frees the arrays
- * of a result and of a prepared shape. */
+ * of a result, of a prepared shape and of a graph. */
 #include <stdlib.h>
 
 #include "polyover.h"
@@ -16,6 +16,8 @@ static void free_array(const void *items, size_t count) {
 #define OPTIONS polyover_options
 #define RESULT polyover_result
 #define PREPARED polyover_prepared
+#define GRAPH polyover_graph
+#define SLICE_OPTIONS polyover_slice_options
 #define NAME(call) call
 #include "library_of_results.h"
 
@@ -24,11 +26,15 @@ static void free_array(const void *items, size_t count) {
 #undef OPTIONS
 #undef RESULT
 #undef PREPARED
+#undef GRAPH
+#undef SLICE_OPTIONS
 #undef NAME
 #define CONTOURS polyover_contours_32
 #define PATHS polyover_paths_32
 #define OPTIONS polyover_options_32
 #define RESULT polyover_result_32
 #define PREPARED polyover_prepared_32
+#define GRAPH polyover_graph_32
+#define SLICE_OPTIONS polyover_slice_options_32
 #define NAME(call) call##_32
 #include "library_of_results.h"

@@ -68,6 +68,31 @@ void lines() {
 }
 
 template <class Coordinate>
+void slices_by_options() {
+    const given<Coordinate> it;
+    typename polyover::detail::width<Coordinate>::slice_options how;
+    const auto halves = value_of(slice(fill::non_zero, it.subject, it.line, how));
+    CHECK(halves.coordinates().size() == 16 && halves.shape_ends().size() == 2);
+    how.direction = polyover::direction::clockwise;
+    const auto back = value_of(slice(fill::non_zero, it.subject, it.line, how));
+    CHECK(is(back.coordinates(), {0, 0, 0, 2, 4, 2, 4, 0, 0, 2, 0, 4, 4, 4, 4, 2}));
+    how.direction = static_cast<polyover::direction>(2);
+    CHECK(is_refused(status::bad_option, [&] { return slice(fill::non_zero, it.subject, it.line, how); }));
+}
+
+template <class Coordinate>
+void simplified_shapes() {
+    const given<Coordinate> it;
+    const auto square = value_of(simplify_shape(fill::non_zero, it.subject));
+    CHECK(square.as_given && is(square.shapes.coordinates(), {0, 0, 4, 0, 4, 4, 0, 4}));
+    typename given<Coordinate>::options how;
+    how.direction = polyover::direction::clockwise;
+    const auto turned = value_of(simplify_shape(fill::non_zero, it.subject, how));
+    CHECK(!turned.as_given && is(turned.shapes.coordinates(), {0, 4, 4, 4, 4, 0, 0, 0}));
+    CHECK(is_refused(status::bad_fill, [&] { return simplify_shape(static_cast<fill>(4), it.subject); }));
+}
+
+template <class Coordinate>
 void arranged_edges() {
     const given<Coordinate> it;
     const auto found = value_of(edges(fill::non_zero, it.subject));
@@ -186,6 +211,34 @@ void prepared_shapes() {
     CHECK(shape.edge_count() == 0 && given_back.edge_count() == 4);
 }
 
+template <class Coordinate>
+void graphs() {
+    const given<Coordinate> it;
+    auto both = value_of(arrange(fill::non_zero, it.subject, it.clip));
+    CHECK(both.edge_count() == 12 && both.raw().edge_count == 12);
+    CHECK(is(value_of(both.overlay(rule::intersect)).coordinates(), {2, 4, 2, 2, 4, 2, 4, 4}));
+    typename given<Coordinate>::options how;
+    how.direction = polyover::direction::clockwise;
+    CHECK(is(value_of(both.overlay(rule::intersect, how)).coordinates(), {2, 2, 2, 4, 4, 4, 4, 2}));
+    CHECK(value_of(both.edges()).fills().size() == 12);
+    how.solver = solver::rounds;
+    CHECK(is_refused(status::bad_option, [&] { return both.overlay(rule::intersect, how); }));
+    CHECK(is_refused(status::bad_option, [&] { return both.hierarchy(rule::intersect, how); }));
+    CHECK(is_refused(status::bad_rule, [&] { return both.overlay(static_cast<rule>(7)); }));
+    const polyover::basic_graph<Coordinate> moved = std::move(both);
+    CHECK(both.edge_count() == 0 && moved.edge_count() == 12);
+    CHECK(value_of(both.overlay(rule::union_)).coordinates().empty());
+    both = value_of(arrange(fill::even_odd, it.nested, {}, solver::rounds));
+    const auto shapes = value_of(both.hierarchy(rule::subject));
+    CHECK(shapes.shape_ends().size() == 2 && shapes.links().size() == 1);
+    CHECK(value_of(both.hierarchy(rule::subject, how)).links().size() == 1);
+    polyover::basic_graph<Coordinate> given_back(both.release());
+    CHECK(both.edge_count() == 0 && given_back.edge_count() == 12);
+    CHECK(is_refused(status::bad_fill, [&] { return arrange(static_cast<fill>(4), it.subject); }));
+    CHECK(is_refused(status::not_settled,
+                     [&] { return arrange(fill::non_zero, it.needles, it.more_needles, solver::rounds); }));
+}
+
 /* The same answers in arrays, and what they take. */
 template <class Coordinate>
 void arrays() {
@@ -278,6 +331,7 @@ void memory() {
     static_assert(std::is_nothrow_move_constructible_v<result> && std::is_nothrow_move_assignable_v<result>);
     static_assert(sizeof(result) == sizeof(typename result::raw_type));
     static_assert(!std::is_copy_constructible_v<polyover::basic_prepared<Coordinate>>);
+    static_assert(!std::is_copy_constructible_v<polyover::basic_graph<Coordinate>>);
     const given<Coordinate> it;
     const std::size_t before = taken;
     result one = value_of(overlay(rule::intersect, fill::non_zero, it.subject, it.clip));
@@ -331,6 +385,9 @@ void all() {
     relating<Coordinate>();
     locating<Coordinate>();
     prepared_shapes<Coordinate>();
+    graphs<Coordinate>();
+    slices_by_options<Coordinate>();
+    simplified_shapes<Coordinate>();
     arrays<Coordinate>();
     refusals<Coordinate>();
     refused_memory<Coordinate>();

@@ -30,6 +30,8 @@ static int told(const char *tests) {
 #define OPTIONS polyover_options
 #define RESULT polyover_result
 #define PREPARED polyover_prepared
+#define GRAPH polyover_graph
+#define SLICE_OPTIONS polyover_slice_options
 #define SMALLEST(area) {.min_area_low = area}
 #define NAME(call) call
 #define TEST(what) what##_at_64
@@ -41,6 +43,8 @@ static int told(const char *tests) {
 #undef OPTIONS
 #undef RESULT
 #undef PREPARED
+#undef GRAPH
+#undef SLICE_OPTIONS
 #undef SMALLEST
 #undef NAME
 #undef TEST
@@ -50,6 +54,8 @@ static int told(const char *tests) {
 #define OPTIONS polyover_options_32
 #define RESULT polyover_result_32
 #define PREPARED polyover_prepared_32
+#define GRAPH polyover_graph_32
+#define SLICE_OPTIONS polyover_slice_options_32
 #define SMALLEST(area) {.min_area = area}
 #define NAME(call) call##_32
 #define TEST(what) what##_at_32

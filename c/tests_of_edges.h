@@ -57,6 +57,9 @@ static void TEST(edges)(void) {
     CHECK(room.count == 3 && memcmp(room.coordinates, of_all, sizeof of_all) == 0);
     CHECK(room.fills[0] == POLYOVER_CLIP_LEFT && room.fills[1] == POLYOVER_CLIP_RIGHT);
     CHECK(room.fills[2] == POLYOVER_CLIP_LEFT);
+    /* (a clip that is not given has no contours) */
+    CHECK(TEST(listed)(&room, POLYOVER_NON_ZERO, &square, NULL, 64, 16) == POLYOVER_OK && room.count == 4);
+    CHECK(memcmp(room.fills, ((uint8_t[]){2, 1, 2, 1}), 4) == 0);
     CHECK(NAME(polyover_edges)(POLYOVER_EVEN_ODD, POLYOVER_ROUNDS, &none, &none, NULL, 0, NULL, 0, &room.count) ==
           POLYOVER_OK);
     CHECK(room.count == 0);

@@ -154,6 +154,23 @@ static polyover_status slice_result(const asked *of, room *to) {
     return let_go(polyover_slice_result(of->fill, of->solver, &of->subject, &of->clip, &result), &result);
 }
 
+static polyover_status slice_custom_result(const asked *of, room *to) {
+    const polyover_slice_options options = {.direction = 1, .solver = of->solver};
+    (void)to;
+    polyover_result result;
+    return let_go(polyover_slice_custom_result(of->fill, &options, &of->subject, &of->clip, &result), &result);
+}
+
+static polyover_status simplify_shape_result(const asked *of, room *to) {
+    (void)to;
+    polyover_result result;
+    uint32_t as_given = 77;
+    polyover_status status =
+        polyover_simplify_shape_result(of->fill, &of->options, &of->subject, &result, &as_given);
+    check(as_given == (status == POLYOVER_OK), "a square stays as it is given", granted, __LINE__);
+    return let_go(status, &result);
+}
+
 static polyover_status clip_result(const asked *of, room *to) {
     (void)to;
     polyover_result result;
@@ -191,6 +208,49 @@ static polyover_status prepare(const asked *of, room *to) {
           "points lie as they should", left, __LINE__);
     polyover_prepared_free(&prepared);
     polyover_prepared_free(&prepared);
+    return status;
+}
+
+/* Arranges the contours, asks the graph for shapes, and frees both. */
+static polyover_status graph_overlay(const asked *of, room *to) {
+    polyover_graph graph;
+    polyover_result result = {0};
+    (void)to;
+    polyover_status status =
+        polyover_arrange(of->fill, of->solver, of->options.keep / 2, &of->subject, &of->clip, &graph);
+    check((graph.edge_count == 0) == (status != POLYOVER_OK), "a graph has edges where it is made", granted, __LINE__);
+    if (status == POLYOVER_OK) {
+        status = let_go(polyover_graph_overlay_result(&graph, of->rule, &of->options, &result), &result);
+    }
+    polyover_graph_free(&graph);
+    polyover_graph_free(&graph);
+    return status;
+}
+
+/* Likewise for shapes with links, and for edges. */
+static polyover_status graph_hierarchy(const asked *of, room *to) {
+    polyover_graph graph;
+    polyover_result result = {0};
+    (void)to;
+    polyover_status status =
+        polyover_arrange(of->fill, of->solver, of->options.keep / 2, &of->subject, &of->clip, &graph);
+    if (status == POLYOVER_OK) {
+        status = let_go(polyover_graph_hierarchy_result(&graph, of->rule, &of->options, &result), &result);
+    }
+    polyover_graph_free(&graph);
+    return status;
+}
+
+static polyover_status graph_edges(const asked *of, room *to) {
+    polyover_graph graph;
+    polyover_result result = {0};
+    (void)to;
+    polyover_status status =
+        polyover_arrange(of->fill, of->solver, of->options.keep / 2, &of->subject, &of->clip, &graph);
+    if (status == POLYOVER_OK) {
+        status = let_go(polyover_graph_edges_result(&graph, &result), &result);
+    }
+    polyover_graph_free(&graph);
     return status;
 }
 
@@ -256,7 +316,8 @@ static asked squares(void) {
 static void answered(void) {
     const call all[] = {overlay, hierarchy, simplify, slice, clip, relate, edges, locate, resolved, overlay_result,
                         hierarchy_result, simplify_result, slice_result, clip_result, edges_result, prepare,
-                        relate_one, tiles_result};
+                        relate_one, tiles_result, graph_overlay, graph_hierarchy, graph_edges, slice_custom_result,
+                        simplify_shape_result};
     const call with_more[] = {overlay, hierarchy, simplify, slice, clip, relate, edges, overlay_result,
                               hierarchy_result, simplify_result, slice_result, clip_result, edges_result,
                               relate_one};
@@ -293,14 +354,14 @@ static void numbers(void) {
     choose_solver(&of, 2);
     const call by_solver[] = {overlay, hierarchy, simplify, slice, clip, relate, edges, overlay_result,
                               hierarchy_result, simplify_result, slice_result, clip_result, edges_result, prepare,
-                              relate_one, tiles_result};
+                              relate_one, tiles_result, graph_overlay, slice_custom_result, simplify_shape_result};
     for (size_t at = 0; at < COUNT(by_solver); at++) {
         TESTED_FIRST(by_solver[at], &of, POLYOVER_BAD_OPTION);
     }
     of.fill = 4;
     const call filled[] = {overlay, hierarchy, simplify, slice, clip, relate, edges, overlay_result,
                            hierarchy_result, simplify_result, slice_result, clip_result, edges_result, prepare,
-                           relate_one, tiles_result};
+                           relate_one, tiles_result, graph_overlay, slice_custom_result, simplify_shape_result};
     for (size_t at = 0; at < COUNT(filled); at++) {
         TESTED_FIRST(filled[at], &of, POLYOVER_BAD_FILL);
     }
@@ -311,9 +372,9 @@ static void numbers(void) {
 
 /* Tests contours with faults: those of the subject come first. */
 static void faults(void) {
-    const call one[] = {simplify, locate, resolved, simplify_result, prepare, tiles_result};
+    const call one[] = {simplify, locate, resolved, simplify_result, prepare, tiles_result, simplify_shape_result};
     const call two[] = {overlay, hierarchy, slice, clip, relate, edges, overlay_result, hierarchy_result,
-                        slice_result, clip_result, edges_result, relate_one};
+                        slice_result, clip_result, edges_result, relate_one, graph_overlay, slice_custom_result};
     asked of = squares();
     of.clip = bad;
     for (size_t at = 0; at < COUNT(two); at++) {

@@ -83,6 +83,7 @@ static void TEST(relating_refused)(void) {
     CHECK(TEST(not_related)(3, &none, &far) == POLYOVER_OUT_OF_RANGE);
     CHECK(TEST(not_related)(0, &none, &none) == POLYOVER_OK);
     CHECK(TEST(not_related)(0, &square, &none) == POLYOVER_OK);
+    CHECK(TEST(not_related)(0, &square, NULL) == POLYOVER_OK);
 }
 
 /* One relation: by both solvers, and by numbers that are the bit of none. */
@@ -106,5 +107,7 @@ static void TEST(one_relation)(void) {
         CHECK(holds == 1);
         CHECK(NAME(polyover_relate_one)(POLYOVER_WITHIN, 0, solver, &square, &small, &holds) == POLYOVER_OK);
         CHECK(holds == 0);
+        CHECK(NAME(polyover_relate_one)(POLYOVER_DISJOINT, 0, solver, &square, NULL, &holds) == POLYOVER_OK);
+        CHECK(holds == 1);
     }
 }

@@ -195,6 +195,9 @@ static void TEST(results_by_default)(void) {
     CHECK(result.coordinate_count == 16 && result.contour_count == 0 && result.shape_count == 0);
     CHECK(TEST(are_same)(result.fills, result.fill_count, (uint8_t[]){2, 1, 2, 1}, 4, 1));
     TEST(freed)(&result);
+    CHECK(NAME(polyover_edges_result)(POLYOVER_NON_ZERO, POLYOVER_SNAPPED, &subject, NULL, &result) == POLYOVER_OK);
+    CHECK(TEST(are_same)(result.fills, result.fill_count, (uint8_t[]){2, 1, 2, 1}, 4, 1));
+    TEST(freed)(&result);
     NAME(polyover_free)(NULL);
 }
 

@@ -98,6 +98,20 @@ static polyover_status TEST(slice)(const TEST(question) *of, RESULT *result) {
     return NAME(polyover_slice_result)(of->fill, of->solver, &of->subject, &of->clip, result);
 }
 
+static polyover_status TEST(slice_custom)(const TEST(question) *of, RESULT *result) {
+    const SLICE_OPTIONS options = {.solver = of->solver};
+    return NAME(polyover_slice_custom_result)(of->fill, &options, &of->subject, &of->clip, result);
+}
+
+static polyover_status TEST(simplify_shape)(const TEST(question) *of, RESULT *result) {
+    const OPTIONS options = TEST(options_of)(of);
+    uint32_t as_given = 77;
+    polyover_status status =
+        NAME(polyover_simplify_shape_result)(of->fill, &options, &of->subject, result, &as_given);
+    CHECK(as_given == (status == POLYOVER_OK && of->subject.end_count == 1));
+    return status;
+}
+
 /* (without a line, since all coordinates are 0 or greater) */
 static polyover_status TEST(tiles)(const TEST(question) *of, RESULT *result) {
     return NAME(polyover_tiles_result)(of->fill, of->solver, &of->subject, LIMIT, LIMIT, result);
@@ -452,9 +466,11 @@ static void TEST(limits)(polyover_solver solver) {
     TEST(limit_of)(TEST(overlay), solver, 0, 0);
     TEST(limit_of)(TEST(hierarchy), solver, 0, 0);
     TEST(limit_of)(TEST(simplify), solver, 0, 1);
+    TEST(limit_of)(TEST(simplify_shape), solver, 0, 1);
     TEST(limit_of)(TEST(edges), solver, 0, 0);
     TEST(limit_of)(TEST(relate), solver, 0, 0);
     TEST(limit_of)(TEST(slice), solver, 1, 0);
+    TEST(limit_of)(TEST(slice_custom), solver, 1, 0);
     TEST(limit_of)(TEST(tiles), solver, 0, 1);
     TEST(limit_of)(TEST(clip), solver, 1, 0);
     TEST(limit_in_arrays)(TEST(overlay_in_arrays), solver, 0, 0);
@@ -467,6 +483,8 @@ static void TEST(limits)(polyover_solver solver) {
 
 #include "tests_of_prepared_sizes.h"
 
+#include "tests_of_graph_sizes.h"
+
 static void TEST(sizes)(void) {
     TEST(many_points)();
     for (polyover_solver solver = POLYOVER_SNAPPED; solver <= POLYOVER_ROUNDS; solver++) {
@@ -478,6 +496,7 @@ static void TEST(sizes)(void) {
         TEST(one_contour)(solver);
         TEST(limits)(solver);
         TEST(prepared_sizes)(solver);
+        TEST(graph_sizes)(solver);
     }
 }
 

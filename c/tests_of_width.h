@@ -294,6 +294,12 @@ static void TEST(simplifying)(void) {
 
 #include "tests_of_prepared.h"
 
+#include "tests_of_graphs.h"
+
+#include "tests_of_slice_options.h"
+
+#include "tests_of_simplified_shapes.h"
+
 static void TEST(all)(void) {
     TEST(ranges)();
     TEST(ends)();
@@ -333,4 +339,15 @@ static void TEST(all)(void) {
     TEST(prepared_bare)();
     TEST(preparing_refused)();
     TEST(asking_refused)();
+    TEST(graphs)();
+    TEST(graphs_by_default)();
+    TEST(graph_of_nothing)();
+    TEST(arranging_refused)();
+    TEST(graph_asking_refused)();
+    TEST(graphs_with_given_points)();
+    TEST(slices_by_options)();
+    TEST(slices_by_options_refused)();
+    TEST(simplified_shapes)();
+    TEST(simplified_pairs)();
+    TEST(simplified_shapes_refused)();
 }

@@ -13,10 +13,11 @@
  * Points of a contour on one line with their two neighbours are dropped, one by one, before its edges are made, in all
  * calls but `polyover_in_range`, `polyover_resolved` and `polyover_locate`, and where options keep them.
  *
- * All arrays and structs are the caller's, and nothing is kept after a call; only what a `polyover_result` or a
- * `polyover_prepared` holds is to be freed. Each array behind a `const` is only read. An array of length 0 may be a
- * null pointer, and so may options, for which the default ones are taken then; no other struct may be. What a call
- * writes to lies apart from all else that it is given.
+ * All arrays and structs are the caller's, and nothing is kept after a call; only what a `polyover_result`, a
+ * `polyover_prepared` or a `polyover_graph` holds is to be freed. Each array behind a `const` is only read. An array of
+ * length 0 may be a null pointer. So may options, for which the default ones are taken then, and the clip beside a
+ * subject, which has no contours then. Another struct may be where its call says so. What a call writes to lies apart
+ * from all else that it is given.
  *
  * No call keeps a state, so calls on several threads are safe, as long as nothing is written to what one of them reads.
  * Memory is taken by malloc, realloc and free, so no call is for a signal handler.
@@ -55,8 +56,8 @@ enum {
     POLYOVER_NOT_RESOLVED = 4, /* two steps of a contour share a point that is not an end of both */
     POLYOVER_BAD_RULE = 5,     /* no overlay rule has the number */
     POLYOVER_BAD_FILL = 6,     /* no fill rule has the number */
-    /* a direction, touching, invert, boundary or solver that is neither 0 nor 1, a keep above 3, a number that is not
-     * the bit of a relation, or a grid that does not fit */
+    /* a direction, touching, invert, boundary, keep_given or solver that is neither 0 nor 1, a keep above 3, a number
+     * that is not the bit of a relation, a grid that does not fit, or a choice that is not that of the graph */
     POLYOVER_BAD_OPTION = 7,
     /* after 64 rounds of splitting edges still meet in points that are no ends of both: some that cross very flatly do.
      * It comes of POLYOVER_ROUNDS alone; POLYOVER_SNAPPED splits these edges too. */
@@ -236,8 +237,6 @@ polyover_status polyover_resolved_32(const polyover_contours_32 *contours);
 
 /* The shapes round the region where the rules hold of what the contours of the subject and those of the clip fill. A
  * shape is its outline and then its holes.
- *
- * A null pointer to a clip stands for one without contours, here and in `polyover_hierarchy`.
  *
  * On POLYOVER_OK the first counts->coordinates items of `coordinates` are the points, x before y, contour by contour
  * and shape by shape; the first counts->contours items of `contour_ends` are how many points there are up to the end of
@@ -484,6 +483,44 @@ polyover_status polyover_tiles_result_32(polyover_fill fill, polyover_solver sol
                                          const polyover_contours_32 *subject, int32_t width, int32_t height,
                                          polyover_result_32 *result);
 
+/* How slices look, and how edges are split. All zero is the default, for which a null pointer stands too. */
+typedef struct {
+    uint32_t direction; /* of outlines: 0 counter-clockwise, 1 clockwise; holes run the other way */
+    polyover_solver solver;
+    /* contours of a smaller area than min_area_high * 2^64 + min_area_low, in squared units, are left out, and so are
+     * holes for which no shape is left; 0 keeps all */
+    uint64_t min_area_high;
+    uint64_t min_area_low;
+} polyover_slice_options;
+
+/* The same for 32-bit coordinates. */
+typedef struct {
+    uint32_t direction;
+    polyover_solver solver;
+    uint64_t min_area;
+} polyover_slice_options_32;
+
+/* What `polyover_slice_result` answers, in the direction of the options and without small contours. Where one shape is
+ * left, it has all holes that are left; where several are, each hole goes to the one round it. No point is dropped, and
+ * no contour visits a point twice. Statuses are those of `polyover_slice_result`; POLYOVER_BAD_OPTION comes for the
+ * direction too. */
+polyover_status polyover_slice_custom_result(polyover_fill fill, const polyover_slice_options *options,
+                                             const polyover_contours *subject, const polyover_paths *lines,
+                                             polyover_result *result);
+polyover_status polyover_slice_custom_result_32(polyover_fill fill, const polyover_slice_options_32 *options,
+                                                const polyover_contours_32 *subject, const polyover_paths_32 *lines,
+                                                polyover_result_32 *result);
+
+/* What `polyover_simplify_result` answers of the contours of a shape, where one contour that is simple is answered so
+ * whatever the smallest area is: as it is given, reversed, or by no shape. *as_given is 1 where one contour is answered
+ * as it is given, else 0, and after any status but POLYOVER_OK. Statuses are those of `polyover_simplify_result`. */
+polyover_status polyover_simplify_shape_result(polyover_fill fill, const polyover_options *options,
+                                               const polyover_contours *contours, polyover_result *result,
+                                               uint32_t *as_given);
+polyover_status polyover_simplify_shape_result_32(polyover_fill fill, const polyover_options_32 *options,
+                                                  const polyover_contours_32 *contours, polyover_result_32 *result,
+                                                  uint32_t *as_given);
+
 /* Gives back the memory of a result, by free, and leaves it without items: to free it twice does no harm. A null
  * pointer is taken, and so is a result that is all zero. */
 void polyover_free(polyover_result *result);
@@ -543,6 +580,65 @@ polyover_status polyover_prepared_locate_32(const polyover_prepared_32 *prepared
  * A null pointer is taken, and so is a prepared shape that is all zero. */
 void polyover_prepared_free(polyover_prepared *prepared);
 void polyover_prepared_free_32(polyover_prepared_32 *prepared);
+
+/* A graph: the arrangement of a subject and of a clip under a fill rule, made once, to be asked for any overlay. All
+ * fields are only read, and not to be set. `polyover_graph_free` gives the memory back. One that is all zero is a graph
+ * without edges. */
+typedef struct {
+    const void *edges; /* those of the arrangement, with counts of both shapes */
+    size_t edge_count;
+    polyover_fill fill;
+    polyover_solver solver;
+    uint32_t keep_given;
+} polyover_graph;
+
+/* The same at 32 bits. */
+typedef struct {
+    const void *edges;
+    size_t edge_count;
+    polyover_fill fill;
+    polyover_solver solver;
+    uint32_t keep_given;
+} polyover_graph_32;
+
+/* Arranges the subject and the clip, as `polyover_overlay` does, by the solver. With `keep_given` 1 points of both on
+ * one line with their two neighbours are kept, with 0 they are dropped. A null pointer to a clip stands for one without
+ * contours. After any status but POLYOVER_OK *graph is a graph without edges. So it may always be freed. What *graph
+ * was before is neither read nor freed.
+ *
+ * Tested first, in this order: POLYOVER_BAD_FILL; POLYOVER_BAD_OPTION, for the solver and `keep_given`;
+ * POLYOVER_BAD_ENDS and POLYOVER_OUT_OF_RANGE of the subject, and then of the clip. POLYOVER_NOT_SETTLED, by
+ * POLYOVER_ROUNDS alone, POLYOVER_TOO_MANY_EDGES and POLYOVER_MEMORY are left. */
+polyover_status polyover_arrange(polyover_fill fill, polyover_solver solver, uint32_t keep_given,
+                                 const polyover_contours *subject, const polyover_contours *clip,
+                                 polyover_graph *graph);
+polyover_status polyover_arrange_32(polyover_fill fill, polyover_solver solver, uint32_t keep_given,
+                                    const polyover_contours_32 *subject, const polyover_contours_32 *clip,
+                                    polyover_graph_32 *graph);
+
+/* What `polyover_overlay_result`, `polyover_hierarchy_result` and `polyover_edges_result` answer of the subject and the
+ * clip of the graph, by its fill rule; the edges are those that the graph has. With a null pointer as the options they
+ * have the choices of the graph. The graph stays as it is: it may be asked on several threads at once, and as often as
+ * wanted.
+ *
+ * Tested first: POLYOVER_BAD_RULE; then POLYOVER_BAD_OPTION. It comes also where the options have another solver than
+ * the graph, or where 2 is in their `keep` and `keep_given` of the graph is 0, or the other way round: the points were
+ * kept, or dropped, as the graph was made. POLYOVER_MEMORY is left. */
+polyover_status polyover_graph_overlay_result(const polyover_graph *graph, polyover_rule rule,
+                                              const polyover_options *options, polyover_result *result);
+polyover_status polyover_graph_overlay_result_32(const polyover_graph_32 *graph, polyover_rule rule,
+                                                 const polyover_options_32 *options, polyover_result_32 *result);
+polyover_status polyover_graph_hierarchy_result(const polyover_graph *graph, polyover_rule rule,
+                                                const polyover_options *options, polyover_result *result);
+polyover_status polyover_graph_hierarchy_result_32(const polyover_graph_32 *graph, polyover_rule rule,
+                                                   const polyover_options_32 *options, polyover_result_32 *result);
+polyover_status polyover_graph_edges_result(const polyover_graph *graph, polyover_result *result);
+polyover_status polyover_graph_edges_result_32(const polyover_graph_32 *graph, polyover_result_32 *result);
+
+/* Gives back the memory of a graph, by free, and leaves it without edges: to free it twice does no harm. A null pointer
+ * is taken, and so is a graph that is all zero. */
+void polyover_graph_free(polyover_graph *graph);
+void polyover_graph_free_32(polyover_graph_32 *graph);
 
 #ifdef __cplusplus
 }

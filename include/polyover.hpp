@@ -246,6 +246,22 @@ struct options_32 {
     bool keep_given = false;
 };
 
+/// How slices look, and how edges are split.
+struct slice_options {
+    polyover::direction direction = polyover::direction::counter_clockwise;
+    polyover::solver solver = polyover::solver::snapped;
+    /// Contours of a smaller area than min_area_high * 2^64 + min_area_low, in squared units, are left out.
+    std::uint64_t min_area_high = 0;
+    std::uint64_t min_area_low = 0;
+};
+
+/// The same for 32-bit coordinates.
+struct slice_options_32 {
+    polyover::direction direction = polyover::direction::counter_clockwise;
+    polyover::solver solver = polyover::solver::snapped;
+    std::uint64_t min_area = 0;
+};
+
 /// The parts of lines that a clip keeps, and how edges are split.
 struct clip_options {
     bool invert = false;   ///< the parts outside are kept, and not those inside
@@ -276,6 +292,8 @@ struct width<std::int64_t> {
     using options = polyover::options;
     using result = polyover_result;
     using prepared = polyover_prepared;
+    using graph = polyover_graph;
+    using slice_options = polyover::slice_options;
     static constexpr auto resolved = polyover_resolved;
     static constexpr auto overlay = polyover_overlay;
     static constexpr auto overlay_result = polyover_overlay_result;
@@ -285,6 +303,8 @@ struct width<std::int64_t> {
     static constexpr auto hierarchy_result = polyover_hierarchy_result;
     static constexpr auto slice = polyover_slice;
     static constexpr auto slice_result = polyover_slice_result;
+    static constexpr auto slice_custom_result = polyover_slice_custom_result;
+    static constexpr auto simplify_shape_result = polyover_simplify_shape_result;
     static constexpr auto tiles_result = polyover_tiles_result;
     static constexpr auto clip = polyover_clip;
     static constexpr auto clip_result = polyover_clip_result;
@@ -295,12 +315,21 @@ struct width<std::int64_t> {
     static constexpr auto locate = polyover_locate;
     static constexpr auto prepare = polyover_prepare;
     static constexpr auto prepared_locate = polyover_prepared_locate;
+    static constexpr auto arrange = polyover_arrange;
+    static constexpr auto graph_overlay = polyover_graph_overlay_result;
+    static constexpr auto graph_hierarchy = polyover_graph_hierarchy_result;
+    static constexpr auto graph_edges = polyover_graph_edges_result;
     static constexpr auto free_result = polyover_free;
     static constexpr auto free_prepared = polyover_prepared_free;
+    static constexpr auto free_graph = polyover_graph_free;
 
     [[nodiscard]] static constexpr polyover_options raw(const options &it) noexcept {
         const std::uint32_t keep = kept(it.keep, it.keep_given);
         return {number(it.direction), keep, it.touching, number(it.solver), it.min_area_high, it.min_area_low};
+    }
+
+    [[nodiscard]] static constexpr polyover_slice_options raw(const slice_options &it) noexcept {
+        return {number(it.direction), number(it.solver), it.min_area_high, it.min_area_low};
     }
 };
 
@@ -310,6 +339,8 @@ struct width<std::int32_t> {
     using options = polyover::options_32;
     using result = polyover_result_32;
     using prepared = polyover_prepared_32;
+    using graph = polyover_graph_32;
+    using slice_options = polyover::slice_options_32;
     static constexpr auto resolved = polyover_resolved_32;
     static constexpr auto overlay = polyover_overlay_32;
     static constexpr auto overlay_result = polyover_overlay_result_32;
@@ -319,6 +350,8 @@ struct width<std::int32_t> {
     static constexpr auto hierarchy_result = polyover_hierarchy_result_32;
     static constexpr auto slice = polyover_slice_32;
     static constexpr auto slice_result = polyover_slice_result_32;
+    static constexpr auto slice_custom_result = polyover_slice_custom_result_32;
+    static constexpr auto simplify_shape_result = polyover_simplify_shape_result_32;
     static constexpr auto tiles_result = polyover_tiles_result_32;
     static constexpr auto clip = polyover_clip_32;
     static constexpr auto clip_result = polyover_clip_result_32;
@@ -329,12 +362,21 @@ struct width<std::int32_t> {
     static constexpr auto locate = polyover_locate_32;
     static constexpr auto prepare = polyover_prepare_32;
     static constexpr auto prepared_locate = polyover_prepared_locate_32;
+    static constexpr auto arrange = polyover_arrange_32;
+    static constexpr auto graph_overlay = polyover_graph_overlay_result_32;
+    static constexpr auto graph_hierarchy = polyover_graph_hierarchy_result_32;
+    static constexpr auto graph_edges = polyover_graph_edges_result_32;
     static constexpr auto free_result = polyover_free_32;
     static constexpr auto free_prepared = polyover_prepared_free_32;
+    static constexpr auto free_graph = polyover_graph_free_32;
 
     [[nodiscard]] static constexpr polyover_options_32 raw(const options &it) noexcept {
         const std::uint32_t keep = kept(it.keep, it.keep_given);
         return {number(it.direction), keep, it.touching, number(it.solver), it.min_area};
+    }
+
+    [[nodiscard]] static constexpr polyover_slice_options_32 raw(const slice_options &it) noexcept {
+        return {number(it.direction), number(it.solver), it.min_area};
     }
 };
 
@@ -650,6 +692,43 @@ template <class Coordinate>
                                          detail::number(solver), &subject.raw(), &lines.raw());
 }
 
+/// Returns the shapes of the call above in the direction of the options, and without small contours. Refused so, and
+/// with `bad_option` for a direction that is none.
+template <class Coordinate>
+[[nodiscard]] returned<basic_result<Coordinate>>
+slice(polyover::fill fill, basic_contours<Coordinate> subject, detail::contours_of<Coordinate> lines,
+      const typename detail::width<Coordinate>::slice_options &options) {
+    using width = detail::width<Coordinate>;
+    const auto how = width::raw(options);
+    return detail::result_of<Coordinate>(width::slice_custom_result, detail::number(fill), &how, &subject.raw(),
+                                         &lines.raw());
+}
+
+/// Shapes that contours are simplified to, and whether one contour was answered as it is given.
+template <class Coordinate>
+struct basic_simplified {
+    basic_result<Coordinate> shapes;
+    bool as_given = false;
+};
+
+using simplified = basic_simplified<std::int64_t>;
+using simplified_32 = basic_simplified<std::int32_t>;
+
+/// Returns the shapes of `simplify`, where one simple contour is answered so whatever the smallest area is, and whether
+/// it is answered as it is given. Refused as `simplify` is.
+template <class Coordinate>
+[[nodiscard]] returned<basic_simplified<Coordinate>>
+simplify_shape(polyover::fill fill, basic_contours<Coordinate> shape,
+               const detail::options_of<Coordinate> &options = {}) {
+    using width = detail::width<Coordinate>;
+    const auto how = width::raw(options);
+    typename width::result found;
+    std::uint32_t as_given = 0;
+    const polyover_status ended =
+        width::simplify_shape_result(detail::number(fill), &how, &shape.raw(), &found, &as_given);
+    return detail::answered(ended, basic_simplified<Coordinate>{basic_result<Coordinate>(found), as_given == 1});
+}
+
 /// Returns the tiles into which the lines of a grid cut the filled region of the subject. Cells are `width` wide and
 /// `height` high, and a node of each grid is at (0, 0). Refused as `slice` is, and by `bad_option` where a side is
 /// below 1 or out of range, or more than 1,000 lines cross the box of all points in a direction.
@@ -681,6 +760,91 @@ template <class Coordinate>
                                                        polyover::solver solver = polyover::solver::snapped) {
     return detail::result_of<Coordinate>(detail::width<Coordinate>::edges_result, detail::number(fill),
                                          detail::number(solver), &subject.raw(), &clip.raw());
+}
+
+// ---- one arrangement, asked for any overlay
+
+/// The arrangement of a subject and of a clip under a fill rule; `arrange` makes it. It is asked as often as wanted, on
+/// several threads at once. The destructor gives its memory back. After a move the graph that was moved has no edges.
+template <class Coordinate>
+class basic_graph {
+    using width = detail::width<Coordinate>;
+    using options_type = detail::options_of<Coordinate>;
+
+public:
+    using raw_type = typename width::graph;
+
+    /// A graph without edges.
+    basic_graph() noexcept = default;
+    /// Takes over the memory of a graph of polyover.h.
+    explicit basic_graph(raw_type taken) noexcept : raw_(taken) {}
+    basic_graph(basic_graph &&other) noexcept : raw_(other.release()) {}
+    basic_graph &operator=(basic_graph &&other) noexcept {
+        basic_graph taken(std::move(other));
+        std::swap(raw_, taken.raw_);
+        return *this;
+    }
+    ~basic_graph() { width::free_graph(&raw_); }
+
+    /// Returns how many edges the arrangement has.
+    [[nodiscard]] std::size_t edge_count() const noexcept { return raw_.edge_count; }
+
+    /// Returns what the function `overlay` does of the subject and the clip. Refused with `bad_rule`; with
+    /// `bad_option`, also where the solver or `keep_given` of the options is not that of the graph; with `memory`.
+    [[nodiscard]] returned<basic_result<Coordinate>> overlay(polyover::rule rule) const {
+        return asked(width::graph_overlay, rule, nullptr);
+    }
+    [[nodiscard]] returned<basic_result<Coordinate>> overlay(polyover::rule rule, const options_type &options) const {
+        const auto how = width::raw(options);
+        return asked(width::graph_overlay, rule, &how);
+    }
+
+    /// Returns the shapes of `overlay`, and in `links()` a link for each shape that lies in a hole of another one.
+    /// Refused as `overlay` is.
+    [[nodiscard]] returned<basic_result<Coordinate>> hierarchy(polyover::rule rule) const {
+        return asked(width::graph_hierarchy, rule, nullptr);
+    }
+    [[nodiscard]] returned<basic_result<Coordinate>> hierarchy(polyover::rule rule,
+                                                               const options_type &options) const {
+        const auto how = width::raw(options);
+        return asked(width::graph_hierarchy, rule, &how);
+    }
+
+    /// Returns what the function `edges` does of the subject and the clip. Refused with `memory`.
+    [[nodiscard]] returned<basic_result<Coordinate>> edges() const {
+        return detail::result_of<Coordinate>(width::graph_edges, &raw_);
+    }
+
+    /// Returns the struct of polyover.h, whose memory stays with this object.
+    [[nodiscard]] const raw_type &raw() const noexcept { return raw_; }
+
+    /// Returns the struct of polyover.h, whose memory the caller frees from now on; this graph has no edges then.
+    [[nodiscard]] raw_type release() noexcept { return std::exchange(raw_, raw_type{}); }
+
+private:
+    template <class Call, class Options>
+    [[nodiscard]] returned<basic_result<Coordinate>> asked(Call call, polyover::rule rule, Options options) const {
+        return detail::result_of<Coordinate>(call, &raw_, detail::number(rule), options);
+    }
+
+    raw_type raw_{};
+};
+
+using graph = basic_graph<std::int64_t>;
+using graph_32 = basic_graph<std::int32_t>;
+
+/// Returns the graph of a subject and of a clip, split by the solver, with their points on one line or without these.
+/// Refused as `overlay` is, but for `bad_rule`.
+template <class Coordinate>
+[[nodiscard]] returned<basic_graph<Coordinate>> arrange(polyover::fill fill, basic_contours<Coordinate> subject,
+                                                        detail::contours_of<Coordinate> clip = {},
+                                                        polyover::solver solver = polyover::solver::snapped,
+                                                        bool keep_given = false) {
+    typename detail::width<Coordinate>::graph found;
+    const polyover_status ended =
+        detail::width<Coordinate>::arrange(detail::number(fill), detail::number(solver), keep_given ? 1 : 0,
+                                           &subject.raw(), &clip.raw(), &found);
+    return detail::answered(ended, basic_graph<Coordinate>(found));
 }
 
 // ---- the same answers in arrays of the caller

@@ -46,8 +46,10 @@ const SIZE = 8;
 const CONTOURS = 4 * SIZE;
 const OPTIONS = 32;
 const CLIP_OPTIONS = 12;
+const SLICE_OPTIONS = 24;
 const RESULT = 2 * SIZE * ARRAYS.length;
 const PREPARED = 6 * SIZE;
+const GRAPH = 4 * SIZE;
 const MOST_64 = 2n ** 64n - 1n;
 
 /** Raises what a status stands for, if it is not OK; with the words, if there are any, for a bad option. */
@@ -193,14 +195,28 @@ export class Library {
     const struct = new DataView(this.memory.buffer, at, OPTIONS);
     const words = [look.clockwise, look.keep, look.touching, look.solver];
     words.forEach((word, number) => struct.setUint32(4 * number, Number(word), true));
-    const { minimumArea } = look;
-    if (kind === Int32Array) {
-      struct.setBigUint64(16, minimumArea < MOST_64 ? minimumArea : MOST_64, true);
-    } else {
-      struct.setBigUint64(16, minimumArea >> 64n, true);
-      struct.setBigUint64(24, minimumArea & MOST_64, true);
-    }
+    this.area(struct, 16, look.minimumArea, kind);
     return BigInt(at);
+  }
+
+  /** The address of the options of slices. */
+  sliceOptions(held, { clockwise, minimumArea, solver }, kind) {
+    const at = held.take(SLICE_OPTIONS);
+    const struct = new DataView(this.memory.buffer, at, SLICE_OPTIONS);
+    struct.setUint32(0, Number(clockwise), true);
+    struct.setUint32(4, solver, true);
+    this.area(struct, 8, minimumArea, kind);
+    return BigInt(at);
+  }
+
+  /** Writes a smallest area, of one number or of two, to a struct. */
+  area(struct, at, area, kind) {
+    if (kind === Int32Array) {
+      struct.setBigUint64(at, area < MOST_64 ? area : MOST_64, true);
+    } else {
+      struct.setBigUint64(at, area >> 64n, true);
+      struct.setBigUint64(at + SIZE, area & MOST_64, true);
+    }
   }
 
   /** The address of the options of a clip. */
@@ -255,14 +271,19 @@ export class Library {
     return this.hold((held) => {
       const given = before(held);
       const groups = asked.groups.map((group) => this.contours(held, group, asked.grid));
-      const at = held.take(RESULT);
-      check(this.calls[suffixed(name, asked.kind)](...given, ...groups, ...behind, BigInt(at)), words);
-      try {
-        return this.arrays(at, asked);
-      } finally {
-        this.calls[suffixed("polyover_free", asked.kind)](BigInt(at));
-      }
+      return this.result(held, name, [...given, ...groups, ...behind], asked, words);
     });
+  }
+
+  /** The arrays of the result that a call leaves in the place behind these arguments. */
+  result(held, name, given, form, words = undefined) {
+    const at = held.take(RESULT);
+    check(this.calls[suffixed(name, form.kind)](...given, BigInt(at)), words);
+    try {
+      return this.arrays(at, form);
+    } finally {
+      this.calls[suffixed("polyover_free", form.kind)](BigInt(at));
+    }
   }
 
   // ---- the calls
@@ -288,8 +309,10 @@ export class Library {
     return this.answer("polyover_simplify_result", asked, (held) => [fill, this.options(held, look, asked.kind)]);
   }
 
-  slice(asked, fill, solver) {
-    return this.answer("polyover_slice_result", asked, () => [fill, solver]);
+  slice(asked, fill, look) {
+    return look.clockwise || look.minimumArea > 0n
+      ? this.answer("polyover_slice_custom_result", asked, (held) => [fill, this.sliceOptions(held, look, asked.kind)])
+      : this.answer("polyover_slice_result", asked, () => [fill, look.solver]);
   }
 
   /** The tiles of a grid whose cells have these sides, from 1 on. (A wider cell than the range has the same lines.) */
@@ -389,6 +412,50 @@ export class Library {
     } finally {
       this.freePrepared(at);
     }
+  }
+
+  /** The address of a graph of two groups; `freeGraph` gives its memory back. */
+  arrange({ groups, kind, grid }, fill, solver) {
+    return this.hold((held) => {
+      const both = groups.map((group) => this.contours(held, group, grid));
+      const at = this.calls.malloc(BigInt(GRAPH));
+      if (at === 0n) {
+        throw new OutOfMemory();
+      }
+      try {
+        // (points on one line are dropped, as by each other call)
+        check(this.calls[suffixed("polyover_arrange", kind)](fill, solver, 0, ...both, at));
+      } catch (fault) {
+        this.calls.free(at);
+        throw fault;
+      }
+      return Number(at);
+    });
+  }
+
+  /** The arrays that a question of a graph is answered; its form has the kind of the graph's coordinates. */
+  graphOverlay(at, form, rule, look) {
+    return this.ofGraph("overlay", at, form, (held) => [rule, this.options(held, look, form.kind)]);
+  }
+
+  graphHierarchy(at, form, rule, look) {
+    return this.ofGraph("hierarchy", at, form, (held) => [rule, this.options(held, look, form.kind)]);
+  }
+
+  graphEdges(at, form) {
+    return this.ofGraph("edges", at, form, () => []);
+  }
+
+  ofGraph(name, at, form, behind) {
+    return this.hold((held) =>
+      this.result(held, `polyover_graph_${name}_result`, [BigInt(at), ...behind(held)], form),
+    );
+  }
+
+  /** Gives the memory of a graph back. */
+  freeGraph(at, kind) {
+    this.calls[suffixed("polyover_graph_free", kind)](BigInt(at));
+    this.calls.free(BigInt(at));
   }
 
   /** Gives the memory of a prepared shape back. */

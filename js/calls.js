@@ -2,6 +2,7 @@
 
 import { FILLS, LIMIT, Library, RELATIONS, RULES, SOLVERS } from "./abi.js";
 import { edgesIn, linesIn, linksIn, locationsIn, shapesIn } from "./answers.js";
+import { Arrangement } from "./arrangement.js";
 import { BadInput } from "./errors.js";
 import { misfit, sideOf } from "./cells.js";
 import { isGeometry, partsOf } from "./geojson.js";
@@ -14,6 +15,7 @@ const OVERLAY = ["rule", "fill", ...LOOK, "answer"];
 const SIMPLIFY = ["fill", ...LOOK, "answer"];
 const CLIP = ["fill", "invert", "boundary", "solver", "answer"];
 const FILLED = ["fill", "solver", "answer"];
+const SLICE = ["fill", "clockwise", "minimumArea", "solver", "answer"];
 const DIFFERENCE = RULES.indexOf("difference");
 const [NONZERO, EVENODD, NEGATIVE] = ["nonzero", "evenodd", "negative"].map((name) => FILLS.indexOf(name));
 const SNAPPED = SOLVERS.indexOf("snapped");
@@ -102,11 +104,11 @@ export class Polyover {
     );
   }
 
-  /** The shapes into which open paths cut a shape. */
+  /** The shapes into which open paths cut a shape; with `clockwise` outlines run so, and small ones may be left out. */
   slice(shape, lines, options = {}) {
-    const { fill, solver, answer } = chosen(options, FILLED);
-    return this.#filled({ shape, lines }, { fill, solver, isJoined: true }, answer, (asked, form) =>
-      shapesIn(this.#library.slice(asked, fill, solver), form),
+    const { fill, answer, ...look } = chosen(options, SLICE, this.#grid);
+    return this.#filled({ shape, lines }, { fill, solver: look.solver, isJoined: true }, answer, (asked, form) =>
+      shapesIn(this.#library.slice(asked, fill, look), form),
     );
   }
 
@@ -138,6 +140,18 @@ export class Polyover {
     return this.#filled({ shape }, { fill, solver }, "lists", (asked) => {
       const groups = alike(asked.groups, Float64Array, asked.grid);
       return new Prepared(this.#library, this.#library.prepare({ ...asked, groups }, fill, solver), this.#grid);
+    });
+  }
+
+  /**
+   * Two groups of contours, whose edges are split where they meet once, to be asked for any overlay of them: an
+   * `Arrangement`.
+   */
+  arrangement(subject, clip = [], options = {}) {
+    const { fill, solver } = chosen(options, ["fill", "solver"]);
+    return this.#filled({ subject, clip }, { fill, solver }, undefined, (asked, form) => {
+      const { kind, grid } = asked;
+      return new Arrangement(this.#library, this.#library.arrange(asked, fill, solver), { kind, grid, form, solver });
     });
   }
 

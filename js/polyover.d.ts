@@ -70,6 +70,9 @@ export interface OverlayOptions extends LookOptions {
   /** "union" if it is not given. */
   rule?: Rule;
 }
+/** What an arrangement is asked for: the fill rule and the solver are its own. */
+export type ArrangedOptions = Omit<OverlayOptions, "fill" | "solver">;
+export type SliceOptions = FillOptions & Pick<LookOptions, "clockwise" | "minimumArea">;
 export interface ClipOptions extends FillOptions {
   /** The parts outside are kept, in place of those inside. */
   invert?: boolean;
@@ -208,7 +211,7 @@ export class Polyover {
   slice<P extends Paths, Q extends Paths, F extends Form = FormOf<P>>(
     shape: P,
     lines: Q,
-    options?: FillOptions & AnswerOptions<F>,
+    options?: SliceOptions & AnswerOptions<F>,
   ): ShapesAs<NumberOf<P> | NumberOf<Q>>[F];
   /**
    * The shapes into which the cells of a grid cut a shape, each in one cell. A node of the grid is at the origin.
@@ -231,6 +234,12 @@ export class Polyover {
   ): LocationsAs[F];
   /** The shape that the contours fill, made ready to be asked again and again where points lie. */
   prepare(shape: Paths, options?: FillOptions): Prepared;
+  /** Two groups of contours, whose edges are split where they meet once, to be asked for any overlay of them. */
+  arrangement<P extends Paths, Q extends Paths = []>(
+    subject: P,
+    clip?: Q,
+    options?: FillOptions,
+  ): Arrangement<NumberOf<P> | NumberOf<Q>, FormOf<P>>;
   /** The edges of the arrangement, in order. */
   edges<P extends Paths, Q extends Paths = [], F extends Form = FormOf<P>>(
     subject: P,
@@ -249,6 +258,33 @@ export class Prepared {
   /** Whether each point lies inside; on the boundary it does not. */
   contains<P extends Points, F extends Form = FormOfPoints<P>>(points: P, options?: AnswerOptions<F>): TruthsAs[F];
   /** Gives its memory back, which else happens some time after nothing refers to it: it is not to be asked any more. */
+  free(): void;
+}
+
+/** Two groups of contours, arranged once: each answer is that of the call with its name. */
+export class Arrangement<N extends Coordinate, G extends Form> {
+  private constructor();
+  /** The shapes round the region where the rules hold. */
+  overlay<F extends Form = G>(options?: ArrangedOptions & AnswerOptions<F>): ShapesAs<N>[F];
+  /** The same shapes, and a link for each shape in a hole of another one. */
+  hierarchy<F extends Form = G>(
+    options?: ArrangedOptions & AnswerOptions<F>,
+  ): { shapes: ShapesAs<N>[F]; links: LinksAs[F] };
+  /** The edges, in order. */
+  edges<F extends Form = G>(options?: AnswerOptions<F>): EdgesAs<N>[F];
+  /** Gives its memory back, which else happens some time after nothing refers to it: it is not to be asked any more. */
+  free(): void;
+}
+
+/** An arrangement in a worker: each call answers a promise of what `Arrangement`'s answers. */
+export class RemoteArrangement<N extends Coordinate, G extends Form> {
+  private constructor();
+  overlay<F extends Form = G>(options?: ArrangedOptions & AnswerOptions<F>): Promise<ShapesAs<N>[F]>;
+  hierarchy<F extends Form = G>(
+    options?: ArrangedOptions & AnswerOptions<F>,
+  ): Promise<{ shapes: ShapesAs<N>[F]; links: LinksAs[F] }>;
+  edges<F extends Form = G>(options?: AnswerOptions<F>): Promise<EdgesAs<N>[F]>;
+  /** Gives its memory back: it is not to be asked any more. */
   free(): void;
 }
 
@@ -297,7 +333,7 @@ export class RemotePolyover {
   slice<P extends Paths, Q extends Paths, F extends Form = FormOf<P>>(
     shape: P,
     lines: Q,
-    options?: FillOptions & AnswerOptions<F>,
+    options?: SliceOptions & AnswerOptions<F>,
   ): Promise<ShapesAs<NumberOf<P> | NumberOf<Q>>[F]>;
   tiles<P extends Paths, F extends Form = FormOf<P>>(
     shape: P,
@@ -311,6 +347,11 @@ export class RemotePolyover {
     options?: AnswerOptions<F>,
   ): Promise<LocationsAs[F]>;
   prepare(shape: Paths, options?: FillOptions): Promise<RemotePrepared>;
+  arrangement<P extends Paths, Q extends Paths = []>(
+    subject: P,
+    clip?: Q,
+    options?: FillOptions,
+  ): Promise<RemoteArrangement<NumberOf<P> | NumberOf<Q>, FormOf<P>>>;
   edges<P extends Paths, Q extends Paths = [], F extends Form = FormOf<P>>(
     subject: P,
     clip?: Q,

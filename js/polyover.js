@@ -13,11 +13,12 @@ import { RemotePolyover } from "./remote.js";
 
 export { LOCATIONS } from "./abi.js";
 export { multiLineString, multiPolygon } from "./answers.js";
+export { Arrangement } from "./arrangement.js";
 export { Polyover } from "./calls.js";
 export * from "./errors.js";
 export { Flat, FlatShapes } from "./flat.js";
 export { Prepared } from "./prepared.js";
-export { RemotePolyover, RemotePrepared } from "./remote.js";
+export { RemoteArrangement, RemotePolyover, RemotePrepared } from "./remote.js";
 
 // (bundlers for browsers leave a name in a variable alone)
 const FILES = "node:fs/promises";

@@ -6,6 +6,7 @@ import { packed, unpacked } from "./packing.js";
 // (bundlers for browsers leave a name in a variable alone)
 const THREADS = "node:worker_threads";
 const OF_PREPARED = ["locate", "contains"];
+const OF_ARRANGEMENT = ["overlay", "hierarchy", "edges"];
 const CALLS = [
   ...["overlay", "hierarchy", "simplify", "relate", "clip", "slice", "tiles", "locate", "edges"],
   ...["isResolved", "built"],
@@ -130,41 +131,53 @@ export class RemotePolyover {
 
   /** A prepared shape in the worker. */
   async prepare(...given) {
-    const { prepared } = await this.call("prepare", given);
-    return new RemotePrepared(this.#channel, prepared);
+    const { kept } = await this.call("prepare", given);
+    return new RemotePrepared(this.#channel, kept);
+  }
+
+  /** An arrangement in the worker. */
+  async arrangement(...given) {
+    const { kept } = await this.call("arrangement", given);
+    return new RemoteArrangement(this.#channel, kept);
   }
 }
 
-/** Has the worker give back the memory of a prepared shape; one that has ended needs no more. */
-function freed({ channel, prepared }) {
-  channel.ask({ name: "free", prepared, given: [] }).catch(() => {});
+/** Has the worker give back the memory of what it keeps; one that has ended needs no more. */
+function freed({ channel, kept }) {
+  channel.ask({ name: "free", kept, given: [] }).catch(() => {});
 }
 
 const forgotten = new FinalizationRegistry(freed);
 
-/** A prepared shape in a worker, each of whose calls answers a promise; `RemotePolyover.prepare` makes it. */
-export class RemotePrepared {
+/** What a worker keeps to be asked again and again; each of its calls answers a promise. */
+class RemoteKept {
   #channel;
-  #prepared;
+  #kept;
 
-  constructor(channel, prepared) {
+  constructor(channel, kept) {
     this.#channel = channel;
-    this.#prepared = prepared;
-    forgotten.register(this, { channel, prepared }, this);
+    this.#kept = kept;
+    forgotten.register(this, { channel, kept }, this);
   }
 
   /** What a call of that name answers. */
   call(name, given) {
-    return this.#channel.ask({ name, prepared: this.#prepared, given: given.map(packed) });
+    return this.#channel.ask({ name, kept: this.#kept, given: given.map(packed) });
   }
 
   /** Gives its memory back: it is not to be asked any more. */
   free() {
     if (forgotten.unregister(this)) {
-      freed({ channel: this.#channel, prepared: this.#prepared });
+      freed({ channel: this.#channel, kept: this.#kept });
     }
   }
 }
+
+/** A prepared shape in a worker; `RemotePolyover.prepare` makes it. */
+export class RemotePrepared extends RemoteKept {}
+
+/** An arrangement in a worker; `RemotePolyover.arrangement` makes it. */
+export class RemoteArrangement extends RemoteKept {}
 
 /** Gives a class methods that ask the worker. */
 function remote(kind, names) {
@@ -181,3 +194,4 @@ function remote(kind, names) {
 
 remote(RemotePolyover, CALLS);
 remote(RemotePrepared, OF_PREPARED);
+remote(RemoteArrangement, OF_ARRANGEMENT);

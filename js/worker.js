@@ -1,42 +1,43 @@
 /** The worker: it holds an instance of the module, and answers one message after another. */
 
+import { Arrangement, FREED as FREED_ARRANGEMENT } from "./arrangement.js";
 import { Polyover } from "./calls.js";
 import { BadInput } from "./errors.js";
 import { buffersIn, packed, unpacked } from "./packing.js";
 import { FREED, Prepared } from "./prepared.js";
 
 let polyover;
-// (prepared shapes by their numbers)
-const shapes = new Map();
+// (prepared shapes and arrangements by their numbers)
+const all = new Map();
 let count = 0;
 
-async function answerTo({ module, name, grid, prepared, given }) {
+async function answerTo({ module, name, grid, kept, given }) {
   if (module) {
     polyover = new Polyover(await WebAssembly.instantiate(module, {}));
     return undefined;
   }
-  if (prepared !== undefined) {
-    return ofPrepared(prepared, name, given);
+  if (kept !== undefined) {
+    return ofKept(kept, name, given);
   }
   const calls = grid ? polyover.scaled(...grid) : polyover;
   const answer = calls[name](...given.map(unpacked));
-  if (answer instanceof Prepared) {
-    shapes.set(count, answer);
-    return { prepared: count++ };
+  if (answer instanceof Prepared || answer instanceof Arrangement) {
+    all.set(count, answer);
+    return { kept: count++ };
   }
   return packed(answer);
 }
 
-/** What a call of a prepared shape answers. */
-function ofPrepared(prepared, name, given) {
-  const shape = shapes.get(prepared);
-  if (shape === undefined) {
-    throw new BadInput(FREED);
+/** What a call of something that is kept answers. */
+function ofKept(kept, name, given) {
+  const it = all.get(kept);
+  if (it === undefined) {
+    throw new BadInput(name in Arrangement.prototype ? FREED_ARRANGEMENT : FREED);
   }
   if (name === "free") {
-    shapes.delete(prepared);
+    all.delete(kept);
   }
-  return shape[name](...given);
+  return packed(it[name](...given));
 }
 
 async function answered(message, post) {

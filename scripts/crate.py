@@ -33,8 +33,8 @@ RENAMED = (
     # local labels, which would be there twice where modules are joined (by fat LTO)
     (re.compile(r"\.L(?=\w)"), ".Lpolyover_"),
     (re.compile(r"\brattle_(alloc|realloc|dealloc)\b"), r"polyover_rattle_\1"),
-    # calls whose options are never null, which are C's where they may be (c/library_of_results.h)
-    (re.compile(r"\b(polyover_\w+_result)_with(_32)?\b"), r"\1\2"),
+    # calls that take no null pointer, which are C's where they do (c/library_of_*.h)
+    (re.compile(r"\b(polyover_\w+)_with(_32)?\b"), r"\1\2"),
 )
 
 

@@ -34,6 +34,15 @@ const CALLS = {
       prepared.free();
     }
   },
+  arrangement: (it) => {
+    const both = it.arrangement(FRAME, BAR, { fill: "evenodd" });
+    try {
+      return [both.overlay(), both.hierarchy({ rule: "xor" }), both.edges()];
+    } finally {
+      both.free();
+    }
+  },
+  sliceSo: (it) => it.slice(HALL, WALLS, { fill: "evenodd", clockwise: true, minimumArea: 1 }),
   scaled: (it) => it.scaled(100).overlay([SQUARE], [OTHER]),
 };
 

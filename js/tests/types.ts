@@ -35,10 +35,18 @@ export async function asked(): Promise<unknown[]> {
   const inside: Uint8Array = prepared.contains(new Int32Array(2));
   const truths: boolean[] = prepared.contains(new Int32Array(2), { answer: "lists" });
   prepared.free();
+  const both = polyover.arrangement([square], [square], { fill: "evenodd" });
+  const shared: Shapes = both.overlay({ rule: "intersect", keep: true });
+  const linked: { shapes: FlatShapes; links: Uint32Array } = both.hierarchy({ answer: "arrays" });
+  const between: Edge[] = both.edges();
+  const halves: Shapes = polyover.slice([square], [square], { clockwise: true, minimumArea: 3 });
+  both.free();
   const remote: RemotePolyover = await load({ worker: true });
   const later: Shapes = await remote.overlay([square], [], { touching: true });
   const far: RemotePrepared = await remote.prepare(arrays.contours);
   const answered: boolean[] = await far.contains({ type: "Point", coordinates: [1, 1] });
+  const farBoth = await remote.arrangement(arrays.contours);
+  const farShapes: FlatShapes = await farBoth.overlay();
   remote.end();
   const built: Built = polyover.built();
   const kind: typeof BadInput = ERRORS.BadInput;
@@ -56,6 +64,8 @@ export async function asked(): Promise<unknown[]> {
   new PreparedOf();
   // @ts-expect-error: which split by a fill rule and a solver alone
   polyover.prepare([square], { answer: "lists" });
+  // @ts-expect-error: an arrangement has a fill rule of its own
+  both.overlay({ fill: "evenodd" });
   // @ts-expect-error: contours are lists of points, in a list
   polyover.overlay(square);
   // @ts-expect-error: a module is no number
@@ -67,6 +77,7 @@ export async function asked(): Promise<unknown[]> {
 
   return [
     ...[asked, inside, truths, answered, lists, named, other, found, relations, places, numbers, edges, parts, is],
+    ...[shared, linked, between, halves, farShapes],
     ...[tiles, later, big, built, kind, bytes, there, multiPolygon(lists)],
   ];
 }

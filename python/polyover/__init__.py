@@ -1,6 +1,7 @@
 """Boolean operations on polygons with whole coordinates, by the library for C, or by the program: `built` tells whether
 the library is made of the proved module."""
 
+from .arrangement import Arrangement
 from .calls import backend, built, clip, edges, hierarchy, is_resolved, locate, overlay, relate, simplify, tiles
 from .calls import slice  # pylint: disable=redefined-builtin
 from .errors import BadInput, LibraryMissing, NotResolved, NotSettled, OutOfMemory, PolyoverError, ProgramMissing
@@ -17,6 +18,7 @@ from .text import LOCATIONS, Fill, Rule, Solver
 __version__ = "0.2.0"
 
 __all__ = [
+    "Arrangement",
     "BadInput",
     "Fill",
     "Flat",

@@ -10,7 +10,7 @@ from typing import Any, Callable
 from .errors import LibraryMissing, NotResolved
 from .flat import Flat, FlatShapes, address_of, parted
 from .grid import grid_lines
-from .library import ClipOptions, Held, HeldShape, Library, Options, Status, check
+from .library import ClipOptions, Held, HeldGraph, HeldShape, Library, Options, SliceOptions, Status, check
 from .library import library as found_library
 from .text import FILLS, RELATIONS, RULES, SOLVERS
 
@@ -23,8 +23,9 @@ RESULTS = ("overlay", "hierarchy", "simplify", "edges", "clip", "slice")
 # the function of the library that each call takes
 TAKES = {
     **{name: f"polyover_{name}_result" for name in RESULTS},
-    **{name: f"polyover_{name}" for name in ("relate", "relate_one", "locate", "prepare")},
+    **{name: f"polyover_{name}" for name in ("relate", "relate_one", "locate", "prepare", "arrange")},
     "tiles": "polyover_slice_result",
+    "slice_custom": "polyover_slice_custom_result",
     "is_resolved": "polyover_resolved",
 }
 
@@ -76,6 +77,18 @@ def shapes_in(held: Held) -> list[Any]:
     return parted(paths_in(held), held.shape_ends.tolist())
 
 
+def linked_in(held: Held) -> tuple[list[Any], list[Any]]:
+    """The shapes of an answer, and its links."""
+    told = held.links.tolist()
+    return shapes_in(held), list(zip(told[0::3], told[1::3], told[2::3]))
+
+
+def edges_in(held: Held) -> list[Any]:
+    """The edges of an answer: two points each, and the bits of its filled sides."""
+    points = points_in(held.coordinates)
+    return list(zip(points[0::2], points[1::2], held.fills.tolist()))
+
+
 def flat_paths(held: Held) -> Flat:
     """The contours, or the paths, of an answer, where they are."""
     return Flat.answered(held.coordinates, held.contour_ends)
@@ -101,9 +114,7 @@ def hierarchy(subject: Any, clip: Any, rule: str, fill: str, look: Any) -> tuple
     asked = library()
     both = asked.contours(subject), asked.contours(clip)
     numbers = RULE_NUMBERS[rule], FILL_NUMBERS[fill], options(look)
-    held = asked.answer("polyover_hierarchy_result", *numbers, *both)
-    told = held.links.tolist()
-    return shapes_in(held), list(zip(told[0::3], told[1::3], told[2::3]))
+    return linked_in(asked.answer("polyover_hierarchy_result", *numbers, *both))
 
 
 def simplify(subject: Any, fill: str, look: Any, found: Found = shapes_in) -> Any:
@@ -117,9 +128,7 @@ def edges(subject: Any, clip: Any, fill: str, solver: str) -> list[Any]:
     """The edges of the arrangement."""
     asked = library()
     both = asked.contours(subject), asked.contours(clip)
-    held = asked.answer("polyover_edges_result", FILL_NUMBERS[fill], SOLVER_NUMBERS[solver], *both)
-    points = points_in(held.coordinates)
-    return list(zip(points[0::2], points[1::2], held.fills.tolist()))
+    return edges_in(asked.answer("polyover_edges_result", FILL_NUMBERS[fill], SOLVER_NUMBERS[solver], *both))
 
 
 def relate(subject: Any, clip: Any, fill: str, solver: str) -> dict[str, bool]:
@@ -164,6 +173,16 @@ def slice(  # pylint: disable=redefined-builtin
     return sliced(asked, asked.contours(shape), lines, fill, solver, found)
 
 
+def slice_custom(
+    shape: Any, lines: Any, fill: str, clockwise: bool, minimum_area: int, solver: str, found: Found = shapes_in
+) -> Any:
+    """The same in a direction, without contours of a smaller area."""
+    asked = library()
+    both = asked.contours(shape), asked.contours(lines)
+    look = SliceOptions(clockwise, SOLVER_NUMBERS[solver], *divmod(minimum_area, 2**64))
+    return found(asked.answer("polyover_slice_custom_result", FILL_NUMBERS[fill], look, *both))
+
+
 def tiles(shape: Any, width: int, height: int, fill: str, solver: str, found: Found = shapes_in) -> Any:
     """The shapes into which the cells of a grid cut a shape: it is sliced along the lines of the grid."""
     asked = library()
@@ -201,3 +220,28 @@ def prepare(shape: Any, fill: str, solver: str) -> HeldShape:
     """A prepared shape."""
     asked = library()
     return HeldShape(asked, FILL_NUMBERS[fill], SOLVER_NUMBERS[solver], asked.contours(shape))
+
+
+# ---- an arrangement, and what is asked of it
+
+
+def arrange(subject: Any, clip: Any, fill: str, solver: str) -> HeldGraph:
+    """The arrangement of both."""
+    asked = library()
+    both = asked.contours(subject), asked.contours(clip)
+    return HeldGraph(asked, FILL_NUMBERS[fill], SOLVER_NUMBERS[solver], both)
+
+
+def graph_overlay(graph: HeldGraph, rule: str, look: Any, found: Found = shapes_in) -> Any:
+    """The shapes of an overlay of an arrangement."""
+    return found(graph.answer("overlay", RULE_NUMBERS[rule], options(look)))
+
+
+def graph_hierarchy(graph: HeldGraph, rule: str, look: Any) -> tuple[list[Any], list[Any]]:
+    """The shapes of an overlay of an arrangement, and its links."""
+    return linked_in(graph.answer("hierarchy", RULE_NUMBERS[rule], options(look)))
+
+
+def graph_edges(graph: HeldGraph) -> list[Any]:
+    """The edges of an arrangement."""
+    return edges_in(graph.answer("edges"))

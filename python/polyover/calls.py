@@ -9,7 +9,7 @@ from typing import Any, Callable, Literal, NamedTuple, overload
 
 from . import by_library, by_program
 from .contour import WholePath, room_of, shifted
-from .errors import BadInput, NotSettled, PolyoverWarning
+from .errors import BadInput, LibraryMissing, NotSettled, PolyoverWarning
 from .flat import Flat, FlatFloats, FlatShapes, whole_path
 from .geojson import is_geometry, points_of
 from .shapes import Paths, Shapes
@@ -19,6 +19,10 @@ from .told import Told, counted
 AREA_LIMIT = 2**127 - 1
 # (by how many powers of two relations are told coarser where rounds do not settle)
 COARSER = 8
+NO_OPTIONS = (
+    "no library whose slices have a direction and a minimum area, and the program has neither: "
+    "the library of this version is in a release's wheel, or scripts/build or make -C c builds it"
+)
 MORE = counted("members of # [point|points] beyond x and y are left out")
 
 
@@ -348,13 +352,28 @@ def clip(
 
 
 def slice(  # pylint: disable=redefined-builtin
-    shape: Any, lines: Any, fill: Fill = "nonzero", *, solver: Solver = SNAPPED, arrays: bool = False
+    shape: Any,
+    lines: Any,
+    fill: Fill = "nonzero",
+    *,
+    clockwise: bool = False,
+    minimum_area: int = 0,
+    solver: Solver = SNAPPED,
+    arrays: bool = False,
 ) -> Any:
-    """Returns the shapes into which open paths cut a shape, with `arrays` as `FlatShapes`."""
+    """Returns the shapes into which open paths cut a shape, with `arrays` as `FlatShapes`. Outlines run
+    counterclockwise, or `clockwise`. Contours of a smaller area than the minimum are left out. The program has neither
+    option: without the library there is LibraryMissing."""
     fill, shape, lines = known(FILLS, fill, "fill rule"), listed("shape", shape), listed("lines", lines)
-    solver = solver_of(solver)
+    solver, area = solver_of(solver), area_of(minimum_area)
     with placed(shape=shape, lines=lines):
-        return shapes_of("slice", arrays, shape, lines, fill, solver)
+        if not clockwise and not area:
+            return shapes_of("slice", arrays, shape, lines, fill, solver)
+        if not by_library.can("slice_custom"):
+            raise LibraryMissing(NO_OPTIONS)
+        found = by_library.flat_shapes if arrays else by_library.shapes_in
+        answer = by_library.slice_custom(shape, lines, fill, bool(clockwise), area, solver, found)
+        return answer if arrays else Shapes(answer)
 
 
 def tiles(

@@ -65,6 +65,17 @@ class Options(Structure):
     ]
 
 
+class SliceOptions(Structure):
+    """How slices look."""
+
+    _fields_ = [
+        ("direction", c_uint32),
+        ("solver", c_uint32),
+        ("min_area_high", c_uint64),
+        ("min_area_low", c_uint64),
+    ]
+
+
 class ClipOptions(Structure):
     """Which parts of lines a clip keeps."""
 
@@ -164,8 +175,20 @@ class PreparedShape(Structure):
     ]
 
 
+class Graph(Structure):
+    """A graph in memory of the library."""
+
+    _fields_ = [
+        ("edges", c_void_p),
+        ("edge_count", c_size_t),
+        ("fill", c_uint32),
+        ("solver", c_uint32),
+        ("keep_given", c_uint32),
+    ]
+
+
 ARRAY = (c_void_p, c_size_t)
-CONTOURS, RESULT, PREPARED = POINTER(Contours), POINTER(Result), POINTER(PreparedShape)
+CONTOURS, RESULT, PREPARED, GRAPH = POINTER(Contours), POINTER(Result), POINTER(PreparedShape), POINTER(Graph)
 TWO = (c_uint32, c_uint32, CONTOURS, CONTOURS)
 OVERLAY = (c_uint32, c_uint32, POINTER(Options), CONTOURS, CONTOURS)
 FUNCTIONS = {
@@ -177,6 +200,7 @@ FUNCTIONS = {
     "polyover_edges_result": (*TWO, RESULT),
     "polyover_clip_result": (c_uint32, POINTER(ClipOptions), CONTOURS, CONTOURS, RESULT),
     "polyover_slice_result": (*TWO, RESULT),
+    "polyover_slice_custom_result": (c_uint32, POINTER(SliceOptions), CONTOURS, CONTOURS, RESULT),
     "polyover_free": (RESULT,),
     "polyover_relate": (*TWO, POINTER(c_uint32)),
     "polyover_relate_one": (c_uint32, *TWO, POINTER(c_uint32)),
@@ -185,8 +209,13 @@ FUNCTIONS = {
     "polyover_prepare": (c_uint32, c_uint32, CONTOURS, PREPARED),
     "polyover_prepared_locate": (PREPARED, *ARRAY, *ARRAY),
     "polyover_prepared_free": (PREPARED,),
+    "polyover_arrange": (c_uint32, *TWO, GRAPH),
+    "polyover_graph_overlay_result": (GRAPH, c_uint32, POINTER(Options), RESULT),
+    "polyover_graph_hierarchy_result": (GRAPH, c_uint32, POINTER(Options), RESULT),
+    "polyover_graph_edges_result": (GRAPH, RESULT),
+    "polyover_graph_free": (GRAPH,),
 }
-FREES = {"polyover_free", "polyover_prepared_free"}
+FREES = {"polyover_free", "polyover_prepared_free", "polyover_graph_free"}
 # (of small calls)
 FRAMED = ("polyover_resolved", "polyover_overlay", "polyover_relate", "polyover_relate_one")
 
@@ -299,6 +328,20 @@ class HeldShape:
         given = queries.coordinates, queries.coordinate_count
         check(self.asked.call("polyover_prepared_locate", self.shape, *given, room, len(found)))
         return found
+
+
+class HeldGraph:
+    """A graph, where the library has it: its memory is freed once nothing refers to this."""
+
+    def __init__(self, asked: Library, fill: int, solver: int, both: tuple[Contours, Contours]) -> None:
+        self.asked, self.graph = asked, Graph()
+        # (points on one line are dropped, as by each other call)
+        check(asked.call("polyover_arrange", fill, solver, 0, *both, self.graph))
+        finalize(self, asked.functions.polyover_graph_free, self.graph)
+
+    def answer(self, call: str, *given: Any) -> Held:
+        """What a question is answered."""
+        return self.asked.answer(f"polyover_graph_{call}_result", self.graph, *given)
 
 
 @lru_cache(maxsize=None)

@@ -30,6 +30,8 @@ class Types(unittest.TestCase):
             'polyover.intersects([], [], "nope")',
             'polyover.clip([], [], "nope")',
             'polyover.Prepared([], "nope")',
+            'polyover.Arrangement([], [], "nope")',
+            'polyover.Arrangement([]).overlay("nope")',
             'polyover.Scaled(1).overlay([], [], "nope")',
             'polyover.Scaled(1).slice([], [], "nope")',
             'polyover.Scaled(1).tiles([], 1, 1, solver="nope")',

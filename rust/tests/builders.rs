@@ -98,17 +98,70 @@ fn links_tell_which_shapes_lie_in_which_holes() {
     assert_eq!(found.shapes.contour_ranges[3], 12..16);
 }
 
+/// A point in the middle of a side is a node of the arrangement where given points are kept.
 #[test]
-fn an_option_that_is_not_had_is_refused() {
-    let refused: Result<Vec<()>, _> = Err(OverlayError::NotHad("preserve_input_collinear"));
-    let mut overlay = two_squares();
+fn views_keep_given_points() {
+    let given = [[0, 0], [2, 0], [4, 0], [4, 4], [0, 4]].map(IntPoint::from);
+    let (rule, fill) = (OverlayRule::Subject, FillRule::NonZero);
+    let mut overlay = Overlay::<i32>::from_subj(&given);
+    assert_eq!(overlay.build_separate_vectors(fill).len(), 4);
+    assert_eq!(overlay.build_graph_view(fill).unwrap().edges().len(), 4);
     overlay.options = IntOverlayOptions::keep_all_points();
-    let (rule, fill) = (OverlayRule::Union, FillRule::NonZero);
-    assert_eq!(overlay.try_build_separate_vectors(fill).map(|_| vec![]), refused);
-    assert_eq!(overlay.try_build_shape_vectors(fill, rule).map(|_| vec![]), refused);
-    assert_eq!(overlay.try_build_graph_view(fill).map(|_| vec![]), refused);
-    let text = "this version does not have the option preserve_input_collinear";
-    assert_eq!(OverlayError::NotHad("preserve_input_collinear").to_string(), text);
+    assert_eq!(overlay.build_separate_vectors(fill).len(), 5);
+    assert_eq!(overlay.build_shape_vectors(fill, rule)[0][0].len(), 5);
+    let view = overlay.build_graph_view(fill).unwrap();
+    assert_eq!(view.edges().len(), 5);
+    assert_eq!(view.extract_shapes(rule, &mut Default::default())[0][0].len(), 5);
+    overlay.options.preserve_output_collinear = false;
+    let view = overlay.build_graph_view(fill).unwrap();
+    assert_eq!(view.edges().len(), 5);
+    assert_eq!(view.extract_shapes(rule, &mut Default::default())[0][0].len(), 4);
+}
+
+/// The square of 20 by 20 in halves of 200.
+#[test]
+fn slices_by_options() {
+    let mut overlay = StringOverlay::from_shape(&square(-10, 10));
+    overlay.add_string_line([[-20, 0], [20, 0]].map(IntPoint::from));
+    let view = overlay.build_graph_view(FillRule::NonZero).unwrap();
+    let areas = |options: IntOverlayOptions<u64>| {
+        let shapes = view.extract_shapes_custom(StringRule::Slice, options);
+        shapes.iter().map(|it| it[0].area()).collect::<Vec<i64>>()
+    };
+    let mut options = IntOverlayOptions::default();
+    assert_eq!(areas(options), [200, 200]);
+    options.output_direction = ContourDirection::Clockwise;
+    assert_eq!(areas(options), [-200, -200]);
+    options.min_output_area = 200;
+    assert_eq!(areas(options), [-200, -200]);
+    options.min_output_area = 201;
+    assert!(areas(options).is_empty());
+    // (slices keep all points, and visit none twice)
+    assert_eq!(areas(IntOverlayOptions::keep_output_points()), [200, 200]);
+    assert_eq!(areas(IntOverlayOptions::ogc()), [200, 200]);
+}
+
+/// A simple contour is answered so whatever the smallest area is, a contour that crosses itself as by an overlay.
+#[test]
+fn simple_contours_whatever_the_smallest_area() {
+    let (fill, shape) = (FillRule::NonZero, square(0, 4));
+    let bow = [[0, 0], [4, 4], [4, 0], [0, 4]].map(IntPoint::from);
+    let mut overlay = Overlay::<i32>::new(0);
+    overlay.options.min_output_area = 17;
+    assert_eq!(overlay.simplify_contour(&shape, fill), None);
+    assert_eq!(overlay.simplify_shape(&[shape.to_vec()], fill), None);
+    assert_eq!(overlay.simplify_contour(&bow, fill), Some(vec![]));
+    assert_eq!(overlay.simplify_contour(&shape, FillRule::Negative), Some(vec![]));
+    overlay.options.output_direction = ContourDirection::Clockwise;
+    let turned: Vec<_> = shape.iter().rev().copied().collect();
+    assert_eq!(overlay.simplify_contour(&shape, fill), Some(vec![vec![turned.clone()]]));
+    let mut buffer = FlatContoursBuffer::default();
+    buffer.add_contour(&shape);
+    overlay.simplify_flat_buffer(&mut buffer, fill);
+    assert_eq!(buffer.as_first_contour(), turned);
+    overlay.options.output_direction = ContourDirection::CounterClockwise;
+    overlay.options.min_output_area = 4;
+    assert_eq!(overlay.simplify_contour(&bow, fill).map(|it| it.len()), Some(2));
 }
 
 #[test]
@@ -132,9 +185,10 @@ fn options_of_strings_are_refused() {
         let mut overlay = StringOverlay::from_shape(&square(0, 10));
         let view = overlay.build_graph_view(FillRule::NonZero).unwrap();
         assert_eq!(view.extract_shapes(rule).area(), 100_i64);
+        let custom = view.try_extract_shapes_custom(rule, options);
         assert_eq!(
-            view.try_extract_shapes_custom(rule, options),
-            Err(OverlayError::NotHad(name))
+            custom.err(),
+            (at == 0).then_some(OverlayError::NotHad("preserve_input_collinear"))
         );
         overlay.options = options;
         assert_eq!(
@@ -142,6 +196,8 @@ fn options_of_strings_are_refused() {
             Err(OverlayError::NotHad(name))
         );
     }
+    let text = "this version does not have the option preserve_input_collinear";
+    assert_eq!(OverlayError::NotHad("preserve_input_collinear").to_string(), text);
 }
 
 #[test]

@@ -32,12 +32,8 @@ HEADS = {
 }
 # (a private import)
 CHANGED = ("use crate::core::simplify::vec;", "use alloc::vec;")
-KEPT = "the option preserve_input_collinear is refused for vectors: the edges of the library have it not yet"
 ROUNDED = "two crossings are at half units: snap rounding leaves one shape; of twice the coordinates it gives three"
-DEPARTURES = {
-    "upstream::vector_extract::tests::test_keep_output_points_0": KEPT,
-    "upstream::string_slice::tests::test_7": ROUNDED,
-}
+DEPARTURES = {"upstream::string_slice::tests::test_7": ROUNDED}
 # blocks of README by a word in them
 NOT_HAD = {"mesh::": "offsets are left out", "edge_overlay": "edges with data are not had yet"}
 HEAD = "#![allow(dead_code, deprecated, unused_imports, unused_macros, unused_variables, clippy::all)]\n"

@@ -34,6 +34,7 @@ mod flat;
 mod free_arranged;
 mod free_exact;
 mod free_extracted;
+mod free_given;
 mod free_pairs;
 mod limits;
 mod one_call;

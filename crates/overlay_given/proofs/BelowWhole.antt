@@ -16,7 +16,8 @@ one_times = solve 1 (λ z. number (pos 1) ⊗ z ≗ z) tt
 pub below_whole : (e : Edge) (v : Point) → is_strictly_below e (in_plane v) ≡
     (int_le e.a.x v.x && int_lt v.x e.b.x && int_lt (pos 0) (cross_at e.a e.b v))
 below_whole e v =
-    ap₂ (λ a b. int_le a v.x && int_lt v.x b && int_lt (pos 0) (side e (in_plane v))) (times_one e.a.x) (times_one e.b.x)
+    ap₂ (λ a b. int_le a v.x && int_lt v.x b && int_lt (pos 0) (side e (in_plane v))) (times_one e.a.x)
+    (times_one e.b.x)
     ∙ ap (λ z. int_le e.a.x v.x && int_lt v.x e.b.x && int_lt (pos 0) z)
     (side_at e v (in_plane v) (at_itself v) ∙ one_times (cross_at e.a e.b v))
 

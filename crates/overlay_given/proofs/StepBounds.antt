@@ -1,5 +1,6 @@
 -- Steps are small numbers, and so counts taken as often are within a bound.
-use Rattle.std.proofs.Common.{◌≡◌, ℕ, ◌+◌, Bool, true, false, ℤ, pos, negsuc, ◌+ℤ◌, ◌-ℤ◌, ◌*ℤ◌, sym, subst, ap, ◌∙◌, arith}
+use Rattle.std.proofs.Common.{◌≡◌, ℕ, ◌+◌, Bool, true, false, ℤ, pos, negsuc, ◌+ℤ◌, ◌-ℤ◌, ◌*ℤ◌, sym, subst}
+use Rattle.std.proofs.Common.{ap, ◌∙◌, arith}
 use Rattle.std.proofs.Common.{FitsSigned, to_z, of_z, lit<}
 use Rattle.std.proofs.lemmas.Int.{ints, by_lt_z}
 use Rattle.overlay_geom.proofs.Signs.{linear}

@@ -1,6 +1,6 @@
 -- Sums over meeting points, one more at a time, and bounds of them.
-use Rattle.std.proofs.Common.{◌≡◌, ℕ, ◌+◌, ◌<◌, ℤ, pos, ◌+ℤ◌, ◌*ℤ◌, List, [], map, take, get_or, length, refl, sym, subst}
-use Rattle.std.proofs.Common.{ap, ap₂, ◌∙◌, arith}
+use Rattle.std.proofs.Common.{◌≡◌, ℕ, ◌+◌, ◌<◌, ℤ, pos, ◌+ℤ◌, ◌*ℤ◌, List, [], map, take, get_or, length, refl, sym}
+use Rattle.std.proofs.Common.{subst, ap, ap₂, ◌∙◌, arith}
 use Rattle.std.proofs.lemmas.Int.{ints}
 use Rattle.overlay_geom.specs.Edges.{CountedEdge, ends_of, subj_of, clip_of}
 use Rattle.overlay_geom.specs.Numbers.{Within}
@@ -83,11 +83,13 @@ abbrev pub nothing : Beside
 nothing = record { subj_below = pos 0; subj_above = pos 0; clip_below = pos 0; clip_above = pos 0 }
 
 pub near_nothing : (b : Beside) → b ≡ nothing → IsNear 0 b
-near_nothing b is = subst (IsNear 0) (sym is) (record { subj_below = zero; subj_above = zero; clip_below = zero; clip_above = zero })
+near_nothing b is = subst (IsNear 0) (sym is)
+    (record { subj_below = zero; subj_above = zero; clip_below = zero; clip_above = zero })
   where
     zero : Within 0 (pos 0)
     zero = record { low = omega (arith, ints); high = omega (arith, ints) }
 
-pub rises_nothing : (at : Stop) (es : List CountedEdge) (e : CountedEdge) (b : Beside) → b ≡ nothing → Rises at es e [] b
+pub rises_nothing : (at : Stop) (es : List CountedEdge) (e : CountedEdge) (b : Beside) → b ≡ nothing →
+    Rises at es e [] b
 rises_nothing at es e b is = subst (Rises at es e []) (sym is)
     (record { subj_below = refl; subj_above = refl; clip_below = refl; clip_above = refl })

@@ -24,7 +24,8 @@ pub(crate) fn windings_at_start<I: IntNumber, C: EdgeCount>(
 ) -> Beside
     requires held { All (IsHeld I.limit) (plain_edges I.whole C.counts edges.now) }
     requires edge { IsHeld I.limit (plain_edge I.whole C.counts edge.now) }
-    ensures winds { WindsAtStart (plain_edges I.whole C.counts edges.now) (plain_edge I.whole C.counts edge.now) result }
+    ensures winds { WindsAtStart (plain_edges I.whole C.counts edges.now)
+        (plain_edge I.whole C.counts edge.now) result }
     ensures near { IsNear (2 ^ 97) result }
 {
     let mut sum = Beside::none();

@@ -13,7 +13,7 @@ use std::alloc::Global;
 /// The edges of the arrangement of the subject and the clip, with the sides that are filled under the fill rule, put
 /// into the arrays, and their number: the code of a status.
 #[unsafe(no_mangle)]
-pub extern "C" fn polyover_edges(
+pub extern "C" fn polyover_edges_with(
     alloc: Global,
     fill: u32,
     solver: u32,
@@ -43,9 +43,9 @@ pub extern "C" fn polyover_edges(
     .code()
 }
 
-/// `polyover_edges` at 32 bits.
+/// `polyover_edges_with` at 32 bits.
 #[unsafe(no_mangle)]
-pub extern "C" fn polyover_edges_32(
+pub extern "C" fn polyover_edges_with_32(
     alloc: Global,
     fill: u32,
     solver: u32,

@@ -227,7 +227,7 @@ pub extern "C" fn polyover_clip_result_with_32<'a>(
 
 /// Hands out the edges of the arrangement of the subject and the clip, with the sides that are filled.
 #[unsafe(no_mangle)]
-pub extern "C" fn polyover_edges_result<'a>(
+pub extern "C" fn polyover_edges_result_with<'a>(
     alloc: Global,
     fill: u32,
     solver: u32,
@@ -243,9 +243,9 @@ pub extern "C" fn polyover_edges_result<'a>(
     held.give(&edges_held(alloc, fill, solver, &subject.given(), &clip.given()))
 }
 
-/// `polyover_edges_result` at 32 bits.
+/// `polyover_edges_result_with` at 32 bits.
 #[unsafe(no_mangle)]
-pub extern "C" fn polyover_edges_result_32<'a>(
+pub extern "C" fn polyover_edges_result_with_32<'a>(
     alloc: Global,
     fill: u32,
     solver: u32,

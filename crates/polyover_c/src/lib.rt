@@ -4,6 +4,7 @@
 
 pub mod clip;
 pub mod edges;
+pub mod graph;
 pub mod held;
 pub mod hierarchy;
 pub mod locate;
@@ -11,6 +12,8 @@ pub mod overlay;
 pub mod prepared;
 pub mod relate;
 pub mod simplify;
+pub mod simplify_shape;
 pub mod slice;
+pub mod slice_custom;
 pub mod test;
 pub mod tiles;

@@ -15,7 +15,7 @@ use std::alloc::Global;
 /// How the subject and the clip lie to each other under the fill rule, written as a bit for each relation that holds:
 /// the code of a status.
 #[unsafe(no_mangle)]
-pub extern "C" fn polyover_relate(
+pub extern "C" fn polyover_relate_with(
     alloc: Global,
     fill: u32,
     solver: u32,
@@ -39,9 +39,9 @@ pub extern "C" fn polyover_relate(
     .code()
 }
 
-/// `polyover_relate` at 32 bits.
+/// `polyover_relate_with` at 32 bits.
 #[unsafe(no_mangle)]
-pub extern "C" fn polyover_relate_32(
+pub extern "C" fn polyover_relate_with_32(
     alloc: Global,
     fill: u32,
     solver: u32,
@@ -68,7 +68,7 @@ pub extern "C" fn polyover_relate_32(
 /// Whether the relation with the bit holds of the subject and the clip under the fill rule, written as 1 or 0: the code
 /// of a status.
 #[unsafe(no_mangle)]
-pub extern "C" fn polyover_relate_one(
+pub extern "C" fn polyover_relate_one_with(
     alloc: Global,
     relation: u32,
     fill: u32,
@@ -94,9 +94,9 @@ pub extern "C" fn polyover_relate_one(
     .code()
 }
 
-/// `polyover_relate_one` at 32 bits.
+/// `polyover_relate_one_with` at 32 bits.
 #[unsafe(no_mangle)]
-pub extern "C" fn polyover_relate_one_32(
+pub extern "C" fn polyover_relate_one_with_32(
     alloc: Global,
     relation: u32,
     fill: u32,

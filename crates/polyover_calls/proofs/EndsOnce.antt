@@ -64,7 +64,7 @@ module _ (unknown : Status → Type 0) (known : Type 0) (own : Fault → Type 0)
     (alone : (f : F) → IsAnswer f → ¬ (may error.TooManyEdges))
     (same : (f g : F) → IsAnswer f → IsAnswer g → f ≡ g) where
   -- which is written, or handed out, in one way
-  written_once : {R : Type 0} (AreWritten : F → R → R → Status → Type 0) →
+  pub written_once : {R : Type 0} (AreWritten : F → R → R → Status → Type 0) →
       ((f : F) (old new : R) (s : Status) → AreWritten f old new s → ¬ (TellsOfArguments s)) →
       ((f : F) (old new newer : R) (s t : Status) → AreWritten f old new s → AreWritten f old newer t →
       (s ≡ t) × (new ≡ newer)) →

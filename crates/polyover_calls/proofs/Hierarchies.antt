@@ -23,7 +23,7 @@ use Rattle.polyover_calls.specs.Written.{AreFlattened}
 use Rattle.polyover_calls.specs.declared.numbers.OptionNumbers.{OptionNumbers}
 
 -- the links as C has them are those that are answered
-links_at : (links : List LinkTaken) → map link_at (map link_of links) ≡ map plain_link links
+pub links_at : (links : List LinkTaken) → map link_at (map link_of links) ≡ map plain_link links
 links_at [] = refl
 links_at (l ∷ ls) = ap (λ rest. plain_link l ∷ rest) (links_at ls)
 

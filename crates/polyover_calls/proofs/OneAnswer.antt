@@ -46,7 +46,7 @@ snapping : (n : ℕ) → n ≡ 0 → solver_of n ≡ Snapping
 snapping n none = ap solver_of none
 
 -- links in arrays that are the same links are the same arrays
-same_links : (ks ls : List Link) → map link_at ks ≡ map link_at ls → ks ≡ ls
+pub same_links : (ks ls : List Link) → map link_at ks ≡ map link_at ls → ks ≡ ls
 same_links [] [] same = refl
 same_links [] (l ∷ ls) same = absurd (let e = ap length same in omega arith)
 same_links (k ∷ ks) [] same = absurd (let e = ap length same in omega arith)
@@ -72,7 +72,7 @@ module _ {I : Type 0} (whole : I → ℤ) (limit : ℕ) (one : (x y : I) → who
   -- ---- arrays
 
   -- the same shapes stand in the same arrays
-  one_flat : (shapes others : List (List (List Point))) (flat other : Flat I) → shapes ≡ others →
+  pub one_flat : (shapes others : List (List (List Point))) (flat other : Flat I) → shapes ≡ others →
       AreFlattened whole shapes flat → AreFlattened whole others other → flat ≡ other
   one_flat shapes others flat other same a b =
       let packed = one_packing_of_shapes whole one a.points b.points a.contours b.contours a.ranges b.ranges a.packed
@@ -106,7 +106,7 @@ module _ {I : Type 0} (whole : I → ℤ) (limit : ℕ) (one : (x y : I) → who
       ap₂ (λ x xs. x ∷ xs) (one c d (same_head (whole c) (whole d) (map whole cs) (map whole ds) same))
       (same_coordinates cs ds (same_tail (whole c) (whole d) (map whole cs) (map whole ds) same))
 
-  one_flat_of_edges : (vectors others : List Vector) (flat other : EdgeArrays I) → vectors ≡ others →
+  pub one_flat_of_edges : (vectors others : List Vector) (flat other : EdgeArrays I) → vectors ≡ others →
       AreListed whole vectors flat → AreListed whole others other → flat ≡ other
   one_flat_of_edges vectors others flat other same a b =
       arrays (same_coordinates flat.coordinates other.coordinates

@@ -25,7 +25,7 @@ pub struct Answer<I> {
 }
 
 /// The shapes, one behind the other. The only refusal is `Memory`.
-pub(crate) fn flattened<I: IntNumber>(
+pub fn flattened<I: IntNumber>(
     alloc: Global,
     shapes: &[IntShape<I, Global>],
 ) -> Result<Answer<I>, Status>
@@ -38,7 +38,7 @@ pub(crate) fn flattened<I: IntNumber>(
 }
 
 /// The shapes of a buffer, whose parts are dropped one by one once they are read. The only refusal is `Memory`.
-pub(crate) fn flat_answer<I: IntNumber>(
+pub fn flat_answer<I: IntNumber>(
     alloc: Global,
     flat: FlatShapesBuffer<I, Global>,
 ) -> Result<Answer<I>, Status>

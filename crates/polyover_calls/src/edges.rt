@@ -25,9 +25,9 @@ use overlay_geom::integer::OverlayInt;
 use overlay_geom::number::IntNumber;
 use std::alloc::{AllocError, Global};
 
-// Edges as arrays: of each the coordinates of both ends, and its fill bits.
+/// Edges as arrays: of each the coordinates of both ends, and its fill bits.
 #[derive(Drop)]
-pub(crate) struct ListedEdges<I> {
+pub struct ListedEdges<I> {
     pub(crate) coordinates: Vec<I, Global>,
     pub(crate) fills: Vec<u8, Global>,
 }
@@ -129,8 +129,8 @@ fn arranged_edges<I: OverlayInt>(
     overlay.build_separate_vectors(fill)
 }
 
-// The edges as arrays.
-fn listed<I: IntNumber>(
+/// The edges as arrays.
+pub fn listed<I: IntNumber>(
     alloc: Global,
     edges: &[DataVectorEdge<I, ()>],
 ) -> Result<ListedEdges<I>, AllocError>

@@ -15,20 +15,24 @@ use std::alloc::Global;
 /// Contours as arrays have them.
 #[derive(Clone, Copy)]
 pub struct Contours<'a, I> {
-    pub(crate) coordinates: &'a [I],
-    pub(crate) ends: &'a [usize],
+    /// The coordinates, x before y.
+    pub coordinates: &'a [I],
+    /// How many points there are up to the end of each contour.
+    pub ends: &'a [usize],
 }
 
 /// Two lists of contours that are read.
 #[derive(Drop)]
-pub(crate) struct BothRead<I> {
-    pub(crate) first: FlatContoursBuffer<I, Global>,
-    pub(crate) second: FlatContoursBuffer<I, Global>,
+pub struct BothRead<I> {
+    /// The first list.
+    pub first: FlatContoursBuffer<I, Global>,
+    /// The second one.
+    pub second: FlatContoursBuffer<I, Global>,
 }
 
 /// Reads the contours of both. All are tested first, those of the first list before the other ones; `Memory` comes only
 /// where none has a fault.
-pub(crate) fn read_both<I: IntNumber>(
+pub fn read_both<I: IntNumber>(
     alloc: Global,
     first: &Contours<I>,
     second: &Contours<I>,

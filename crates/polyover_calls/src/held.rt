@@ -67,7 +67,7 @@ pub struct Outcome<'a, I> {
 }
 
 /// Returns the arrays of shapes in memory that stays.
-pub(crate) fn hold_shapes<'a, I: Drop + 'a>(answer: Answer<I>) -> Outcome<'a, I>
+pub fn hold_shapes<'a, I: Drop + 'a>(answer: Answer<I>) -> Outcome<'a, I>
     ensures { AreHeld shape_arrays
         (flat_shapes answer.coordinates.items answer.contour_ends.items answer.shape_ends.items)
         no_arrays (arrays_of result.held) result.status }
@@ -86,7 +86,7 @@ pub(crate) fn hold_shapes<'a, I: Drop + 'a>(answer: Answer<I>) -> Outcome<'a, I>
 }
 
 /// Returns the arrays of shapes and of links in memory that stays.
-pub(crate) fn hold_linked<'a, I: Drop + 'a>(answer: LinkedAnswer<I>) -> Outcome<'a, I>
+pub fn hold_linked<'a, I: Drop + 'a>(answer: LinkedAnswer<I>) -> Outcome<'a, I>
     ensures { AreHeld linked_arrays
         (flat_linked answer.shapes.coordinates.items answer.shapes.contour_ends.items
         answer.shapes.shape_ends.items answer.links.items)
@@ -125,7 +125,7 @@ pub(crate) fn hold_paths<'a, I: Drop + 'a>(answer: PathAnswer<I>) -> Outcome<'a,
 }
 
 /// Returns the arrays of edges in memory that stays.
-pub(crate) fn hold_edges<'a, I: Drop + 'a>(answer: ListedEdges<I>) -> Outcome<'a, I>
+pub fn hold_edges<'a, I: Drop + 'a>(answer: ListedEdges<I>) -> Outcome<'a, I>
     ensures { AreHeld edge_arrays (flat_edges answer.coordinates.items answer.fills.items)
         no_arrays (arrays_of result.held) result.status }
 {
@@ -143,7 +143,7 @@ pub(crate) fn hold_edges<'a, I: Drop + 'a>(answer: ListedEdges<I>) -> Outcome<'a
 }
 
 /// Returns empty arrays, and the status.
-pub(crate) fn hold_nothing<'a, I: 'a>(status: Status) -> Outcome<'a, I>
+pub fn hold_nothing<'a, I: 'a>(status: Status) -> Outcome<'a, I>
     ensures held { arrays_of result.held ≡ no_arrays }
     ensures status { result.status ≡ status }
 {
@@ -158,7 +158,7 @@ pub(crate) fn hold_nothing<'a, I: 'a>(status: Status) -> Outcome<'a, I>
 }
 
 /// Returns the items in memory that stays, or no memory where there are none.
-pub(crate) fn lasting<'a, T: Drop + 'a>(items: Vec<T, Global>) -> &'a [T]
+pub fn lasting<'a, T: Drop + 'a>(items: Vec<T, Global>) -> &'a [T]
     ensures { result.now ≡ items.items }
 {
     if items.is_empty() {

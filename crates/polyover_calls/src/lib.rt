@@ -32,7 +32,7 @@ pub mod path_counts;
 pub mod prepare;
 pub mod prepared;
 pub mod prepared_points;
-mod read;
+pub mod read;
 pub mod relate;
 pub mod relate_one;
 mod relation;

@@ -25,7 +25,7 @@ pub struct LinkedAnswer<I> {
 }
 
 /// The shapes and links of the hierarchy, whose shapes stand one behind the other. The only refusal is `Memory`.
-pub(crate) fn flattened_hierarchy<I: IntNumber>(
+pub fn flattened_hierarchy<I: IntNumber>(
     alloc: Global,
     hierarchy: &FlatShapeHierarchy<I, Global>,
 ) -> Result<LinkedAnswer<I>, Status>

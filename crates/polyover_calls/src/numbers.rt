@@ -13,16 +13,19 @@ use i_overlay::overlay_rule::OverlayRule;
 use i_overlay::solver::Solver;
 use overlay_geom::number::UIntNumber;
 
-/// Options as numbers: the direction of outlines, 0 for counter-clockwise and 1 for clockwise; a sum that tells which
-/// points on one line are kept, 1 for those of the answer and 2 for given ones; whether a contour may visit a point
-/// twice, 1 or 0; how edges are split, 0 by snap rounding and 1 in rounds; and the smallest area that is kept.
+/// Options as numbers.
 #[derive(Clone, Copy)]
 pub struct OptionNumbers<U> {
-    pub(crate) direction: u32,
-    pub(crate) keep: u32,
-    pub(crate) touching: u32,
-    pub(crate) solver: u32,
-    pub(crate) min_area: U,
+    /// The direction of outlines: 0 for counter-clockwise, 1 for clockwise.
+    pub direction: u32,
+    /// A sum that tells which points on one line are kept: 1 for those of the answer, 2 for given ones.
+    pub keep: u32,
+    /// Whether a contour may visit a point twice, 1 or 0.
+    pub touching: u32,
+    /// How edges are split: 0 by snap rounding, 1 in rounds.
+    pub solver: u32,
+    /// The smallest area that is kept.
+    pub min_area: U,
 }
 
 impl<U: UIntNumber> OptionNumbers<U> {
@@ -69,7 +72,7 @@ pub(crate) fn are_query_numbers(fill: u32, solver: u32) -> bool
 }
 
 /// The overlay rule with the number; `BadRule` from 7 on.
-pub(crate) fn rule_of(number: u32) -> Result<OverlayRule, Status>
+pub fn rule_of(number: u32) -> Result<OverlayRule, Status>
     ensures { MatchResult result (λ r. (number < 7) × (r ≡ rule_of number)) (λ s. (s ≡ BadRule) × (7 ≤ number)) }
 {
     match number {
@@ -85,7 +88,7 @@ pub(crate) fn rule_of(number: u32) -> Result<OverlayRule, Status>
 }
 
 /// The fill rule with the number; `BadFill` from 4 on.
-pub(crate) fn fill_of(number: u32) -> Result<FillRule, Status>
+pub fn fill_of(number: u32) -> Result<FillRule, Status>
     ensures { MatchResult result (λ r. (number < 4) × (r ≡ fill_of number)) (λ s. (s ≡ BadFill) × (4 ≤ number)) }
 {
     match number {
@@ -98,7 +101,7 @@ pub(crate) fn fill_of(number: u32) -> Result<FillRule, Status>
 }
 
 /// The solver with the number; `BadOption` from 2 on.
-pub(crate) fn solver_of(number: u32) -> Result<Solver, Status>
+pub fn solver_of(number: u32) -> Result<Solver, Status>
     ensures { MatchResult result (λ r. (number < 2) × (r ≡ solver_of number)) (λ s. (s ≡ BadOption) × (2 ≤ number)) }
 {
     match number {
@@ -109,7 +112,7 @@ pub(crate) fn solver_of(number: u32) -> Result<Solver, Status>
 }
 
 /// The solver with the number, which is known.
-pub(crate) fn known_solver(number: u32) -> Solver
+pub fn known_solver(number: u32) -> Solver
     requires { number < 2 }
     ensures { result ≡ solver_of number }
 {
@@ -121,9 +124,7 @@ pub(crate) fn known_solver(number: u32) -> Solver
 }
 
 /// The options with the numbers; `BadOption` where a choice has a number from 2 on, or the sum `keep` one from 4 on.
-pub(crate) fn options_of<U: UIntNumber>(
-    numbers: OptionNumbers<U>,
-) -> Result<IntOverlayOptions<U>, Status>
+pub fn options_of<U: UIntNumber>(numbers: OptionNumbers<U>) -> Result<IntOverlayOptions<U>, Status>
     ensures { MatchResult result (λ o. AreChoices numbers × (o ≡ options_of numbers))
         (λ s. (s ≡ BadOption) × ¬ (AreChoices numbers)) }
 {

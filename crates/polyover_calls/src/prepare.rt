@@ -124,8 +124,8 @@ fn parts_prepared<I: OverlayInt>(
     Ok(shape.into_parts())
 }
 
-// The values in a form. The only refusal is `Memory`.
-fn formed<T: Copy, F: FormOf<T>>(alloc: Global, values: &[T]) -> Result<Vec<F, Global>, Status>
+/// The values in a form. The only refusal is `Memory`.
+pub fn formed<T: Copy, F: FormOf<T>>(alloc: Global, values: &[T]) -> Result<Vec<F, Global>, Status>
     ensures formed { IfOk result (λ v. map F.meant v.items ≡ values.now) }
     ensures only { IsOkUnless result Status.Memory }
 {

@@ -4,27 +4,47 @@ use crate::core::extract::BooleanExtractionBuffer;
 use crate::core::fill_rule::FillRule;
 use crate::core::hierarchy::FlatShapeHierarchy;
 use crate::core::integer::OverlayInt;
+use crate::core::overlay::queries::{edges_of_graph, flat_into, linked_of, Arranging};
 use crate::core::overlay::Overlay;
 use crate::core::overlay_rule::OverlayRule;
+use crate::engine::lists::shapes_of;
+use crate::engine::options::Options;
 use crate::error::{answered, OverlayError};
+use crate::ffi::Graph;
 use crate::i_shape::flat::buffer::FlatContoursBuffer;
 use crate::i_shape::int::shape::IntShapes;
 use crate::vector::edge::{DataVectorEdge, VectorShape};
+use crate::vector::shapes_by;
+use alloc::sync::Arc;
 use alloc::vec::Vec;
 
-/// A view of an arrangement. The library hands none out yet: each extraction takes the time of an overlay.
+/// A view of an arrangement, which is made once and asked as often as wanted.
 #[derive(Debug, Clone)]
 pub struct OverlayGraph<'a, I: OverlayInt> {
     overlay: &'a Overlay<I>,
-    fill: FillRule,
+    graph: Arc<Graph>,
     edges: Vec<DataVectorEdge<I>>,
 }
 
 impl<'a, I: OverlayInt> OverlayGraph<'a, I> {
     /// A view of the arrangement of a builder, if any edge is left.
     pub(crate) fn of(overlay: &'a Overlay<I>, fill: FillRule) -> Result<Option<Self>, OverlayError> {
-        let edges = overlay.try_build_separate_vectors(fill)?;
-        Ok((!edges.is_empty()).then_some(Self { overlay, fill, edges }))
+        let keeps_given = overlay.options.preserve_input_collinear;
+        let graph = overlay.ask(&Arranging(fill, overlay.solver, keeps_given))?;
+        let edges = edges_of_graph(&graph)?;
+        let graph = Arc::new(graph);
+        Ok((!edges.is_empty()).then_some(Self { overlay, graph, edges }))
+    }
+
+    fn options(&self) -> Options {
+        self.overlay.options.for_engine(self.overlay.solver)
+    }
+
+    fn shapes_with(&self, rule: OverlayRule, options: &Options) -> Result<IntShapes<I>, OverlayError> {
+        match &*self.graph {
+            Graph::Narrow(it) => shapes_of(&it.overlay(rule, options)?),
+            Graph::Wide(it) => shapes_of(&it.overlay(rule, options)?),
+        }
     }
 
     /// The shapes of an overlay.
@@ -32,7 +52,7 @@ impl<'a, I: OverlayInt> OverlayGraph<'a, I> {
     /// # Errors
     /// As of [`Overlay::try_overlay`].
     pub fn try_extract_shapes(&self, rule: OverlayRule) -> Result<IntShapes<I>, OverlayError> {
-        self.overlay.try_overlay(rule, self.fill)
+        self.shapes_with(rule, &self.options())
     }
 
     /// The shapes of an overlay.
@@ -49,7 +69,11 @@ impl<'a, I: OverlayInt> OverlayGraph<'a, I> {
     /// # Errors
     /// As of [`Overlay::try_overlay`].
     pub fn try_extract_shape_hierarchy(&self, rule: OverlayRule) -> Result<FlatShapeHierarchy<I>, OverlayError> {
-        self.overlay.try_overlay_hierarchy(rule, self.fill)
+        let options = self.options();
+        match &*self.graph {
+            Graph::Narrow(it) => linked_of(&it.hierarchy(rule, &options)?),
+            Graph::Wide(it) => linked_of(&it.hierarchy(rule, &options)?),
+        }
     }
 
     /// The shapes of an overlay, and which lie in which holes.
@@ -74,7 +98,12 @@ impl<'a, I: OverlayInt> OverlayGraph<'a, I> {
         rule: OverlayRule,
         output: &mut FlatContoursBuffer<I>,
     ) -> Result<(), OverlayError> {
-        self.overlay.try_overlay_into(rule, self.fill, output)
+        let mut options = self.options();
+        options.may_touch = true;
+        match &*self.graph {
+            Graph::Narrow(it) => flat_into(&it.overlay(rule, &options)?, output),
+            Graph::Wide(it) => flat_into(&it.overlay(rule, &options)?, output),
+        }
     }
 
     /// Writes the contours of an overlay into a buffer.
@@ -106,7 +135,11 @@ impl<'a, I: OverlayInt> OverlayGraph<'a, I> {
     /// # Errors
     /// As of [`Overlay::try_overlay`].
     pub fn try_extract_vector_shapes(&self, rule: OverlayRule) -> Result<Vec<VectorShape<I>>, OverlayError> {
-        crate::vector::shapes_by(self.overlay, &self.edges, rule, self.fill)
+        let mut options = self.options();
+        let is_joined = !options.keeps_points;
+        options.keeps_points = true;
+        options.may_touch = true;
+        shapes_by(&self.shapes_with(rule, &options)?, &self.edges, is_joined)
     }
 
     /// The shapes of an overlay, as edges with their filled sides.

@@ -5,7 +5,7 @@ use crate::core::integer::OverlayInt;
 use crate::core::overlay::{IntOverlayOptions, Overlay, ShapeType};
 use crate::core::overlay_rule::OverlayRule;
 use crate::core::solver::Solver;
-use crate::engine::lists::{listed, make_room_instead, shapes_of};
+use crate::engine::lists::{make_room_instead, shapes_of};
 use crate::engine::options::Options;
 use crate::engine::width::Query;
 use crate::error::{answered, OverlayError};
@@ -70,45 +70,19 @@ impl<I: OverlayInt> Query for Simplified<I> {
     }
 }
 
-struct Resolved;
+/// The shapes of a shape; none where it is one contour that stays as it is given.
+struct SimplifiedShape<I>(FillRule, Options, PhantomData<I>);
 
-impl Query for Resolved {
-    type Answer = bool;
+impl<I: OverlayInt> Query for SimplifiedShape<I> {
+    type Answer = Option<IntShapes<I>>;
 
-    fn ask<E: Engine>(&self, first: Given<'_, E::C>, _: Given<'_, E::C>) -> Result<bool, OverlayError> {
-        E::is_resolved(first)
+    fn ask<E: Engine>(&self, first: Given<'_, E::C>, _: Given<'_, E::C>) -> Result<Self::Answer, OverlayError> {
+        let (held, as_given) = E::simplify_shape(self.0, &self.1, first)?;
+        if as_given {
+            return Ok(None);
+        }
+        shapes_of(&held).map(Some)
     }
-}
-
-/// What becomes of a contour that is simplified.
-enum Outcome<I: OverlayInt> {
-    /// It is not simple, so it is to be overlaid.
-    NotSimple,
-    /// It is a shape as it is given.
-    AsGiven,
-    /// It is reversed, or is not filled and leaves nothing.
-    Turned(IntShapes<I>),
-}
-
-/// Whether a contour visits no point twice, and no point lies on one line with its two neighbours, unless it is kept.
-fn has_corners_alone<I: OverlayInt>(contour: &[IntPoint<I>], is_kept: bool) -> Result<bool, OverlayError> {
-    let (Some(&first), Some(&last)) = (contour.first(), contour.last()) else {
-        return Ok(false);
-    };
-    let mut sorted = listed(contour.len(), contour.iter().copied())?;
-    sorted.sort_unstable();
-    let twice = |it: &[IntPoint<I>]| matches!(it, [a, b] if a == b);
-    let next = contour.iter().skip(1).copied().chain([first]);
-    let mut before = last;
-    let mut is_straight = |(&at, after): (&IntPoint<I>, IntPoint<I>)| {
-        let x = |it: IntPoint<I>| it.x.wide_difference(before.x);
-        let y = |it: IntPoint<I>| it.y.wide_difference(before.y);
-        let is_on_line = x(at).saturating_mul(y(after)) == y(at).saturating_mul(x(after));
-        before = at;
-        is_on_line
-    };
-    let has_straight = !is_kept && contour.iter().zip(next).any(&mut is_straight);
-    Ok(!has_straight && !sorted.windows(2).any(twice))
 }
 
 impl<I: OverlayInt> Overlay<I> {
@@ -140,29 +114,11 @@ impl<I: OverlayInt> Overlay<I> {
         answered(self.try_simplify_source(resource, fill_rule))
     }
 
-    /// Replaces the contours by this one, and tells what becomes of it.
-    fn outcome_of(&mut self, contour: &[IntPoint<I>], fill_rule: FillRule) -> Result<Outcome<I>, OverlayError> {
-        self.clear();
-        self.subject.add(contour)?;
-        let mut options = self.options.for_engine(self.solver);
-        if !has_corners_alone(contour, options.keeps_given)? || !self.ask(&Resolved)? {
-            return Ok(Outcome::NotSimple);
-        }
-        options.min_area = 0;
-        let shapes = self.ask(&Simplified(fill_rule, options, PhantomData))?;
-        let is_as_given = matches!(shapes.as_slice(), [it] if matches!(it.as_slice(), [it] if it == contour));
-        Ok(if is_as_given {
-            Outcome::AsGiven
-        } else {
-            Outcome::Turned(shapes)
-        })
-    }
-
     /// Replaces the contours by this one, and gives its shapes; none where it is a shape as it is given.
     ///
     /// A contour is simple that meets itself nowhere and has no point on one line with its two neighbours, unless
-    /// `preserve_input_collinear` keeps such points. As in
-    /// `i_overlay`, the smallest area plays no part for a simple one.
+    /// `preserve_input_collinear` keeps such points. As in `i_overlay`, the smallest area plays no part for a simple
+    /// one.
     ///
     /// # Errors
     /// As of [`Overlay::try_overlay`].
@@ -171,11 +127,10 @@ impl<I: OverlayInt> Overlay<I> {
         contour: &[IntPoint<I>],
         fill_rule: FillRule,
     ) -> Result<Option<IntShapes<I>>, OverlayError> {
-        match self.outcome_of(contour, fill_rule)? {
-            Outcome::NotSimple => self.try_overlay(OverlayRule::Subject, fill_rule).map(Some),
-            Outcome::AsGiven => Ok(None),
-            Outcome::Turned(shapes) => Ok(Some(shapes)),
-        }
+        self.clear();
+        self.subject.add(contour)?;
+        let options = self.options.for_engine(self.solver);
+        self.ask(&SimplifiedShape(fill_rule, options, PhantomData))
     }
 
     /// Replaces the contours by this one, and gives its shapes, as [`Self::try_simplify_contour`] does.
@@ -235,16 +190,17 @@ impl<I: OverlayInt> Overlay<I> {
         flat_buffer: &mut FlatContoursBuffer<I>,
         fill_rule: FillRule,
     ) -> Result<(), OverlayError> {
-        if flat_buffer.is_single_contour() {
-            match self.outcome_of(flat_buffer.as_first_contour(), fill_rule)? {
-                Outcome::NotSimple => {}
-                Outcome::AsGiven => return Ok(()),
-                Outcome::Turned(shapes) => return fill_buffer(flat_buffer, &shapes),
-            }
-        }
         self.clear();
         self.try_add_source(flat_buffer, ShapeType::Subject)?;
-        self.try_overlay_into(OverlayRule::Subject, fill_rule, flat_buffer)
+        if !flat_buffer.is_single_contour() {
+            return self.try_overlay_into(OverlayRule::Subject, fill_rule, flat_buffer);
+        }
+        let mut options = self.options.for_engine(self.solver);
+        options.may_touch = true;
+        match self.ask(&SimplifiedShape(fill_rule, options, PhantomData))? {
+            Some(shapes) => fill_buffer(flat_buffer, &shapes),
+            None => Ok(()),
+        }
     }
 
     /// Replaces the contours of a buffer by those to which they are simplified.

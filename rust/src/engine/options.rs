@@ -50,6 +50,35 @@ impl Options {
     }
 }
 
+/// How slices look, and how edges are split.
+#[derive(Debug, Clone, Copy)]
+pub(crate) struct SliceOptions {
+    pub(crate) is_clockwise: bool,
+    pub(crate) solver: Solver,
+    pub(crate) min_area: u128,
+}
+
+impl SliceOptions {
+    /// At 64 bits.
+    pub(crate) fn wide(&self) -> sys::SliceOptions64 {
+        sys::SliceOptions64 {
+            direction: self.is_clockwise.into(),
+            solver: self.solver.number(),
+            min_area_high: low(self.min_area >> 64),
+            min_area_low: low(self.min_area),
+        }
+    }
+
+    /// At 32 bits, as [`Options::narrow`].
+    pub(crate) fn narrow(&self) -> sys::SliceOptions32 {
+        sys::SliceOptions32 {
+            direction: self.is_clockwise.into(),
+            solver: self.solver.number(),
+            min_area: u64::try_from(self.min_area).unwrap_or(u64::MAX),
+        }
+    }
+}
+
 /// Which parts of lines a clip keeps.
 #[derive(Debug, Clone, Copy)]
 pub(crate) struct Keep {

@@ -1,6 +1,7 @@
 //! The calls of the library at each width, made safe.
 
 use super::given::Given;
+use super::graph::{Arranged, Graph};
 use super::held::Held;
 use super::ready::{Prepared, Ready};
 use super::sys;
@@ -8,7 +9,7 @@ use crate::core::answer::Either;
 use crate::core::fill_rule::FillRule;
 use crate::core::overlay_rule::OverlayRule;
 use crate::core::solver::Solver;
-use crate::engine::options::{Keep, Options};
+use crate::engine::options::{Keep, Options, SliceOptions};
 use crate::error::OverlayError;
 use ::core::ffi::CStr;
 
@@ -37,6 +38,22 @@ pub(crate) trait Engine: 'static + Sized {
 
     /// The shapes to which contours are simplified.
     fn simplify(fill: FillRule, options: &Options, contours: Given<'_, Self::C>) -> Result<Held<Self>, OverlayError>;
+
+    /// The same of a shape, where one simple contour is answered so whatever the smallest area is; and whether it is
+    /// answered as it is given.
+    fn simplify_shape(
+        fill: FillRule,
+        options: &Options,
+        contours: Given<'_, Self::C>,
+    ) -> Result<(Held<Self>, bool), OverlayError>;
+
+    /// The shapes into which lines cut a subject, as options ask.
+    fn slice_custom(
+        fill: FillRule,
+        options: &SliceOptions,
+        subject: Given<'_, Self::C>,
+        lines: Given<'_, Self::C>,
+    ) -> Result<Held<Self>, OverlayError>;
 
     /// The shapes into which lines cut a subject.
     fn slice(
@@ -88,9 +105,6 @@ pub(crate) trait Engine: 'static + Sized {
         clip: Given<'_, Self::C>,
     ) -> Result<bool, OverlayError>;
 
-    /// Whether each contour is resolved.
-    fn is_resolved(contours: Given<'_, Self::C>) -> Result<bool, OverlayError>;
-
     /// Writes where points lie in resolved contours; there is a place for each point.
     fn locate(shape: Given<'_, Self::C>, points: &[Self::C], locations: &mut [u8]) -> Result<(), OverlayError>;
 
@@ -100,11 +114,32 @@ pub(crate) trait Engine: 'static + Sized {
     /// Writes where points lie in a prepared shape.
     fn ask(prepared: &sys::Prepared, points: &[Self::C], locations: &mut [u8]) -> Result<(), OverlayError>;
 
+    /// Arranges a subject and a clip, with points on one line or without these.
+    fn arrange(
+        fill: FillRule,
+        solver: Solver,
+        keeps_given: bool,
+        subject: Given<'_, Self::C>,
+        clip: Given<'_, Self::C>,
+    ) -> Result<Graph, OverlayError>;
+
+    /// The shapes of an overlay of a graph.
+    fn graph_overlay(graph: &sys::Graph, rule: OverlayRule, options: &Options) -> Result<Held<Self>, OverlayError>;
+
+    /// The shapes of an overlay of a graph, with links.
+    fn graph_hierarchy(graph: &sys::Graph, rule: OverlayRule, options: &Options) -> Result<Held<Self>, OverlayError>;
+
+    /// The edges of a graph.
+    fn graph_edges(graph: &sys::Graph) -> Result<Held<Self>, OverlayError>;
+
     /// Frees an answer, which is without items then.
     fn free(answer: &mut sys::Answer<Self::C>);
 
     /// Frees a prepared shape, which is without a boundary then.
     fn free_prepared(prepared: &mut sys::Prepared);
+
+    /// Frees a graph, which is without edges then.
+    fn free_graph(graph: &mut sys::Graph);
 
     /// An answer as one of either width.
     fn either(held: Held<Self>) -> Either;
@@ -174,6 +209,31 @@ macro_rules! engine {
                 let (options, contours) = (options.$width(), contours.raw());
                 // SAFETY: as said above.
                 unsafe { Held::of(|to| sys::$width::simplify(fill.number(), &options, &contours, to)) }
+            }
+
+            fn simplify_shape(
+                fill: FillRule,
+                options: &Options,
+                contours: Given<'_, $c>,
+            ) -> Result<(Held<Self>, bool), OverlayError> {
+                let (fill, options, contours) = (fill.number(), options.$width(), contours.raw());
+                let mut as_given = 0;
+                let at = &mut as_given;
+                // SAFETY: as said above.
+                let held = unsafe { Held::of(|to| sys::$width::simplify_shape(fill, &options, &contours, to, at)) }?;
+                Ok((held, as_given == 1))
+            }
+
+            fn slice_custom(
+                fill: FillRule,
+                options: &SliceOptions,
+                subject: Given<'_, $c>,
+                lines: Given<'_, $c>,
+            ) -> Result<Held<Self>, OverlayError> {
+                let (fill, options) = (fill.number(), options.$width());
+                let (subject, lines) = (subject.raw(), lines.raw());
+                // SAFETY: as said above.
+                unsafe { Held::of(|to| sys::$width::slice_custom(fill, &options, &subject, &lines, to)) }
             }
 
             fn slice(
@@ -251,14 +311,6 @@ macro_rules! engine {
                 Ok(to == 1)
             }
 
-            fn is_resolved(contours: Given<'_, $c>) -> Result<bool, OverlayError> {
-                // SAFETY: as said above.
-                match unsafe { sys::$width::resolved(&contours.raw()) } {
-                    sys::NOT_RESOLVED => Ok(false),
-                    status => done(status).map(|()| true),
-                }
-            }
-
             fn locate(shape: Given<'_, $c>, points: &[$c], to: &mut [u8]) -> Result<(), OverlayError> {
                 let (shape, mut unresolved) = (shape.raw(), 0);
                 let (at, count, room) = (points.as_ptr(), points.len(), to.len());
@@ -283,6 +335,45 @@ macro_rules! engine {
                 done(unsafe { sys::$width::prepared_locate(prepared, at, count, to.as_mut_ptr(), room) })
             }
 
+            fn arrange(
+                fill: FillRule,
+                solver: Solver,
+                keeps_given: bool,
+                subject: Given<'_, $c>,
+                clip: Given<'_, $c>,
+            ) -> Result<Graph, OverlayError> {
+                let (fill, solver, keep) = (fill.number(), solver.number(), keeps_given.into());
+                let (subject, clip) = (subject.raw(), clip.raw());
+                // SAFETY: as said above.
+                let graph = unsafe { Arranged::of(|to| sys::$width::arrange(fill, solver, keep, &subject, &clip, to)) };
+                Ok(Graph::$engine(graph?))
+            }
+
+            fn graph_overlay(
+                graph: &sys::Graph,
+                rule: OverlayRule,
+                options: &Options,
+            ) -> Result<Held<Self>, OverlayError> {
+                let options = options.$width();
+                // SAFETY: as said above; the graph is one that `arrange` left.
+                unsafe { Held::of(|to| sys::$width::graph_overlay(graph, rule.number(), &options, to)) }
+            }
+
+            fn graph_hierarchy(
+                graph: &sys::Graph,
+                rule: OverlayRule,
+                options: &Options,
+            ) -> Result<Held<Self>, OverlayError> {
+                let options = options.$width();
+                // SAFETY: as for `graph_overlay`.
+                unsafe { Held::of(|to| sys::$width::graph_hierarchy(graph, rule.number(), &options, to)) }
+            }
+
+            fn graph_edges(graph: &sys::Graph) -> Result<Held<Self>, OverlayError> {
+                // SAFETY: as for `graph_overlay`.
+                unsafe { Held::of(|to| sys::$width::graph_edges(graph, to)) }
+            }
+
             fn free(answer: &mut sys::Answer<$c>) {
                 // SAFETY: the answer is one that the library left.
                 unsafe { sys::$width::free(answer) }
@@ -291,6 +382,11 @@ macro_rules! engine {
             fn free_prepared(prepared: &mut sys::Prepared) {
                 // SAFETY: the shape is one that the library left.
                 unsafe { sys::$width::prepared_free(prepared) }
+            }
+
+            fn free_graph(graph: &mut sys::Graph) {
+                // SAFETY: the graph is one that the library left.
+                unsafe { sys::$width::graph_free(graph) }
             }
 
             fn either(held: Held<Self>) -> Either {

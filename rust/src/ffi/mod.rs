@@ -1,9 +1,10 @@
 //! The library behind the crate: all `unsafe` of the crate is in this module. Outside it the calls are safe functions,
-//! from borrowed lists ([`Given`]) to owned answers ([`Held`], [`Ready`]).
+//! from borrowed lists ([`Given`]) to owned answers ([`Held`], [`Ready`], [`Graph`]).
 #![allow(unsafe_code)]
 
 mod calls;
 mod given;
+mod graph;
 mod held;
 #[cfg(polyover_native)]
 mod native;
@@ -12,5 +13,6 @@ pub(crate) mod sys;
 
 pub(crate) use calls::{is_proved, text_of, Engine, Narrow, Wide};
 pub(crate) use given::{coordinates_of, Given};
+pub(crate) use graph::Graph;
 pub(crate) use held::Held;
 pub(crate) use ready::{Prepared, Ready};

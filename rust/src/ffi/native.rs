@@ -136,6 +136,19 @@ unsafe fn free_shape(prepared: *mut sys::Prepared) {
     }
 }
 
+/// Frees the edges of a graph, and leaves it without one.
+///
+/// # Safety
+/// The pointer is to a graph of the library.
+unsafe fn free_graph(graph: *mut sys::Graph) {
+    // SAFETY: the caller's word.
+    unsafe {
+        let it = &mut *graph;
+        free_array(it.edges, it.edge_count);
+        *it = ::core::mem::zeroed();
+    }
+}
+
 #[no_mangle]
 unsafe extern "C" fn polyover_free(result: *mut sys::Answer<i64>) {
     // SAFETY: the caller's word.
@@ -158,6 +171,18 @@ unsafe extern "C" fn polyover_prepared_free(prepared: *mut sys::Prepared) {
 unsafe extern "C" fn polyover_prepared_free_32(prepared: *mut sys::Prepared) {
     // SAFETY: the caller's word.
     unsafe { free_shape(prepared) }
+}
+
+#[no_mangle]
+unsafe extern "C" fn polyover_graph_free(graph: *mut sys::Graph) {
+    // SAFETY: the caller's word.
+    unsafe { free_graph(graph) }
+}
+
+#[no_mangle]
+unsafe extern "C" fn polyover_graph_free_32(graph: *mut sys::Graph) {
+    // SAFETY: the caller's word.
+    unsafe { free_graph(graph) }
 }
 
 // ---- what it is made of

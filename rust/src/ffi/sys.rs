@@ -45,6 +45,23 @@ pub(crate) struct Options32 {
     pub(crate) min_area: u64,
 }
 
+/// `polyover_slice_options`.
+#[repr(C)]
+pub(crate) struct SliceOptions64 {
+    pub(crate) direction: u32,
+    pub(crate) solver: u32,
+    pub(crate) min_area_high: u64,
+    pub(crate) min_area_low: u64,
+}
+
+/// `polyover_slice_options_32`.
+#[repr(C)]
+pub(crate) struct SliceOptions32 {
+    pub(crate) direction: u32,
+    pub(crate) solver: u32,
+    pub(crate) min_area: u64,
+}
+
 /// `polyover_clip_options`.
 #[repr(C)]
 pub(crate) struct ClipOptions {
@@ -88,9 +105,19 @@ pub(crate) struct Prepared {
     pub(crate) group_count: usize,
 }
 
+/// `polyover_graph`, the same at both widths.
+#[repr(C)]
+pub(crate) struct Graph {
+    pub(crate) edges: *const u8,
+    pub(crate) edge_count: usize,
+    pub(crate) fill: u32,
+    pub(crate) solver: u32,
+    pub(crate) keep_given: u32,
+}
+
 /// Declares the calls at one width, whose names end in a suffix.
 macro_rules! calls {
-    ($width:ident, $c:ty, $options:ty, $suffix:literal) => {
+    ($width:ident, $c:ty, $options:ty, $slice_options:ty, $suffix:literal) => {
         /// The calls at this width.
         pub(crate) mod $width {
             use super::*;
@@ -119,6 +146,22 @@ macro_rules! calls {
                     fill: u32,
                     options: *const $options,
                     contours: *const Contours<$c>,
+                    result: *mut Answer<$c>,
+                ) -> Status;
+                #[link_name = concat!("polyover_simplify_shape_result", $suffix)]
+                pub(crate) fn simplify_shape(
+                    fill: u32,
+                    options: *const $options,
+                    contours: *const Contours<$c>,
+                    result: *mut Answer<$c>,
+                    as_given: *mut u32,
+                ) -> Status;
+                #[link_name = concat!("polyover_slice_custom_result", $suffix)]
+                pub(crate) fn slice_custom(
+                    fill: u32,
+                    options: *const $slice_options,
+                    subject: *const Contours<$c>,
+                    lines: *const Contours<$c>,
                     result: *mut Answer<$c>,
                 ) -> Status;
                 #[link_name = concat!("polyover_slice_result", $suffix)]
@@ -171,8 +214,6 @@ macro_rules! calls {
                     clip: *const Contours<$c>,
                     holds: *mut u32,
                 ) -> Status;
-                #[link_name = concat!("polyover_resolved", $suffix)]
-                pub(crate) fn resolved(contours: *const Contours<$c>) -> Status;
                 #[link_name = concat!("polyover_locate", $suffix)]
                 pub(crate) fn locate(
                     shape: *const Contours<$c>,
@@ -197,17 +238,44 @@ macro_rules! calls {
                     locations: *mut u8,
                     location_room: usize,
                 ) -> Status;
+                #[link_name = concat!("polyover_arrange", $suffix)]
+                pub(crate) fn arrange(
+                    fill: u32,
+                    solver: u32,
+                    keep_given: u32,
+                    subject: *const Contours<$c>,
+                    clip: *const Contours<$c>,
+                    graph: *mut Graph,
+                ) -> Status;
+                #[link_name = concat!("polyover_graph_overlay_result", $suffix)]
+                pub(crate) fn graph_overlay(
+                    graph: *const Graph,
+                    rule: u32,
+                    options: *const $options,
+                    result: *mut Answer<$c>,
+                ) -> Status;
+                #[link_name = concat!("polyover_graph_hierarchy_result", $suffix)]
+                pub(crate) fn graph_hierarchy(
+                    graph: *const Graph,
+                    rule: u32,
+                    options: *const $options,
+                    result: *mut Answer<$c>,
+                ) -> Status;
+                #[link_name = concat!("polyover_graph_edges_result", $suffix)]
+                pub(crate) fn graph_edges(graph: *const Graph, result: *mut Answer<$c>) -> Status;
                 #[link_name = concat!("polyover_free", $suffix)]
                 pub(crate) fn free(result: *mut Answer<$c>);
                 #[link_name = concat!("polyover_prepared_free", $suffix)]
                 pub(crate) fn prepared_free(prepared: *mut Prepared);
+                #[link_name = concat!("polyover_graph_free", $suffix)]
+                pub(crate) fn graph_free(graph: *mut Graph);
             }
         }
     };
 }
 
-calls!(wide, i64, Options64, "");
-calls!(narrow, i32, Options32, "_32");
+calls!(wide, i64, Options64, SliceOptions64, "");
+calls!(narrow, i32, Options32, SliceOptions32, "_32");
 
 extern "C" {
     pub(crate) fn polyover_status_text(status: Status) -> *const c_char;

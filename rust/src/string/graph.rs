@@ -18,18 +18,20 @@ pub struct StringGraph<'a, I: OverlayInt> {
 }
 
 impl<I: OverlayInt> StringGraph<'_, I> {
-    /// The shapes into which the strings cut the shape. This version has no options for them yet.
+    /// The shapes into which the strings cut the shape, in the direction of the options and without contours below
+    /// their smallest area. The shapes keep all points, and no contour visits a point twice, whatever the options say.
     ///
     /// # Errors
-    /// As of [`StringOverlay::try_slice`]; `NotHad`, of each option that is not the default one.
+    /// As of [`StringOverlay::try_slice`]; `NotHad`, of the option `preserve_input_collinear`.
     pub fn try_extract_shapes_custom(
         &self,
         rule: StringRule,
         options: IntOverlayOptions<I::WideUInt>,
     ) -> Result<IntShapes<I>, OverlayError> {
-        options.refuse_any()?;
         match rule {
-            StringRule::Slice => self.overlay.try_slice(self.fill, self.solver),
+            StringRule::Slice => self
+                .overlay
+                .try_slice_custom(self.fill, options.for_slices(self.solver)?),
         }
     }
 

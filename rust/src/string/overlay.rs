@@ -5,7 +5,7 @@ use crate::core::integer::OverlayInt;
 use crate::core::overlay::IntOverlayOptions;
 use crate::core::solver::Solver;
 use crate::engine::lists::{contours_of, shapes_of};
-use crate::engine::options::Keep;
+use crate::engine::options::{Keep, SliceOptions};
 use crate::engine::paths::Paths;
 use crate::engine::width::Query;
 use crate::error::{answered, OverlayError};
@@ -37,6 +37,16 @@ impl<I: OverlayInt> Query for Sliced<I> {
 
     fn ask<E: Engine>(&self, first: Given<'_, E::C>, second: Given<'_, E::C>) -> Result<IntShapes<I>, OverlayError> {
         shapes_of(&E::slice(self.0, self.1, first, second)?)
+    }
+}
+
+struct SlicedSo<I>(FillRule, SliceOptions, PhantomData<I>);
+
+impl<I: OverlayInt> Query for SlicedSo<I> {
+    type Answer = IntShapes<I>;
+
+    fn ask<E: Engine>(&self, first: Given<'_, E::C>, second: Given<'_, E::C>) -> Result<IntShapes<I>, OverlayError> {
+        shapes_of(&E::slice_custom(self.0, &self.1, first, second)?)
     }
 }
 
@@ -257,6 +267,16 @@ impl<I: OverlayInt> StringOverlay<I> {
         self.options.refuse_any()?;
         let query = Sliced(fill_rule, solver, PhantomData);
         I::ask(&query, self.shape.as_given(), self.strings.as_given())
+    }
+
+    /// The same, as options of slices ask.
+    pub(crate) fn try_slice_custom(&self, fill: FillRule, options: SliceOptions) -> Result<IntShapes<I>, OverlayError> {
+        self.options.refuse_any()?;
+        I::ask(
+            &SlicedSo(fill, options, PhantomData),
+            self.shape.as_given(),
+            self.strings.as_given(),
+        )
     }
 
     /// The tiles into which the cells of a grid cut the shape, each in one cell. Cells are `width` wide and `height`

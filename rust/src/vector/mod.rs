@@ -2,35 +2,23 @@
 
 pub mod edge;
 
-use crate::core::fill_rule::FillRule;
 use crate::core::integer::OverlayInt;
-use crate::core::overlay::queries::Nested;
-use crate::core::overlay::Overlay;
-use crate::core::overlay_rule::OverlayRule;
 use crate::engine::lists::with_room;
 use crate::error::OverlayError;
 use crate::i_float::int::point::IntPoint;
+use crate::i_shape::int::shape::IntShape;
 use crate::vector::edge::{DataVectorEdge, Reverse, VectorPath, VectorShape};
-use ::core::marker::PhantomData;
 use alloc::vec::Vec;
 
-/// The shapes of an overlay as edges, by the edges of its arrangement.
-///
-/// The library has no call for this yet: the contours are those of an overlay that keeps all points, of the same
-/// arrangement. Each step of them is one of its edges.
+/// The shapes of an overlay that keeps all points as edges, by the edges of its arrangement: each step of them is one
+/// of these. Neighbours on one line with equal filled sides are joined where that is asked.
 pub(crate) fn shapes_by<I: OverlayInt>(
-    overlay: &Overlay<I>,
+    found: &[IntShape<I>],
     edges: &[DataVectorEdge<I>],
-    rule: OverlayRule,
-    fill: FillRule,
+    is_joined: bool,
 ) -> Result<Vec<VectorShape<I>>, OverlayError> {
-    let mut asked = overlay.asked(rule, fill);
-    let is_joined = !asked.options.keeps_points;
-    asked.options.keeps_points = true;
-    asked.options.may_touch = true;
-    let found = overlay.ask(&Nested(asked, PhantomData))?;
     let mut shapes = with_room(found.len())?;
-    for contours in &found {
+    for contours in found {
         let mut shape = with_room(contours.len())?;
         for contour in contours {
             shape.push(path_of(edges, contour, is_joined)?);

@@ -1,7 +1,7 @@
 //! How answers look.
 
 use crate::core::solver::Solver;
-use crate::engine::options::Options;
+use crate::engine::options::{Options, SliceOptions};
 use crate::error::OverlayError;
 use crate::i_float::int::number::uint::UIntNumber;
 
@@ -9,9 +9,6 @@ use crate::i_float::int::number::uint::UIntNumber;
 #[derive(Debug, Clone, Copy, PartialEq, Eq)]
 pub struct IntOverlayOptions<U: UIntNumber> {
     /// Whether points of given contours on one line with their neighbours are nodes of the arrangement.
-    ///
-    /// This version has it not yet: where it is true, each query is refused
-    /// ([`NotHad`](crate::error::OverlayError::NotHad)).
     pub preserve_input_collinear: bool,
     /// Which way outlines run; holes run the other way.
     pub output_direction: ContourDirection,
@@ -82,13 +79,18 @@ impl<U: UIntNumber> IntOverlayOptions<U> {
         }
     }
 
-    /// Refuses to keep given points, which edges of an arrangement have not yet.
-    pub(crate) fn refuse_given(&self) -> Result<(), OverlayError> {
+    /// The options of slices as the library takes them: a direction and a smallest area. Slices keep all points, and
+    /// visit no point twice. Given points on one line were dropped, or kept, as they were added: to ask for them is
+    /// refused.
+    pub(crate) fn for_slices(&self, solver: Solver) -> Result<SliceOptions, OverlayError> {
         if self.preserve_input_collinear {
-            Err(OverlayError::NotHad("preserve_input_collinear"))
-        } else {
-            Ok(())
+            return Err(OverlayError::NotHad("preserve_input_collinear"));
         }
+        Ok(SliceOptions {
+            is_clockwise: self.output_direction == ContourDirection::Clockwise,
+            solver,
+            min_area: self.min_output_area.into(),
+        })
     }
 
     /// Refuses the first option that is not the default one, by its name.

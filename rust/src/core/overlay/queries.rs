@@ -12,7 +12,7 @@ use crate::engine::lists::{listed, make_room_instead, points_of, ranges, shapes_
 use crate::engine::options::Options;
 use crate::engine::width::Query;
 use crate::error::{answered, OverlayError};
-use crate::ffi::{sys, Engine, Given};
+use crate::ffi::{sys, Engine, Given, Graph, Held};
 use crate::i_shape::flat::buffer::{FlatContoursBuffer, FlatShapesBuffer};
 use crate::i_shape::int::shape::IntShapes;
 use crate::vector::edge::{DataVectorEdge, VectorShape};
@@ -45,20 +45,24 @@ impl<I: OverlayInt> Query for Linked<I> {
     type Answer = FlatShapeHierarchy<I>;
 
     fn ask<E: Engine>(&self, first: Given<'_, E::C>, second: Given<'_, E::C>) -> Result<Self::Answer, OverlayError> {
-        let held = E::hierarchy(self.0.rule, self.0.fill, &self.0.options, first, second)?;
-        let shapes = FlatShapesBuffer {
-            points: listed(held.coordinates().len() / 2, points_of(held.coordinates()))?,
-            contour_ranges: listed(held.contour_ends().len(), ranges(held.contour_ends()))?,
-            shape_ranges: listed(held.shape_ends().len(), ranges(held.shape_ends()))?,
-        };
-        let link = |it: &sys::Link| ChildLink {
-            parent_shape_index: it.parent_shape,
-            parent_contour_index: it.parent_contour,
-            child_shape_index: it.child_shape,
-        };
-        let links = listed(held.links().len(), held.links().iter().map(link))?;
-        Ok(FlatShapeHierarchy { shapes, links })
+        linked_of(&E::hierarchy(self.0.rule, self.0.fill, &self.0.options, first, second)?)
     }
+}
+
+/// The shapes of an answer in flat lists, and their links.
+pub(crate) fn linked_of<I: OverlayInt, E: Engine>(held: &Held<E>) -> Result<FlatShapeHierarchy<I>, OverlayError> {
+    let shapes = FlatShapesBuffer {
+        points: listed(held.coordinates().len() / 2, points_of(held.coordinates()))?,
+        contour_ranges: listed(held.contour_ends().len(), ranges(held.contour_ends()))?,
+        shape_ranges: listed(held.shape_ends().len(), ranges(held.shape_ends()))?,
+    };
+    let link = |it: &sys::Link| ChildLink {
+        parent_shape_index: it.parent_shape,
+        parent_contour_index: it.parent_contour,
+        child_shape_index: it.child_shape,
+    };
+    let links = listed(held.links().len(), held.links().iter().map(link))?;
+    Ok(FlatShapeHierarchy { shapes, links })
 }
 
 /// Contours in a flat list, which takes them once all is there.
@@ -70,14 +74,22 @@ impl<I: OverlayInt> Query for Flat<'_, I> {
     fn ask<E: Engine>(&self, first: Given<'_, E::C>, second: Given<'_, E::C>) -> Result<(), OverlayError> {
         let held = E::overlay(self.0.rule, self.0.fill, &self.0.options, first, second)?;
         let mut output = self.1.try_borrow_mut().map_err(|_| OverlayError::Memory)?;
-        make_room_instead(&mut output.points, held.coordinates().len() / 2)?;
-        make_room_instead(&mut output.ranges, held.contour_ends().len())?;
-        output.points.clear();
-        output.ranges.clear();
-        output.points.extend(points_of(held.coordinates()));
-        output.ranges.extend(ranges(held.contour_ends()));
-        Ok(())
+        flat_into(&held, &mut output)
     }
+}
+
+/// Puts the contours of an answer in the place of those of a flat list, which stay where there is no room.
+pub(crate) fn flat_into<I: OverlayInt, E: Engine>(
+    held: &Held<E>,
+    output: &mut FlatContoursBuffer<I>,
+) -> Result<(), OverlayError> {
+    make_room_instead(&mut output.points, held.coordinates().len() / 2)?;
+    make_room_instead(&mut output.ranges, held.contour_ends().len())?;
+    output.points.clear();
+    output.ranges.clear();
+    output.points.extend(points_of(held.coordinates()));
+    output.ranges.extend(ranges(held.contour_ends()));
+    Ok(())
 }
 
 /// Edges with their filled sides.
@@ -87,13 +99,36 @@ impl<I: OverlayInt> Query for Listed<I> {
     type Answer = Vec<DataVectorEdge<I>>;
 
     fn ask<E: Engine>(&self, first: Given<'_, E::C>, second: Given<'_, E::C>) -> Result<Self::Answer, OverlayError> {
-        let held = E::edges(self.0, self.1, first, second)?;
-        let mut ends = points_of(held.coordinates());
-        let edge = |&fill: &u8| {
-            let (a, b, data) = (ends.next()?, ends.next()?, ());
-            Some(DataVectorEdge { a, b, fill, data })
-        };
-        listed(held.fills().len(), held.fills().iter().map_while(edge))
+        edges_of(&E::edges(self.0, self.1, first, second)?)
+    }
+}
+
+/// The edges of an answer.
+pub(crate) fn edges_of<I: OverlayInt, E: Engine>(held: &Held<E>) -> Result<Vec<DataVectorEdge<I>>, OverlayError> {
+    let mut ends = points_of(held.coordinates());
+    let edge = |&fill: &u8| {
+        let (a, b, data) = (ends.next()?, ends.next()?, ());
+        Some(DataVectorEdge { a, b, fill, data })
+    };
+    listed(held.fills().len(), held.fills().iter().map_while(edge))
+}
+
+/// The edges of a graph.
+pub(crate) fn edges_of_graph<I: OverlayInt>(graph: &Graph) -> Result<Vec<DataVectorEdge<I>>, OverlayError> {
+    match graph {
+        Graph::Narrow(it) => edges_of(&it.edges()?),
+        Graph::Wide(it) => edges_of(&it.edges()?),
+    }
+}
+
+/// A graph of the arrangement, with given points on one line or without these.
+pub(crate) struct Arranging(pub(crate) FillRule, pub(crate) Solver, pub(crate) bool);
+
+impl Query for Arranging {
+    type Answer = Graph;
+
+    fn ask<E: Engine>(&self, first: Given<'_, E::C>, second: Given<'_, E::C>) -> Result<Graph, OverlayError> {
+        E::arrange(self.0, self.1, self.2, first, second)
     }
 }
 
@@ -194,9 +229,12 @@ impl<I: OverlayInt> Overlay<I> {
     /// The edges of the arrangement, with their filled sides.
     ///
     /// # Errors
-    /// As of [`Self::try_overlay`]; `NotHad`, of the option `preserve_input_collinear`.
+    /// As of [`Self::try_overlay`].
     pub fn try_build_separate_vectors(&self, fill_rule: FillRule) -> Result<Vec<DataVectorEdge<I>>, OverlayError> {
-        self.options.refuse_given()?;
+        if self.options.preserve_input_collinear {
+            let graph = self.ask(&Arranging(fill_rule, self.solver, true))?;
+            return edges_of_graph(&graph);
+        }
         self.ask(&Listed(fill_rule, self.solver, PhantomData))
     }
 
@@ -219,8 +257,10 @@ impl<I: OverlayInt> Overlay<I> {
         fill_rule: FillRule,
         overlay_rule: OverlayRule,
     ) -> Result<Vec<VectorShape<I>>, OverlayError> {
-        let edges = self.try_build_separate_vectors(fill_rule)?;
-        crate::vector::shapes_by(self, &edges, overlay_rule, fill_rule)
+        match self.try_build_graph_view(fill_rule)? {
+            Some(view) => view.try_extract_vector_shapes(overlay_rule),
+            None => Ok(Vec::new()),
+        }
     }
 
     /// The shapes of an overlay, as edges with their filled sides, as of [`Self::try_build_shape_vectors`].

@@ -35,8 +35,8 @@ returns-else-not-is_empty g c =
             λ m at equal. false≢true (sym w.if-is_start.false ∙ w.is_start.ensures.1
                 (subst (λ x. AreEqual (met x).part start_part) w.index-met-0.is
                 (subst (λ (n : Met). AreEqual n.part start_part)
-                (one_entry ms 0 m (met w.index-met-0.result) at (placed_in_mapped met c.args.met.now 0 w.index-met-0.result
-                (grind (arith, empty, some)) w.index-met-0.is)) equal))),
+                (one_entry ms 0 m (met w.index-met-0.result) at (placed_in_mapped met c.args.met.now 0
+                w.index-met-0.result (grind (arith, empty, some)) w.index-met-0.is)) equal))),
           )
       | else-not-is_empty-via-else-not-is_empty w ↦
           let none = w.if-not-is_empty.false in

@@ -1,5 +1,6 @@
 -- The walk begins at the edge's start, goes on from group to group, and ends where no piece is left.
-use Rattle.std.proofs.Common.{◌≡◌, inl, inr, ◌+◌, ◌-◌, ◌*◌, ◌<◌, ◌≤◌, true, false, [], ◌∷◌, ◌++◌, length, take, slice_range, map, sym, ap}
+use Rattle.std.proofs.Common.{◌≡◌, inl, inr, ◌+◌, ◌-◌, ◌*◌, ◌<◌, ◌≤◌, true, false, [], ◌∷◌, ◌++◌, length, take}
+use Rattle.std.proofs.Common.{slice_range, map, sym, ap}
 use Rattle.std.proofs.Common.{subst, ◌∙◌, arith}
 use Rattle.std.proofs.lemmas.Bool.{false≢true}
 use Rattle.std.proofs.lemmas.List.{length-map, length-take-le}
@@ -117,7 +118,8 @@ loop-from-init g c =
             entry = at;
             met = c.requires.met e at;
           } in
-          let is : plain c.index-edges-i.result ≡ e = one_entry es c.args.i (plain c.index-edges-i.result) e here at in (
+          let is : plain c.index-edges-i.result ≡ e =
+          one_entry es c.args.i (plain c.index-edges-i.result) e here at in (
             filled_beside filled b ∷ [],
             c.in_ok-push.ensures.items ∙ ap (λ x. c.args.sides.now.items ++ x ∷ []) c.filled.ensures,
             walk_starts filled es c.args.i e ms given c.requires.balanced first c.first_end-from.ensures b

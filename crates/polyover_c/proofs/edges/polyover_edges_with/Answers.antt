@@ -1,5 +1,5 @@
 -- The contours that are handed on are those of C.
-use Rattle.polyover_c.proofs.edges.polyover_edges.Goals as goal
+use Rattle.polyover_c.proofs.edges.polyover_edges_with.Goals as goal
 
 pub returns : goal.returns
 returns c = (

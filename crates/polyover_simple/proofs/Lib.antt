@@ -1,0 +1,3 @@
+pub mod OneTelling
+pub mod Simplified
+pub mod Telling

@@ -1,0 +1,4 @@
+pub mod Along
+pub mod Asking
+pub mod OneArrangement
+pub mod OneAsking

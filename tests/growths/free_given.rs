@@ -1,0 +1,57 @@
+//! Free functions of `overlay_given`.
+
+use crate::figures::{Width, point};
+use crate::refusals::Trial;
+use overlay_exact::exact_int::ExactInt;
+use overlay_exact::meetings::find_meetings;
+use overlay_geom::fill_rule::FillRule;
+use overlay_given::relations::interior_relations;
+use overlay_given::walk::find_sides;
+use overlay_order::count::ShapeCountBoolean;
+use overlay_order::edge::CountedEdge;
+use std::process::Abort;
+use std::test::Fail;
+
+// An edge between these points, with the counts of the subject and of the clip.
+fn counted<I: Width>(ends: [i16; 4], subj: i32, clip: i32) -> CountedEdge<I, ShapeCountBoolean> {
+    CountedEdge {
+        a: point(ends[0], ends[1]),
+        b: point(ends[2], ends[3]),
+        count: ShapeCountBoolean { subj, clip },
+    }
+}
+
+// A square of the subject from (0, 0) to (4, 4), and of the clip from (2, 2) to (6, 6). They cross in (2, 4), (4, 2),
+// so four of their eight edges have two pieces.
+fn squares<I: Width>() -> [CountedEdge<I, ShapeCountBoolean>; 8] {
+    [
+        counted([0, 0, 0, 4], -1, 0),
+        counted([0, 0, 4, 0], 1, 0),
+        counted([0, 4, 4, 4], -1, 0),
+        counted([2, 2, 2, 6], 0, -1),
+        counted([2, 2, 6, 2], 0, 1),
+        counted([2, 6, 6, 6], 0, -1),
+        counted([4, 0, 4, 4], 1, 0),
+        counted([6, 2, 6, 6], 0, 1),
+    ]
+}
+
+fn check_relations<I: Width + ExactInt>(trial: &Trial<'_, impl Abort>) -> Result<(), Fail> {
+    let memory = trial.memory;
+    let edges = squares::<I>();
+    let found = trial.refuse_call("overlay_given::interior_relations", || {
+        interior_relations(memory, &edges, FillRule::NonZero)
+    })?;
+    assert!(trial.rt; found.interiors_intersect && !found.within && !found.covers);
+    let met = find_meetings(memory, &edges)?;
+    let sides = trial.refuse_call("overlay_given::find_sides", || {
+        find_sides(memory, &edges, &met, FillRule::NonZero)
+    })?;
+    assert!(trial.rt; sides.len() == 12);
+    Ok(())
+}
+
+#[test]
+fn relations_of_edges_as_given(rt: HostRuntime) -> Result<(), Fail> {
+    at_a_width!(rt, check_relations)
+}
