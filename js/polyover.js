@@ -9,16 +9,16 @@
 import { Polyover } from "./calls.js";
 import { LibraryMissing } from "./errors.js";
 import { checkNames, truth } from "./options.js";
-import { RemotePolyover } from "./remote.js";
+import { RemoteArrangement, RemotePolyover, RemotePrepared } from "./remote.js";
 
 export { LOCATIONS } from "./abi.js";
 export { multiLineString, multiPolygon } from "./answers.js";
 export { Arrangement } from "./arrangement.js";
-export { Polyover } from "./calls.js";
 export * from "./errors.js";
 export { Flat, FlatShapes } from "./flat.js";
 export { Prepared } from "./prepared.js";
-export { RemoteArrangement, RemotePolyover, RemotePrepared } from "./remote.js";
+// (not from "./calls.js" once more: the page in one file holds a module for each time that it is named)
+export { Polyover, RemoteArrangement, RemotePolyover, RemotePrepared };
 
 // (bundlers for browsers leave a name in a variable alone)
 const FILES = "node:fs/promises";
