@@ -108,7 +108,7 @@ static void TEST(graphs_by_default)(void) {
         GRAPH graph = TEST(some_graph)();
         RESULT result = TEST(some_result)();
         CHECK(NAME(polyover_arrange)(POLYOVER_NON_ZERO, solver, 0, &subject, &clip, &graph) == POLYOVER_OK);
-        /* (each square has two sides that the other one crosses) */
+        /* (two sides of each square cross the other square) */
         CHECK(graph.edge_count == 12);
         CHECK(NAME(polyover_graph_overlay_result)(&graph, POLYOVER_INTERSECT, NULL, &result) == POLYOVER_OK);
         CHECK(TEST(are_same)(result.coordinates, result.coordinate_count, common, 8, sizeof(NUMBER)));

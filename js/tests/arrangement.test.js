@@ -45,7 +45,7 @@ test("answers by hand", () => {
     assert.deepEqual(both.overlay({ rule: "intersect" }), [[[[2, 4], [2, 2], [4, 2], [4, 4]]]]);
     assert.equal(both.overlay().length, 1);
     assert.equal(both.overlay({ rule: "xor" }).length, 2);
-    // (each square has two sides that the other one crosses)
+    // (two sides of each square cross the other square)
     assert.equal(both.edges().length, 12);
     both.free();
   }

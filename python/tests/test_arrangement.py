@@ -35,7 +35,7 @@ class Answers(unittest.TestCase):
             self.assertEqual(both.overlay("subject"), [[SQUARE[-1:] + SQUARE[:-1]]])
             self.assertEqual(both.overlay("difference", clockwise=True), polyover.difference([SQUARE], [OTHER],
                              clockwise=True))
-            # (each square has two sides that the other one crosses)
+            # (two sides of each square cross the other square)
             self.assertEqual(len(both.edges()), 12)
 
     def test_as_the_calls(self):

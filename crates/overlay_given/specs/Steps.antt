@@ -30,7 +30,7 @@ abbrev pub above_by : Stop → Edge → Edge → ℤ
 above_by First e f = one_if (is_right_of e f.b) +ℤ one_if (leads_on e f)
 above_by Later e f = one_if (is_left_of e f.a) -ℤ one_if (is_left_of e f.b)
 
--- the counts of the edges met at these points of e, each taken so many times, sum up to these numbers
+-- the sums, over the edges met at these points of e, of each count times its number of steps
 pub record Rises (at : Stop) (es : List CountedEdge) (e : CountedEdge) (met : List Met)
     (b : Beside) : Type 0 where
   pub subj_below : b.subj_below ≡ total_met (λ f. subj_of f *ℤ below_by at (ends_of e) (ends_of f)) es e met

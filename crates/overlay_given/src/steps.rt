@@ -126,7 +126,7 @@ pub(crate) fn counted<I: IntNumber, C: EdgeCount>(f: &CountedEdge<I, C>, steps: 
     }
 }
 
-// Returns the count, taken so many times.
+// Returns the product of the count and the number of steps.
 fn times(count: i32, steps: i32) -> i128
     requires { Within 2 steps }
     ensures value { result ≡ count *ℤ steps }
