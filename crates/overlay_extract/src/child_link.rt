@@ -21,7 +21,7 @@ pub struct ChildLink {
 
 /// Compares two links in the derived order: by the number of the parent shape, then by the place of the hole, then by
 /// the number of the child shape. This is the law of that order, which agrees with `==`.
-pub fn order_of_links(k: &ChildLink, l: &ChildLink) -> Ordering
+pub(crate) fn order_of_links(k: &ChildLink, l: &ChildLink) -> Ordering
     ensures order { result ≡ link_order (plain_link k.now) (plain_link l.now) }
     ensures before { is_lt result ≡ is_link_before k.now l.now }
     ensures equal { IsTrue (is_eq result) ↔ (k.now ≡ l.now) }

@@ -17,7 +17,7 @@ use Rattle.overlay_plane.proofs.Tests.{ge_from_test, test_from_ge, lt_from_test}
 use Rattle.overlay_relate.specs.Answers.{AnswersEach}
 use Rattle.overlay_relate.specs.Queries.{plain_query, plain_queries, points_asked, AreQueries, IsAnswered}
 use Rattle.overlay_relate.specs.Runs.{AreByX}
-use Rattle.overlay_relate.specs.declared.queries.Query.{Query}
+use Rattle.overlay_relate.specs.declared.queries.PointQuery.{PointQuery}
 use Rattle.overlay_relate.proofs.Answered.{answers_weaker}
 
 -- sorted, they are the queries
@@ -31,7 +31,7 @@ queries_sorted points qs rs is moved order = record {
 
 -- the abscissas are an order
 module _ {I : Type 0} (whole : I → ℤ) where
-  abbrev pub is_left : Query I → Query I → Bool
+  abbrev pub is_left : PointQuery I → PointQuery I → Bool
   is_left q r = int_lt (whole q.point.x) (whole r.point.x)
 
   pub is_left-order : IsStrictWeakOrder is_left
@@ -43,7 +43,7 @@ module _ {I : Type 0} (whole : I → ℤ) where
         test_from_ge (whole q.point.x) (whole s.point.x) (omega (arith, ints));
   }
 
-  pub by_x-from_sorted : (qs : List (Query I)) → IsSortedBy is_left qs → AllPairs (λ q r. q.item.x ≤ℤ r.item.x)
+  pub by_x-from_sorted : (qs : List (PointQuery I)) → IsSortedBy is_left qs → AllPairs (λ q r. q.item.x ≤ℤ r.item.x)
       (plain_queries whole qs)
   by_x-from_sorted qs up = AllPairs-map (λ (q r : Numbered Point). q.item.x ≤ℤ r.item.x) (plain_query whole) qs
       (λ j k d l m. ge_from_test (whole (get_or qs k d).point.x) (whole (get_or qs j d).point.x)

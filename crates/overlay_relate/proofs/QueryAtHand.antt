@@ -9,7 +9,7 @@ use Rattle.overlay_geom.proofs.Mapped.{read_mapped}
 use Rattle.overlay_scan.specs.Scan.{Sweep, MayMoveTo}
 use Rattle.overlay_relate.specs.Queries.{plain_query, plain_queries, AreQueries}
 use Rattle.overlay_relate.specs.Sweeps.{IsSwept}
-use Rattle.overlay_relate.specs.declared.queries.Query.{Query}
+use Rattle.overlay_relate.specs.declared.queries.PointQuery.{PointQuery}
 
 -- a query that is read at place i of those of the points
 pub record IsQueryAt (points : List Point) (qs : List (Numbered Point)) (i : ℕ) (q : Numbered Point) : Type 0 where
@@ -19,8 +19,8 @@ pub record IsQueryAt (points : List Point) (qs : List (Numbered Point)) (i : ℕ
   pub placed : q.place < length points
   pub point : get_or points q.place q.item ≡ q.item
 
-pub query_read : {I : Type 0} (whole : I → ℤ) (points : List Point) (rs held : List (Query I)) → rs ≡ held →
-    AreQueries points (plain_queries whole held) → (i : ℕ) (q : Query I) → i < length rs → q ≡ get_or rs i q →
+pub query_read : {I : Type 0} (whole : I → ℤ) (points : List Point) (rs held : List (PointQuery I)) → rs ≡ held →
+    AreQueries points (plain_queries whole held) → (i : ℕ) (q : PointQuery I) → i < length rs → q ≡ get_or rs i q →
     IsQueryAt points (plain_queries whole rs) i (plain_query whole q)
 query_read whole points rs held same are i q lt is =
     let qs = plain_queries whole rs in

@@ -3,13 +3,13 @@ use Rattle.std.specs.Prelude.{◌≡◌, ℕ, ◌<◌, ℤ, ◌≤ℤ◌, List, 
 use Rattle.overlay_geom.specs.Numbered.{Numbered, AreNumbered}
 use Rattle.overlay_geom.specs.Plane.{Point}
 use Rattle.overlay_geom.specs.Points.{plain_point}
-use Rattle.overlay_relate.specs.declared.queries.Query.{Query}
+use Rattle.overlay_relate.specs.declared.queries.PointQuery.{PointQuery}
 
 -- a query as its whole point, and its place among those asked for
-abbrev pub plain_query : {I : Type 0} → (I → ℤ) → Query I → Numbered Point
+abbrev pub plain_query : {I : Type 0} → (I → ℤ) → PointQuery I → Numbered Point
 plain_query whole q = record { item = plain_point whole q.point; place = q.place }
 
-abbrev pub plain_queries : {I : Type 0} → (I → ℤ) → List (Query I) → List (Numbered Point)
+abbrev pub plain_queries : {I : Type 0} → (I → ℤ) → List (PointQuery I) → List (Numbered Point)
 plain_queries whole qs = map (plain_query whole) qs
 
 -- they are the points by their abscissas, each with its place

@@ -13,7 +13,7 @@ use std::alloc::{AllocError, Allocator};
 
 /// A point that is asked for.
 #[derive(Clone, Copy)]
-pub(crate) struct Query<I> {
+pub(crate) struct PointQuery<I> {
     /// The point.
     pub point: IntPoint<I>,
     /// Its place among the points.
@@ -24,7 +24,7 @@ pub(crate) struct Query<I> {
 pub(crate) fn queries_by_x<I: IntNumber, A: Allocator>(
     alloc: A,
     points: &[IntPoint<I>],
-) -> Result<Vec<Query<I>, A>, AllocError>
+) -> Result<Vec<PointQuery<I>, A>, AllocError>
     ensures queries { IfOk result (λ v. AreQueries (plain_points I.whole points.now) (plain_queries I.whole v.items)) }
 {
     let mut queries = queries_in_order(alloc, points)?;
@@ -36,12 +36,12 @@ pub(crate) fn queries_by_x<I: IntNumber, A: Allocator>(
 fn queries_in_order<I: IntNumber, A: Allocator>(
     alloc: A,
     points: &[IntPoint<I>],
-) -> Result<Vec<Query<I>, A>, AllocError>
+) -> Result<Vec<PointQuery<I>, A>, AllocError>
     ensures ok { IfOk result (λ v. plain_queries I.whole v.items ≡ numbered 0 (plain_points I.whole points.now)) }
 {
     let mut queries = Vec::with_capacity(alloc, points.len())?;
     for (place, point) in points.iter().enumerate() {
-        queries.push(Query {
+        queries.push(PointQuery {
             point: *point,
             place,
         })?;
@@ -52,7 +52,7 @@ fn queries_in_order<I: IntNumber, A: Allocator>(
 /// The points of the queries, in their order.
 pub(crate) fn points_asked<I: IntNumber, A: Allocator>(
     alloc: A,
-    queries: &[Query<I>],
+    queries: &[PointQuery<I>],
 ) -> Result<Vec<IntPoint<I>, A>, AllocError>
     ensures ok { IfOk result (λ v. plain_points I.whole v.items ≡ points_asked (plain_queries I.whole queries.now)) }
 {
@@ -67,7 +67,7 @@ pub(crate) fn points_asked<I: IntNumber, A: Allocator>(
 pub(crate) fn in_given_order<I: IntNumber, A: Allocator>(
     alloc: A,
     points: &[IntPoint<I>],
-    queries: &[Query<I>],
+    queries: &[PointQuery<I>],
     answers: &[PointLocation],
 ) -> Result<Vec<PointLocation, A>, AllocError>
     requires queries { AreQueries (plain_points I.whole points.now) (plain_queries I.whole queries.now) }

@@ -218,7 +218,7 @@ impl<I: IntNumber, V: Copy, A: Allocator> Scan<I, V> for ScanList<I, V, A> {
 }
 
 /// Makes a live edge of a line and its value.
-pub fn live_edge<I: IntNumber, V: Copy>(line: IntLine<I>, value: V) -> LiveEdge<I, V>
+pub(crate) fn live_edge<I: IntNumber, V: Copy>(line: IntLine<I>, value: V) -> LiveEdge<I, V>
     ensures { plain_entry I.whole result ≡ record { edge = plain_line I.whole line; value = value } }
 {
     let [a, b] = line;
@@ -226,14 +226,14 @@ pub fn live_edge<I: IntNumber, V: Copy>(line: IntLine<I>, value: V) -> LiveEdge<
 }
 
 /// Returns whether the edge ends at or before x.
-pub fn has_ended<I: IntNumber, V: Copy>(f: &LiveEdge<I, V>, x: I) -> bool
+pub(crate) fn has_ended<I: IntNumber, V: Copy>(f: &LiveEdge<I, V>, x: I) -> bool
     ensures { result ≡ not (int_lt (I.whole x) (I.whole f.now.b.x)) }
 {
     !x.compare(f.b.x).is_lt()
 }
 
 /// Returns `Less` for a line under the edge, else `Greater`.
-pub fn order_to<I: IntNumber, V: Copy>(line: IntLine<I>, e: &LiveEdge<I, V>) -> Ordering
+pub(crate) fn order_to<I: IntNumber, V: Copy>(line: IntLine<I>, e: &LiveEdge<I, V>) -> Ordering
     requires one { IsInRange I.limit (plain_line I.whole line) }
     requires other { IsInRange I.limit (plain_entry I.whole e.now).edge }
     ensures { not (is_gt result) ≡ is_lower (plain_line I.whole line) (plain_entry I.whole e.now).edge }

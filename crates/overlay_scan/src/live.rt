@@ -82,7 +82,7 @@ impl<I: IntNumber, V: Copy, A: Allocator> LiveEdges<I, V, A> {
     }
 
     /// Lets the next search, at x, begin at an edge that ends at the point, where the place of one is remembered.
-    pub fn aim_at(&mut self, v: IntPoint<I>, x: I)
+    pub(crate) fn aim_at(&mut self, v: IntPoint<I>, x: I)
         ensures { self.new ≡ self.old }
     {
         let place = self.ends.noted(v);

@@ -168,7 +168,11 @@ fn passes<I: IntNumber, V: Copy, F: Fn(IntLine<I>) -> Ordering>(
 }
 
 /// Returns the place above the next live entry below a place, or a place some steps below that.
-pub fn above_live<I: IntNumber, V: Copy>(entries: &[LiveEdge<I, V>], place: usize, x: I) -> usize {
+pub(crate) fn above_live<I: IntNumber, V: Copy>(
+    entries: &[LiveEdge<I, V>],
+    place: usize,
+    x: I,
+) -> usize {
     let mut at = place.min(entries.len());
     let least = at.saturating_sub(FEW);
     while at > least && has_ended(&entries[at - 1], x) {

@@ -18,7 +18,7 @@ pub enum PathRole {
 }
 
 /// Returns how the points of such a path are taken.
-pub fn kind_in(role: PathRole) -> PathKind
+pub(crate) fn kind_in(role: PathRole) -> PathKind
     ensures { result ≡ kind_in role }
 {
     match role {
@@ -29,7 +29,7 @@ pub fn kind_in(role: PathRole) -> PathKind
 }
 
 /// Returns the counts of an edge that a step of such a path passes.
-pub fn passing_in(role: PathRole) -> StepCounts<ShapeCountString>
+pub(crate) fn passing_in(role: PathRole) -> StepCounts<ShapeCountString>
     ensures { result ≡ passing_in role }
 {
     match role {

@@ -94,7 +94,9 @@ fn widened<I: IntNumber>(
 }
 
 /// The box of all points of the resource, if it has any. They are in the coordinate range. It takes no memory.
-pub fn bounds_of<I: IntNumber, R0: IntShapeResource<I>>(resource: &R0) -> Option<IntBounds<I>>
+pub(crate) fn bounds_of<I: IntNumber, R0: IntShapeResource<I>>(
+    resource: &R0,
+) -> Option<IntBounds<I>>
     requires { All (AllInRange I.limit) (R0.paths resource.now) }
     ensures found { IsBoxFound I.whole (points_of_paths (R0.paths resource.now)) result }
     ensures in_range { IfSome result (λ b. AreBoundsInRange I.limit (plain_bounds I.whole b)) }

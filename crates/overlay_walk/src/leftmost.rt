@@ -16,7 +16,7 @@ const MOST_EDGES_A_STEP: usize = 64;
 
 /// Returns the places of the steps, sorted by the starts of their edges: by the smaller ends, and from one point by
 /// slope, highest first.
-pub fn places_top_first<I: IntNumber, A: Allocator>(
+pub(crate) fn places_top_first<I: IntNumber, A: Allocator>(
     alloc: A,
     steps: &[Step<I>],
 ) -> Result<Vec<usize, A>, AllocError>

@@ -20,7 +20,7 @@ use overlay_geom::point::IntPoint;
 /// Returns the place of the next step at the end of a step, among the steps that leave that end and are not taken. A
 /// ray that turns by the hand from the way back along the step meets it first. The result is None where there is none.
 /// The steps that leave that end are looked for at the place `near` first.
-pub fn place_of_next<I: IntNumber>(
+pub(crate) fn place_of_next<I: IntNumber>(
     steps: &[Step<I>],
     taken: &[bool],
     near: usize,
@@ -81,7 +81,7 @@ fn is_parted_at<I: IntNumber>(steps: &[Step<I>], place: usize, p: IntPoint<I>) -
 }
 
 /// Returns whether the step at a place leaves a point below p.
-pub fn leaves_below<I: IntNumber>(steps: &[Step<I>], place: usize, p: IntPoint<I>) -> bool
+pub(crate) fn leaves_below<I: IntNumber>(steps: &[Step<I>], place: usize, p: IntPoint<I>) -> bool
     requires { place < length steps.now }
     ensures { result ≡ point_lt (step_at (plain_steps I.whole steps.now) place).from (plain_point I.whole p) }
 {

@@ -19,7 +19,7 @@ use std::cmp::Ordering;
 
 /// Sorts places of steps by the starts of the steps' edges: by the smaller ends, and from one point by slope, highest
 /// first.
-pub fn sort_top_first<I: IntNumber, A: Allocator>(
+pub(crate) fn sort_top_first<I: IntNumber, A: Allocator>(
     places: &mut Vec<usize, A>,
     steps: &[Step<I>],
 ) -> Result<(), AllocError>
@@ -32,7 +32,7 @@ pub fn sort_top_first<I: IntNumber, A: Allocator>(
     let [first, ..] = steps else {
         return Ok(());
     };
-    let starts = Starts {
+    let starts = StartsTopFirst {
         steps,
         behind: *first,
     };
@@ -48,14 +48,14 @@ pub fn sort_top_first<I: IntNumber, A: Allocator>(
 
 // Steps whose places are compared, and the step that stands for places behind all.
 #[derive(Drop)]
-struct Starts<'a, I: IntNumber> {
+struct StartsTopFirst<'a, I: IntNumber> {
     steps: &'a [Step<I>],
     behind: Step<I>,
     ghost steps_are_long: { All (IsLong I.limit) (plain_steps I.whole steps.now) },
     ghost behind_is_long: { IsLong I.limit (plain_step I.whole behind) },
 }
 
-impl<'a, I: IntNumber> Starts<'a, I> {
+impl<'a, I: IntNumber> StartsTopFirst<'a, I> {
     // Compares the starts of the edges of the steps at two places: `Less` exactly where the first comes before the
     // second.
     fn compare(&self, j: usize, k: usize) -> Ordering

@@ -9,7 +9,7 @@ use std::alloc::{AllocError, Allocator};
 use std::ops::Range;
 
 /// The coordinates of the points, of each x before y.
-pub fn coordinates_of<I: IntNumber, A: Allocator>(
+pub(crate) fn coordinates_of<I: IntNumber, A: Allocator>(
     alloc: A,
     points: &[IntPoint<I>],
 ) -> Result<Vec<I, A>, AllocError>

@@ -61,13 +61,13 @@ pub struct Held32<'a> {
 
 /// What a call hands out, and how it ends.
 #[derive(Clone, Copy)]
-pub struct Outcome<'a, I> {
+pub struct HeldOutcome<'a, I> {
     pub(crate) held: Held<'a, I>,
     pub(crate) status: Status,
 }
 
 /// Returns the arrays of shapes in memory that stays.
-pub fn hold_shapes<'a, I: Drop + 'a>(answer: Answer<I>) -> Outcome<'a, I>
+pub fn hold_shapes<'a, I: Drop + 'a>(answer: Answer<I>) -> HeldOutcome<'a, I>
     ensures { AreHeld shape_arrays
         (flat_shapes answer.coordinates.items answer.contour_ends.items answer.shape_ends.items)
         no_arrays (arrays_of result.held) result.status }
@@ -79,14 +79,14 @@ pub fn hold_shapes<'a, I: Drop + 'a>(answer: Answer<I>) -> Outcome<'a, I>
         links: &[],
         fills: &[],
     };
-    Outcome {
+    HeldOutcome {
         held,
         status: Status::Done,
     }
 }
 
 /// Returns the arrays of shapes and of links in memory that stays.
-pub fn hold_linked<'a, I: Drop + 'a>(answer: LinkedAnswer<I>) -> Outcome<'a, I>
+pub fn hold_linked<'a, I: Drop + 'a>(answer: LinkedAnswer<I>) -> HeldOutcome<'a, I>
     ensures { AreHeld linked_arrays
         (flat_linked answer.shapes.coordinates.items answer.shapes.contour_ends.items
         answer.shapes.shape_ends.items answer.links.items)
@@ -100,14 +100,14 @@ pub fn hold_linked<'a, I: Drop + 'a>(answer: LinkedAnswer<I>) -> Outcome<'a, I>
         links: lasting(answer.links),
         fills: &[],
     };
-    Outcome {
+    HeldOutcome {
         held,
         status: Status::Done,
     }
 }
 
 /// Returns the arrays of paths in memory that stays.
-pub(crate) fn hold_paths<'a, I: Drop + 'a>(answer: PathAnswer<I>) -> Outcome<'a, I>
+pub(crate) fn hold_paths<'a, I: Drop + 'a>(answer: PathAnswer<I>) -> HeldOutcome<'a, I>
     ensures { AreHeld path_arrays (flat_paths answer.coordinates.items answer.ends.items)
         no_arrays (arrays_of result.held) result.status }
 {
@@ -118,14 +118,14 @@ pub(crate) fn hold_paths<'a, I: Drop + 'a>(answer: PathAnswer<I>) -> Outcome<'a,
         links: &[],
         fills: &[],
     };
-    Outcome {
+    HeldOutcome {
         held,
         status: Status::Done,
     }
 }
 
 /// Returns the arrays of edges in memory that stays.
-pub fn hold_edges<'a, I: Drop + 'a>(answer: ListedEdges<I>) -> Outcome<'a, I>
+pub fn hold_edges<'a, I: Drop + 'a>(answer: ListedEdges<I>) -> HeldOutcome<'a, I>
     ensures { AreHeld edge_arrays (flat_edges answer.coordinates.items answer.fills.items)
         no_arrays (arrays_of result.held) result.status }
 {
@@ -136,14 +136,14 @@ pub fn hold_edges<'a, I: Drop + 'a>(answer: ListedEdges<I>) -> Outcome<'a, I>
         links: &[],
         fills: lasting(answer.fills),
     };
-    Outcome {
+    HeldOutcome {
         held,
         status: Status::Done,
     }
 }
 
 /// Returns empty arrays, and the status.
-pub fn hold_nothing<'a, I: 'a>(status: Status) -> Outcome<'a, I>
+pub fn hold_nothing<'a, I: 'a>(status: Status) -> HeldOutcome<'a, I>
     ensures held { arrays_of result.held ≡ no_arrays }
     ensures status { result.status ≡ status }
 {
@@ -154,7 +154,7 @@ pub fn hold_nothing<'a, I: 'a>(status: Status) -> Outcome<'a, I>
         links: &[],
         fills: &[],
     };
-    Outcome { held, status }
+    HeldOutcome { held, status }
 }
 
 /// Returns the items in memory that stays, or no memory where there are none.
@@ -169,7 +169,7 @@ pub fn lasting<'a, T: Drop + 'a>(items: Vec<T, Global>) -> &'a [T]
 
 impl<'a> Held64<'a> {
     /// Gives C the arrays, and returns the code of the status.
-    pub fn give(&mut self, outcome: &Outcome<'a, i64>) -> u32
+    pub fn give(&mut self, outcome: &HeldOutcome<'a, i64>) -> u32
         ensures held { arrays_at_64 self.new ≡ arrays_of outcome.now.held }
         ensures code { result ≡ code_of outcome.now.status }
     {
@@ -187,7 +187,7 @@ impl<'a> Held64<'a> {
 
 impl<'a> Held32<'a> {
     /// Gives C the arrays, and returns the code of the status.
-    pub fn give(&mut self, outcome: &Outcome<'a, i32>) -> u32
+    pub fn give(&mut self, outcome: &HeldOutcome<'a, i32>) -> u32
         ensures held { arrays_at_32 self.new ≡ arrays_of outcome.now.held }
         ensures code { result ≡ code_of outcome.now.status }
     {

@@ -9,7 +9,7 @@ use crate::clip::fitted_clip;
 use crate::clip_options::ClipOptions;
 use crate::edges::fitted_edges;
 use crate::given::Contours;
-use crate::held::{Outcome, hold_edges, hold_linked, hold_nothing, hold_paths, hold_shapes};
+use crate::held::{HeldOutcome, hold_edges, hold_linked, hold_nothing, hold_paths, hold_shapes};
 use crate::hierarchy::fitted_hierarchy;
 use crate::narrowed::ArrayInt;
 use crate::numbers::OptionNumbers;
@@ -27,7 +27,7 @@ pub fn overlay_held<'a, I: ArrayInt + 'a>(
     options: OptionNumbers<I::WideUInt>,
     subject: &Contours<I>,
     clip: &Contours<I>,
-) -> Outcome<'a, I>
+) -> HeldOutcome<'a, I>
     ensures { OverlayIsHeld I.whole I.limit I.Wide.width I.WideUInt.natural rule fill options
         (contours_of subject.now.coordinates.now subject.now.ends.now)
         (contours_of clip.now.coordinates.now clip.now.ends.now)
@@ -46,7 +46,7 @@ pub fn simplification_held<'a, I: ArrayInt + 'a>(
     fill: u32,
     options: OptionNumbers<I::WideUInt>,
     given: &Contours<I>,
-) -> Outcome<'a, I>
+) -> HeldOutcome<'a, I>
     ensures { SimplificationIsHeld I.whole I.limit I.Wide.width I.WideUInt.natural fill options
         (contours_of given.now.coordinates.now given.now.ends.now)
         (arrays_of result.held) result.status }
@@ -66,7 +66,7 @@ pub fn hierarchy_held<'a, I: ArrayInt + 'a>(
     options: OptionNumbers<I::WideUInt>,
     subject: &Contours<I>,
     clip: &Contours<I>,
-) -> Outcome<'a, I>
+) -> HeldOutcome<'a, I>
     ensures { HierarchyIsHeld I.whole I.limit I.Wide.width I.WideUInt.natural rule fill options
         (contours_of subject.now.coordinates.now subject.now.ends.now)
         (contours_of clip.now.coordinates.now clip.now.ends.now)
@@ -86,7 +86,7 @@ pub fn slices_held<'a, I: ArrayInt + 'a>(
     solver: u32,
     subject: &Contours<I>,
     lines: &Contours<I>,
-) -> Outcome<'a, I>
+) -> HeldOutcome<'a, I>
     ensures { SlicesAreHeld I.whole I.limit I.Wide.width fill solver
         (contours_of subject.now.coordinates.now subject.now.ends.now)
         (contours_of lines.now.coordinates.now lines.now.ends.now)
@@ -106,7 +106,7 @@ pub fn clips_held<'a, I: ArrayInt + 'a>(
     options: ClipOptions,
     shape: &Contours<I>,
     lines: &Contours<I>,
-) -> Outcome<'a, I>
+) -> HeldOutcome<'a, I>
     ensures { ClipsAreHeld I.whole I.limit fill options
         (contours_of shape.now.coordinates.now shape.now.ends.now)
         (contours_of lines.now.coordinates.now lines.now.ends.now)
@@ -126,7 +126,7 @@ pub fn edges_held<'a, I: ArrayInt + 'a>(
     solver: u32,
     subject: &Contours<I>,
     clip: &Contours<I>,
-) -> Outcome<'a, I>
+) -> HeldOutcome<'a, I>
     ensures { EdgesAreHeld I.whole I.limit fill solver
         (contours_of subject.now.coordinates.now subject.now.ends.now)
         (contours_of clip.now.coordinates.now clip.now.ends.now)

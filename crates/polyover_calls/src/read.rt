@@ -37,7 +37,7 @@ pub fn read_contours<I: IntNumber, A: Allocator + Copy>(
 
 /// The contours of the coordinates, one up to each end, which have passed `test_contours`. The only refusal is
 /// `Memory`.
-pub fn tested_contours<I: IntNumber, A: Allocator + Copy>(
+pub(crate) fn tested_contours<I: IntNumber, A: Allocator + Copy>(
     alloc: A,
     coordinates: &[I],
     ends: &[usize],
@@ -56,7 +56,7 @@ pub fn tested_contours<I: IntNumber, A: Allocator + Copy>(
 }
 
 /// The points of the coordinates, which have passed `test_points`. The only refusal is `Memory`.
-pub fn tested_points<I: IntNumber, A: Allocator>(
+pub(crate) fn tested_points<I: IntNumber, A: Allocator>(
     alloc: A,
     coordinates: &[I],
 ) -> Result<Vec<IntPoint<I>, A>, Fault>

@@ -9,7 +9,7 @@ use overlay_geom::number::IntNumber;
 
 /// Returns whether the ends part `coordinates` coordinates into contours: the coordinates are an even count, no
 /// end is below the one before it, and the last end is the count of points; without ends there is no coordinate.
-pub fn are_ends(ends: &[usize], coordinates: usize) -> bool
+pub(crate) fn are_ends(ends: &[usize], coordinates: usize) -> bool
     ensures { result ≡ are_ends ends.now coordinates }
 {
     coordinates % 2 == 0 && rise_to(ends, coordinates / 2)
@@ -43,7 +43,7 @@ pub fn are_within<I: IntNumber>(coordinates: &[I]) -> bool
 
 /// Tests whether the coordinates have contours in the coordinate range, one up to each end: `Ends` comes exactly where
 /// they do not fit, `Range` exactly where they fit and a coordinate is out of range, and no other refusal.
-pub fn test_contours<I: IntNumber>(coordinates: &[I], ends: &[usize]) -> Result<(), Fault>
+pub(crate) fn test_contours<I: IntNumber>(coordinates: &[I], ends: &[usize]) -> Result<(), Fault>
     ensures { MatchResult result
         (λ _. AreContours I.whole I.limit coordinates.now ends.now)
         (HaveOwnFault I.whole I.limit coordinates.now ends.now) }
@@ -59,7 +59,7 @@ pub fn test_contours<I: IntNumber>(coordinates: &[I], ends: &[usize]) -> Result<
 
 /// Tests whether the coordinates are points in the coordinate range: `Ends` comes exactly where they are an odd count,
 /// `Range` exactly where they are an even one and a coordinate is out of range, and no other refusal.
-pub fn test_points<I: IntNumber>(coordinates: &[I]) -> Result<(), Fault>
+pub(crate) fn test_points<I: IntNumber>(coordinates: &[I]) -> Result<(), Fault>
     ensures { MatchResult result
         (λ _. ArePoints I.whole I.limit coordinates.now)
         (PointsHaveOwnFault I.whole I.limit coordinates.now) }
@@ -75,7 +75,7 @@ pub fn test_points<I: IntNumber>(coordinates: &[I]) -> Result<(), Fault>
 
 /// Returns how many points the coordinates are.
 #[tactic(auto, using(crate::proofs::PointCounts::points_counted))]
-pub fn count_points<I: IntNumber>(coordinates: &[I]) -> usize
+pub(crate) fn count_points<I: IntNumber>(coordinates: &[I]) -> usize
     ensures { result ≡ length (points_of coordinates.now) }
 {
     coordinates.len() / 2

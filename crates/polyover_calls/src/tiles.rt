@@ -9,7 +9,7 @@ ghost use Rattle.polyover_calls.specs.Written.{IsFlat, flat_shapes};
 use crate::answer::{Answer, flattened};
 use crate::given::Contours;
 use crate::grid::{fits_across, has_cells};
-use crate::held::{Outcome, hold_nothing, hold_shapes};
+use crate::held::{HeldOutcome, hold_nothing, hold_shapes};
 use crate::numbers::{fill_of, solver_of};
 use crate::read::tested_contours;
 use crate::status::Status;
@@ -27,7 +27,7 @@ pub fn tiles_held<'a, I: OverlayInt + 'a>(
     subject: &Contours<I>,
     width: I,
     height: I,
-) -> Outcome<'a, I>
+) -> HeldOutcome<'a, I>
     ensures { TilesAreHeld I.whole I.limit I.Wide.width fill solver (I.whole width) (I.whole height)
         (contours_of subject.now.coordinates.now subject.now.ends.now)
         (arrays_of result.held) result.status }

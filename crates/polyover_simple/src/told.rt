@@ -4,12 +4,12 @@ ghost use Rattle.std.specs.Prelude.{◌≡◌};
 ghost use Rattle.polyover_calls.specs.Held.{arrays_at_32, arrays_at_64, arrays_of};
 ghost use Rattle.polyover_calls.specs.Statuses.{code_of};
 
-use polyover_calls::held::{Held32, Held64, Outcome};
+use polyover_calls::held::{Held32, Held64, HeldOutcome};
 
 /// What a call hands out, how it ends, and 1 where the contours stay as they are given, else 0.
 #[derive(Clone, Copy)]
 pub struct Told<'a, I> {
-    pub(crate) outcome: Outcome<'a, I>,
+    pub(crate) outcome: HeldOutcome<'a, I>,
     pub(crate) as_given: u32,
 }
 

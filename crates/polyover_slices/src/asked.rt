@@ -10,7 +10,7 @@ use crate::shapes::sliced_shapes;
 use overlay_geom::integer::OverlayInt;
 use polyover_calls::answer::{Answer, flattened};
 use polyover_calls::given::{Contours, read_both};
-use polyover_calls::held::{Outcome, hold_nothing, hold_shapes};
+use polyover_calls::held::{HeldOutcome, hold_nothing, hold_shapes};
 use polyover_calls::numbers::{OptionNumbers, fill_of, known_solver, options_of};
 use polyover_calls::status::Status;
 use std::alloc::Global;
@@ -23,7 +23,7 @@ pub fn asked_slices_held<'a, I: OverlayInt + 'a>(
     options: OptionNumbers<I::WideUInt>,
     subject: &Contours<I>,
     lines: &Contours<I>,
-) -> Outcome<'a, I>
+) -> HeldOutcome<'a, I>
     ensures { AskedSlicesAreHeld I.whole I.limit I.Wide.width I.WideUInt.natural fill options
         (contours_of subject.now.coordinates.now subject.now.ends.now)
         (contours_of lines.now.coordinates.now lines.now.ends.now)

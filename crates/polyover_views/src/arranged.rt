@@ -27,7 +27,7 @@ use std::alloc::Global;
 /// with their two neighbours are kept, or dropped first.
 ///
 /// Refusals: `NotSettled` (never with `Solver::SNAPPED`), `TooManyEdges` and `Memory`.
-pub fn arranged_core<I: OverlayInt>(
+pub(crate) fn arranged_core<I: OverlayInt>(
     alloc: Global,
     subject: &FlatContoursBuffer<I, Global>,
     clip: &FlatContoursBuffer<I, Global>,

@@ -25,7 +25,7 @@ use overlay_relate::form::FormOf;
 use overlay_walk::buffer::BooleanExtractionBuffer;
 use polyover_calls::answer::{Answer, flat_answer};
 use polyover_calls::edges::{ListedEdges, listed};
-use polyover_calls::held::{Outcome, hold_edges, hold_linked, hold_nothing, hold_shapes};
+use polyover_calls::held::{HeldOutcome, hold_edges, hold_linked, hold_nothing, hold_shapes};
 use polyover_calls::linked_answer::{LinkedAnswer, flattened_hierarchy};
 use polyover_calls::numbers::{OptionNumbers, options_of, rule_of};
 use polyover_calls::status::Status;
@@ -38,7 +38,7 @@ pub fn graph_overlay_held<'a, I: OverlayInt + 'a, E: FormOf<CountedEdge<I, Count
     graph: &HeldGraph<E>,
     rule: u32,
     options: OptionNumbers<I::WideUInt>,
-) -> Outcome<'a, I>
+) -> HeldOutcome<'a, I>
     requires { CanBeAsked I.limit (graph_of I.whole E.meant graph.now) }
     ensures { GraphOverlayIsHeld I.whole I.Wide.width I.WideUInt.natural (graph_of I.whole E.meant graph.now) rule
         options (arrays_of result.held) result.status }
@@ -79,7 +79,7 @@ pub fn graph_hierarchy_held<'a, I: OverlayInt + 'a, E: FormOf<CountedEdge<I, Cou
     graph: &HeldGraph<E>,
     rule: u32,
     options: OptionNumbers<I::WideUInt>,
-) -> Outcome<'a, I>
+) -> HeldOutcome<'a, I>
     requires { CanBeAsked I.limit (graph_of I.whole E.meant graph.now) }
     ensures { GraphHierarchyIsHeld I.whole I.Wide.width I.WideUInt.natural (graph_of I.whole E.meant graph.now) rule
         options (arrays_of result.held) result.status }
@@ -119,7 +119,7 @@ fn hierarchy_of_graph<I: OverlayInt, E: FormOf<CountedEdge<I, CountWithData<()>>
 pub fn graph_edges_held<'a, I: OverlayInt + 'a, E: FormOf<CountedEdge<I, CountWithData<()>>>>(
     alloc: Global,
     graph: &HeldGraph<E>,
-) -> Outcome<'a, I>
+) -> HeldOutcome<'a, I>
     requires { CanBeAsked I.limit (graph_of I.whole E.meant graph.now) }
     ensures { GraphEdgesAreHeld I.whole (graph_of I.whole E.meant graph.now) (arrays_of result.held) result.status }
 {

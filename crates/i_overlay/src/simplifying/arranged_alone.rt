@@ -26,7 +26,7 @@ use std::alloc::Allocator;
 ///
 /// Refusals, which leave the core failed: `NotSettled` (never with `Solver::SNAPPED`), `TooManyEdges`
 /// and `Memory`.
-pub fn arrange_alone<I: IntNumber, A: Allocator + Clone, R0: IntShapeResource<I>>(
+pub(crate) fn arrange_alone<I: IntNumber, A: Allocator + Clone, R0: IntShapeResource<I>>(
     core: &mut BuilderCore<I, CountWithData<()>, A>,
     solver: Solver,
     resource: &R0,

@@ -15,7 +15,7 @@ use overlay_geom::vector::cross_at;
 
 /// The direction in which a contour of different points runs, read at its leftmost lowest point: clockwise
 /// where it arrives there along its lowest edge. The points are in the coordinate range, and two or more.
-pub fn direction_of<I: IntNumber>(points: &[IntPoint<I>]) -> ContourDirection
+pub(crate) fn direction_of<I: IntNumber>(points: &[IntPoint<I>]) -> ContourDirection
     requires in_range { AllInRange I.limit (plain_points I.whole points.now) }
     requires once { HasEachPointOnce (plain_points I.whole points.now) }
     requires some { 2 ≤ length points.now }

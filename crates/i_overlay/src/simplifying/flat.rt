@@ -12,7 +12,7 @@ use std::alloc::Allocator;
 
 /// Leaves in the buffer the outcome of its one contour: as it stands, with its points reversed where they stand,
 /// or no contour and no point. No memory is taken.
-pub fn leave_contour<I: IntNumber, B: Allocator>(
+pub(crate) fn leave_contour<I: IntNumber, B: Allocator>(
     buffer: &mut FlatContoursBuffer<I, B>,
     outcome: Outcome,
 )

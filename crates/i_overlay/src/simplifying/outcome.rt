@@ -21,7 +21,7 @@ pub enum Outcome {
 
 /// Returns the outcome of a simple contour that runs in this direction: under `Positive` a clockwise contour is
 /// empty, and under `Negative` a counterclockwise contour; any other is turned to the output direction.
-pub fn outcome_of(
+pub(crate) fn outcome_of(
     fill_rule: FillRule,
     output_direction: ContourDirection,
     direction: ContourDirection,

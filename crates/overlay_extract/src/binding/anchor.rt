@@ -53,7 +53,7 @@ fn anchor_of<I: IntNumber>(walk: &[Step<I>], index: usize) -> NumberedEdge<I>
 }
 
 /// Returns the step along the lowest edge at the leftmost lowest point of a walk.
-pub fn lowest_step<I: IntNumber>(walk: &[Step<I>]) -> Step<I>
+pub(crate) fn lowest_step<I: IntNumber>(walk: &[Step<I>]) -> Step<I>
     requires some { 0 < length walk.now }
     requires long { All (IsLong I.limit) (plain_steps I.whole walk.now) }
     ensures among { Contains (plain_steps I.whole walk.now) (plain_step I.whole result) }

@@ -15,7 +15,7 @@ ghost use Rattle.overlay_walk.specs.Steps.{filled_hand, IsLong};
 ghost use Rattle.overlay_extract.specs.Sides.{hand_on_side};
 
 use crate::binding::known_shapes::{shape_count, shapes_known};
-use crate::binding::side::Side;
+use crate::binding::side::EdgeSide;
 use crate::binding::sweep::parents_by_sweep;
 use overlay_geom::number::IntNumber;
 use overlay_geom::options::ContourDirection;
@@ -76,7 +76,7 @@ pub fn bind_contours<I: IntNumber, A: Allocator + Clone, S: Scan<I, usize>>(
         return all_in_first(alloc, contours.len());
     }
     let known = shapes_known(alloc.clone()?, contours)?;
-    let shapes = find_shapes(alloc, scan, contours, &known, direction, Side::Above)?;
+    let shapes = find_shapes(alloc, scan, contours, &known, direction, EdgeSide::Above)?;
     Ok(shapes)
 }
 
@@ -85,15 +85,15 @@ pub fn bind_contours<I: IntNumber, A: Allocator + Clone, S: Scan<I, usize>>(
 /// the next edge below its anchor. Only edges filled on the side count. The entry is None if there is no such edge, or
 /// if none is found for that contour.
 ///
-/// With `Side::Above` holes find their parents. With `Side::Below`, and the holes' places as known, an island finds the
-/// hole round it. The contours are as for [`bind_contours`].
-pub fn find_shapes<I: IntNumber, A: Allocator + Clone, S: Scan<I, usize>>(
+/// With `EdgeSide::Above` holes find their parents. With `EdgeSide::Below`, and the holes' places as known, an island
+/// finds the hole round it. The contours are as for [`bind_contours`].
+pub(crate) fn find_shapes<I: IntNumber, A: Allocator + Clone, S: Scan<I, usize>>(
     alloc: A,
     scan: &mut S,
     contours: &[Contour<I, A>],
     known: &[Option<usize>],
     direction: ContourDirection,
-    side: Side,
+    side: EdgeSide,
 ) -> Result<Vec<Option<usize>, A>, AllocError>
     requires long { All (All (IsLong I.limit)) (map (walk_of I.whole) contours.now) }
     requires contours { All IsContour (map (walk_of I.whole) contours.now) }
@@ -119,12 +119,12 @@ pub fn find_shapes<I: IntNumber, A: Allocator + Clone, S: Scan<I, usize>>(
 
 /// Returns the direction of contours whose filled-above edges are those filled on the side, for contours in
 /// `direction`.
-fn filled_above_as(direction: ContourDirection, side: Side) -> ContourDirection
+fn filled_above_as(direction: ContourDirection, side: EdgeSide) -> ContourDirection
     ensures { filled_hand result ≡ hand_on_side side (filled_hand direction) }
 {
     match (side, direction) {
-        (Side::Above, direction) => direction,
-        (Side::Below, ContourDirection::CounterClockwise) => ContourDirection::Clockwise,
-        (Side::Below, ContourDirection::Clockwise) => ContourDirection::CounterClockwise,
+        (EdgeSide::Above, direction) => direction,
+        (EdgeSide::Below, ContourDirection::CounterClockwise) => ContourDirection::Clockwise,
+        (EdgeSide::Below, ContourDirection::Clockwise) => ContourDirection::CounterClockwise,
     }
 }

@@ -15,7 +15,7 @@ use std::alloc::{AllocError, Allocator};
 use std::cmp::Ordering;
 
 /// Sorts the edges by their smaller ends, and edges from one point by slope, lowest first.
-pub fn sort_by_start<I: IntNumber, A: Allocator>(
+pub(crate) fn sort_by_start<I: IntNumber, A: Allocator>(
     edges: &mut Vec<NumberedEdge<I>, A>,
 ) -> Result<(), AllocError>
     ensures permutation { IsPermutation edges.old.items edges.new.items }

@@ -10,7 +10,7 @@ ghost use Rattle.overlay_extract.specs.HolePlaces.{at_outlines};
 ghost use Rattle.overlay_walk.specs.Steps.{filled_hand, IsLong};
 
 use crate::binding::bind::find_shapes;
-use crate::binding::side::Side;
+use crate::binding::side::EdgeSide;
 use overlay_geom::number::IntNumber;
 use overlay_geom::options::ContourDirection;
 use overlay_scan::scan::Scan;
@@ -43,7 +43,7 @@ pub fn holes_round<I: IntNumber, A: Allocator + Clone, S: Scan<I, usize>>(
         contours,
         &places,
         direction,
-        Side::Below,
+        EdgeSide::Below,
     )?;
     at_outlines(alloc, contours, &found)
 }

@@ -11,7 +11,7 @@ use std::alloc::{AllocError, Allocator};
 
 /// Returns for each contour the number of its shape if it is known from the start, or None for a hole whose shape is
 /// still to be found.
-pub fn shapes_known<I: IntNumber, A: Allocator>(
+pub(crate) fn shapes_known<I: IntNumber, A: Allocator>(
     alloc: A,
     contours: &[Contour<I, A>],
 ) -> Result<Vec<Option<usize>, A>, AllocError>
@@ -25,7 +25,7 @@ pub fn shapes_known<I: IntNumber, A: Allocator>(
 }
 
 /// Returns the number of outlines.
-pub fn shape_count<I: IntNumber, A: Allocator>(contours: &[Contour<I, A>]) -> usize
+pub(crate) fn shape_count<I: IntNumber, A: Allocator>(contours: &[Contour<I, A>]) -> usize
     ensures { result ≡ length (filter (λ c. is_outline c.role) (plain_contours I.whole contours.now)) }
 {
     let mut count = 0;

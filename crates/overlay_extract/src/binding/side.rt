@@ -2,7 +2,7 @@
 
 /// A side of an edge. The upper side of a vertical edge is the left side of the step from its lower end.
 #[derive(Debug, Clone, Copy, PartialEq, Eq)]
-pub enum Side {
+pub enum EdgeSide {
     /// The upper side.
     Above,
     /// The lower side.

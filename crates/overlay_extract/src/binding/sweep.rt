@@ -27,7 +27,7 @@ use std::alloc::{AllocError, Allocator};
 
 /// Returns for each walk whose shape is not known (`known` has None there) the number of the shape found for it by its
 /// next filled-above edge, if there is one. The scan is empty at first; its content afterwards is left open.
-pub fn parents_by_sweep<I: IntNumber, A: Allocator + Clone, S: Scan<I, usize>>(
+pub(crate) fn parents_by_sweep<I: IntNumber, A: Allocator + Clone, S: Scan<I, usize>>(
     alloc: A,
     scan: &mut S,
     contours: &[Contour<I, A>],

@@ -10,7 +10,7 @@ ghost use Rattle.overlay_walk.specs.Places.{step_at};
 ghost use Rattle.overlay_walk.specs.Steps.{plain_step, plain_steps};
 ghost use Rattle.overlay_walk.specs.Walks.{plain_walks};
 
-use crate::slicing::visits::Visits;
+use crate::slicing::visits::WalkVisits;
 use overlay_geom::number::IntNumber;
 use overlay_geom::point::IntPoint;
 use overlay_walk::step::Step;
@@ -30,7 +30,7 @@ pub fn cut_loops<I: IntNumber, A: Allocator + Clone>(
     ensures order { IfOk result
         (λ ls. IsCutAtRepeats (plain_steps I.whole walk.now) (plain_walks I.whole ls.items)) }
 {
-    let mut visits = Visits::new(alloc.clone()?, walk)?;
+    let mut visits = WalkVisits::new(alloc.clone()?, walk)?;
     let mut cutter = LoopCutter::new(alloc)?;
     for place in 0..walk.len() {
         let step = walk[place];

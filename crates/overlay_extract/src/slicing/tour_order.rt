@@ -15,7 +15,7 @@ use std::cmp::Ordering;
 
 /// Returns whether the tour is walked along: it leaves its start along the edge by which it is found, the first
 /// one in order of the two at its start. Else it comes back along it, and is walked back.
-pub fn is_walked_along<I: IntNumber>(tour: &[Step<I>]) -> bool
+pub(crate) fn is_walked_along<I: IntNumber>(tour: &[Step<I>]) -> bool
     ensures { result ≡ is_walked_along (plain_steps I.whole tour.now) }
 {
     if tour.is_empty() {
@@ -29,7 +29,7 @@ pub fn is_walked_along<I: IntNumber>(tour: &[Step<I>]) -> bool
 /// Returns how two tours compare: by their starts, then by the other ends of the edges by which they are found; of
 /// two tours at one edge the one that is walked along is less. Where one has no steps, the one with fewer steps is
 /// less.
-pub fn compare_tours<I: IntNumber>(s: &[Step<I>], t: &[Step<I>]) -> Ordering
+pub(crate) fn compare_tours<I: IntNumber>(s: &[Step<I>], t: &[Step<I>]) -> Ordering
     ensures { is_lt result ≡ is_tour_before (plain_steps I.whole s.now) (plain_steps I.whole t.now) }
 {
     if s.is_empty() || t.is_empty() {

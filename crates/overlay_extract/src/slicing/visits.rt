@@ -19,14 +19,14 @@ use std::alloc::{AllocError, Allocator};
 /// The points that a walk leaves, each with the place at which a path left it last. The path is what is walked so far
 /// and not cut off.
 #[derive(Drop)]
-pub(crate) struct Visits<I: IntNumber, A: Allocator> {
+pub(crate) struct WalkVisits<I: IntNumber, A: Allocator> {
     // the steps of the walk, in the order of the points that they leave
     steps: Vec<Step<I>, A>,
     // for the first of the steps that leave a point, its place on the path
     places: Vec<usize, A>,
 }
 
-impl<I: IntNumber, A: Allocator + Clone> Visits<I, A> {
+impl<I: IntNumber, A: Allocator + Clone> WalkVisits<I, A> {
     /// The points of a walk, before its first step.
     pub(crate) fn new(alloc: A, walk: &[Step<I>]) -> Result<Self, AllocError>
         ensures noted { IfOk result (λ v. AreNoted I.whole v.steps.items v.places.items []) }
@@ -37,7 +37,7 @@ impl<I: IntNumber, A: Allocator + Clone> Visits<I, A> {
         sort_steps(&mut steps)?;
         let mut places = Vec::new(alloc);
         places.resize(steps.len(), 0)?;
-        Ok(Visits { steps, places })
+        Ok(WalkVisits { steps, places })
     }
 
     /// Returns the place of the step of the path that leaves the same point as a step, if there is one. Notes that the

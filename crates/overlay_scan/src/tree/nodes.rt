@@ -117,7 +117,7 @@ impl<I: IntNumber, V: Copy, A: Allocator> ScanNodes<I, V, A> {
     }
 
     /// Links a node that is in no tree to the next reusable node.
-    pub fn set_unused(&mut self, i: NodeIndex, next: Option<NodeIndex>)
+    pub(crate) fn set_unused(&mut self, i: NodeIndex, next: Option<NodeIndex>)
         requires { i.place < length self.old.links }
         ensures links { self.new.links ≡ slice_set self.old.links i.place (unused_before next) }
         ensures entries { self.new.entries ≡ self.old.entries }
@@ -131,7 +131,7 @@ impl<I: IntNumber, V: Copy, A: Allocator> ScanNodes<I, V, A> {
     }
 
     /// Gives a node that is in no tree another entry, and no subtrees.
-    pub fn use_again(&mut self, i: NodeIndex, entry: LiveEdge<I, V>)
+    pub(crate) fn use_again(&mut self, i: NodeIndex, entry: LiveEdge<I, V>)
         requires { i.place < length self.old.links }
         ensures enough { length self.old.entries ≡ length self.old.links }
         ensures entries { self.new.entries ≡ slice_set self.old.entries i.place entry }

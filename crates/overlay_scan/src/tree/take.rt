@@ -10,7 +10,7 @@ use std::alloc::Allocator;
 
 impl<I: IntNumber, V: Copy, A: Allocator> ScanNodes<I, V, A> {
     /// Takes the root out of a tree, and returns the root of the rest.
-    pub fn take_out(&mut self, i: NodeIndex) -> Option<NodeIndex>
+    pub(crate) fn take_out(&mut self, i: NodeIndex) -> Option<NodeIndex>
         requires { (l : Tree) × (r : Tree) × IsTreeAt self.old.links (Some i) (Fork l i.place r) }
         ensures tree { (l r : Tree) → IsTreeAt self.old.links (Some i) (Fork l i.place r)
             → IsReplaced (items (Fork l i.place r)) self.old.links self.new.links (Fork l i.place r) result

@@ -23,7 +23,7 @@ impl Visits {
     }
 
     /// Returns the count plus one.
-    pub fn and_one(&self) -> Visits
+    pub(crate) fn and_one(&self) -> Visits
         ensures { result.count ≡ self.now.count + 1 }
     {
         Visits {}

@@ -5,7 +5,7 @@ use Rattle.overlay_extract.specs.Visits.{AreNoted}
 use Rattle.overlay_extract.proofs.Visits.{none_left, noted_back, noted_onward, number_within}
 use Rattle.overlay_walk.specs.Steps.{plain_step, plain_steps, IsByFrom}
 use Rattle.overlay_walk.specs.declared.step.Step.{Step as StepTaken}
-use Rattle.overlay_extract.proofs.slicing.visits.Visits.note.Goals as goal
+use Rattle.overlay_extract.proofs.slicing.visits.WalkVisits.note.Goals as goal
 
 pub run_start-number-requires : goal.run_start-number-requires
 run_start-number-requires g c =

@@ -2,7 +2,7 @@
 use Rattle.std.proofs.Common.{◌≡◌, length, subst, rules}
 use Rattle.std.specs.List.Sorted.{IsPermutation}
 use Rattle.overlay_extract.proofs.Visits.{all_left, none_noted}
-use Rattle.overlay_extract.proofs.slicing.visits.Visits.new.Goals as goal
+use Rattle.overlay_extract.proofs.slicing.visits.WalkVisits.new.Goals as goal
 
 pub returns-clause-noted : goal.returns-clause-noted
 returns-clause-noted g c =
