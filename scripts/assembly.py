@@ -27,8 +27,11 @@ PROVED, UNPROVED = "of the proved module", "of an unproved module"
 # (what `polyover_built` answers, c/library_built.c)
 TOLD = "\n@polyover_is_proved = constant i8 {}\n"
 
-# (functions up to this size become part of those that call them: the library takes some 5 to 10 in 100 less time)
-INLINED = ("-mllvm", "-inline-threshold=2000")
+# (functions up to this size become part of those that call them. A merged function has more callers than its instances
+# had: at 2000 the library takes up to 4 in 100 more instructions than if nothing is merged, here less than 1)
+INLINED = ("-mllvm", "-inline-threshold=10000")
+# (nothing else is done to the module)
+MERGED = ("-O0", "-Xclang", "-fmerge-functions", "-emit-llvm", "-c")
 QUOTED = re.compile(r'@"([^"]+)"')
 
 
@@ -94,12 +97,18 @@ PROCESSORS = {
 }
 
 
-def compiled(text: str, processor: Processor, to: Path, *flags: str) -> None:
-    """Compiles the text of a module for a processor."""
+def compiled(text: str, processor: Processor, to: Path, *flags: str, merges: bool = False) -> None:
+    """Compiles the text of a module for a processor, where asked with equal functions merged.
+
+    Most functions of the library are instances that differ in no more than their names. The compiler makes one of equal
+    functions before it inlines calls; afterwards few bodies are still equal.
+    """
     with tempfile.TemporaryDirectory(prefix="polyover-") as folder:
-        module = Path(folder) / "module.ll"
+        module, merged = Path(folder) / "module.ll", Path(folder) / "merged.bc"
         module.write_text(processor.of(text))
-        answer_of([clang(), *processor.flags(), "-O3", *flags, module, "-o", to])
+        if merges:
+            answer_of([clang(), *processor.flags(), *MERGED, module, "-o", merged])
+        answer_of([clang(), *processor.flags(), "-O3", *flags, merged if merges else module, "-o", to])
 
 
 def linked_program(text: str, program: Path, *flags: str) -> None:
@@ -150,7 +159,7 @@ def leave(file: Path, processor: str, is_proved: bool) -> None:
     text += TOLD.format(int(made_of == PROVED))
     file.parent.mkdir(parents=True, exist_ok=True)
     target = PROCESSORS[processor]
-    compiled(text, target, file, *target.code, "-ffunction-sections", "-fno-addrsig", "-S")
+    compiled(text, target, file, *target.code, "-ffunction-sections", "-fno-addrsig", "-S", merges=True)
     file.write_text(head + file.read_text())
     os.utime(file, (began, began))
 
