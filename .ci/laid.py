@@ -29,7 +29,10 @@ def lay_crates(root: Path, more: dict[str, list[str]]) -> None:
 
 
 def try_tests(root: Path, name: str, **how) -> subprocess.CompletedProcess:
-    """Compiles the tests of a crate laid there, with all checks, and runs them; gives what was said."""
+    """Compiles the tests of a crate laid there, with all checks, and runs them; gives what was said.
+
+    Without the words `--steps 1` each test would be interpreted first, until it calls C.
+    """
     rt = root / "kit" / "bin" / "rt"
     words = {"capture_output": True, "text": True, "check": False, **how}
-    return subprocess.run([rt, "try", "--test"], cwd=root / "crates" / name, **words)
+    return subprocess.run([rt, "try", "--test", "--steps", "1"], cwd=root / "crates" / name, **words)
