@@ -14,10 +14,11 @@ from .formats import GEOJSON, RECORDS, SEQUENCES, WKT, Format, format_of
 from .geojson import Feature
 from .holding import Holding
 from .interrupts import held
-from .leaving import Answer, json_text, leave_lines, parted
+from .leaving import Answer, leave_lines, parted
 from .picture import Picture
 from .sequences import RECORD
 from .systems import DEGREES, words_for
+from .writing import features_text
 
 
 def say(text: object) -> None:
@@ -65,10 +66,10 @@ def points_in(coordinates: Any) -> list[Any]:
     return [point for each in coordinates for point in points_in(each)]
 
 
-def line_of(form: Format, feature: dict[str, Any], system: int, place: str) -> str:
+def line_of(form: Format, feature: dict[str, Any], digits: int, system: int, place: str) -> str:
     """The line of a feature, with the number of its system where it has one; a fault names its place."""
     if form in SEQUENCES:
-        return RECORD * (form is RECORDS) + json_text(feature)
+        return RECORD * (form is RECORDS) + features_text([feature], digits, lambda features: features[0])
     try:
         written = wkt.written if form is WKT else wkb.written
         return written(feature["geometry"], system)
@@ -83,7 +84,7 @@ def lines_of(given: Any, form: Format, features: Iterable[dict[str, Any]], file:
     for number, each in enumerate(features, 1):
         if not holding.is_feature(number, each):
             continue
-        yield line_of(form, each, system, f"{holding.told.source}: feature {number} of the answer")
+        yield line_of(form, each, given.digits, system, f"{holding.told.source}: feature {number} of the answer")
     holding.told.say()
 
 
@@ -96,7 +97,7 @@ def text_of(given: Any, features: Iterable[dict[str, Any]], file: File) -> str:
     listed, members = list(features), dict(file.members)
     if file.has_box:
         members["bbox"] = bounds(each["geometry"] for each in listed)
-    return json_text(geojson.collection(listed, **members))
+    return features_text(listed, given.digits, lambda features: geojson.collection(features, **members))
 
 
 def leave(given: Any, features: Iterable[dict[str, Any]], picture: Picture, file: File) -> None:

@@ -62,15 +62,25 @@ def plain_row(points: Sequence[Any]) -> list[Any] | None:
     return numbers if set(map(type, numbers)) <= {float, int} else None
 
 
+def row_of_points(axes: Sequence[Any], points: Sequence[Any]) -> list[int] | None:
+    """The whole coordinates, in a row, of points of two numbers of Python's own."""
+    numbers = plain_row(points)
+    try:
+        return None if numbers is None else whole_row(axes, numbers)
+    except (ValueError, OverflowError):
+        # (a number that is none: one by one it is found)
+        return None
+
+
 def whole_points(axes: Sequence[Any], points: Sequence[Any]) -> list[tuple[int, int]] | None:
     """The whole points of many points of numbers, where columns are of use."""
     if len(points) < FEW:
         return None
+    found = row_of_points(axes, points)
+    if found is not None:
+        row = iter(found)
+        return list(zip(row, row))
     try:
-        numbers = plain_row(points)
-        if numbers is not None:
-            row = iter(whole_row(axes, numbers))
-            return list(zip(row, row))
         numpy = numpy_for(len(points))
         if numpy is None or any(axis.floats is None for axis in axes):
             return None

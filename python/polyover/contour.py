@@ -9,6 +9,8 @@ from .text import LIMIT
 
 WholePoint = tuple[int, int]
 WholePath = list[WholePoint]
+# (the coordinates of a path, x before y)
+Row = list[int]
 
 
 def double_area(contour: Sequence[Any]) -> Any:
@@ -26,6 +28,17 @@ def is_flat(contour: WholePath) -> bool:
     (x, y), *others = contour
     far = next(((u - x, v - y) for u, v in others if (u, v) != (x, y)), None)
     return far is None or all((u - x) * far[1] == (v - y) * far[0] for u, v in others)
+
+
+def row_of(path: WholePath) -> Row:
+    """The coordinates of a path in a row."""
+    return list(chain.from_iterable(path))
+
+
+def points_in(row: Row) -> WholePath:
+    """The points of coordinates in a row."""
+    numbers = iter(row)
+    return list(zip(numbers, numbers))
 
 
 def box_of(contour: Sequence[Any]) -> tuple[Any, Any, Any, Any]:

@@ -245,10 +245,14 @@ def plain_points(path: Any) -> list[Any] | None:
     if not set(map(type, numbers)) <= NUMBERS:
         return None
     try:
-        return list(zip(numbers[0::2], numbers[1::2])) if all(map(isfinite, numbers)) else None
+        # (a sum with one that is not finite is none either)
+        if not isfinite(sum(numbers)) and not all(map(isfinite, numbers)):
+            return None
     except OverflowError:
         # (a whole number that is too large for a float)
         return None
+    row = iter(numbers)
+    return list(zip(row, row))
 
 
 def check_nested(place: Place, coordinates: object, depth: int) -> None:

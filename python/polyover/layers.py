@@ -8,7 +8,7 @@ from typing import Any, Callable, Iterator, NamedTuple, Sequence
 from . import calls, geojson, together
 from .answers import feature_of
 from .content import File
-from .contour import WholePath
+from .contour import WholePath, row_of
 from .errors import BadInput
 from .geojson import Feature
 from .nearby import Index, Nearby, Node, Region, box_round, regions_of_contours
@@ -100,7 +100,10 @@ def pieces_of_both(first: Layer, second: Layer, overlaid: Overlaid, step: Step) 
 def pieces_of_one(layer: Layer, other: Layer, overlaid: Overlaid, step: Step, is_first: bool) -> Iterator[Piece]:
     """The pieces of features that are in none of the other file."""
     for group in grouped(layer.regions):
-        asked = [Asked(each.feature.place, each.contours, other.whole.near(each.boxes)) for each in group]
+        rows = [list(map(row_of, each.contours)) for each in group]
+        asked = [
+            Asked(each.feature.place, its, other.whole.near(each.boxes)) for each, its in zip(group, rows)
+        ]
         for each, shapes in zip(group, overlaid(asked, layer.file.name, "difference")):
             if shapes:
                 yield Piece(shapes, *((each.feature, None) if is_first else (None, each.feature)))

@@ -2,14 +2,13 @@
 
 from __future__ import annotations
 
-import json
 import os
 import shutil
 import stat
 from contextlib import contextmanager
 from pathlib import Path
 from tempfile import TemporaryFile
-from typing import Any, Iterable, Iterator, Sequence
+from typing import Iterable, Iterator, Sequence
 
 from .errors import BadInput
 from .interrupts import held, let_in
@@ -17,14 +16,6 @@ from .streams import PART, named, write_all
 
 # parts of a text, or a file that is made already, and where they go
 Answer = tuple["Iterable[str] | Path", "str | None"]
-
-
-def json_text(value: Any) -> str:
-    """The text of an answer as JSON."""
-    try:
-        return json.dumps(value) + "\n"
-    except RecursionError:
-        raise BadInput("properties have too many lists or objects in one another") from None
 
 
 def is_plain(target: str) -> bool:

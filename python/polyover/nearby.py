@@ -9,10 +9,11 @@ Contours, and the chains of each, stand in trees of boxes, so that a question co
 
 from __future__ import annotations
 
+from itertools import chain
 from math import ceil, sqrt
 from typing import Iterable, NamedTuple, Sequence
 
-from .contour import WholePath
+from .contour import Row, WholePath, points_in, row_of
 
 # (how many points a chain has, and how many boxes stand in one)
 CHAIN = 16
@@ -27,14 +28,14 @@ Box = tuple[int, int, int, int]
 
 
 class Node:
-    """A box: of the nodes in it, or of the steps from its points, to the next chain's too. The points of an inner node
-    are its first one. `place` is that of a thing which is asked for by its box."""
+    """A box: of the nodes in it, or of the steps from its points, to the next chain's too. These stand in a row; those
+    of an inner node are its first one. `place` is that of a thing which is asked for by its box."""
 
-    __slots__ = ("left", "low", "right", "high", "points", "parts", "place")
+    __slots__ = ("left", "low", "right", "high", "row", "parts", "place")
 
-    def __init__(self, box: Box, points: WholePath, parts: Sequence[Node] = (), place: int = -1) -> None:
+    def __init__(self, box: Box, row: Row, parts: Sequence[Node] = (), place: int = -1) -> None:
         self.left, self.low, self.right, self.high = box
-        self.points, self.parts, self.place = points, parts, place
+        self.row, self.parts, self.place = row, parts, place
 
 
 class Side(NamedTuple):
@@ -78,10 +79,10 @@ def box_round(points: WholePath) -> Box:
     return min(xs), min(ys), max(xs), max(ys)
 
 
-def box_region(points: WholePath) -> Region:
-    """The box round points, with the margin."""
-    left, low, right, high = box_round(points)
-    return Region(left - MARGIN, low - MARGIN, right + MARGIN, high + MARGIN)
+def box_region(row: Row) -> Region:
+    """The box round points in a row, with the margin."""
+    xs, ys = row[0::2], row[1::2]
+    return Region(min(xs) - MARGIN, min(ys) - MARGIN, max(xs) + MARGIN, max(ys) + MARGIN)
 
 
 def side_of(points: WholePath, a: int, b: int) -> Side:
@@ -93,11 +94,12 @@ def run_region(points: WholePath) -> Region:
     """The region round points: their box, and sides along the way from first to last, and across."""
     along, up = points[-1][0] - points[0][0], points[-1][1] - points[0][1]
     ways = [(-up, along), (up, -along), (along, up), (-along, -up)] if along and up else []
-    return box_region(points)._replace(sides=tuple(side_of(points, a, b) for a, b in ways))
+    return box_region(row_of(points))._replace(sides=tuple(side_of(points, a, b) for a, b in ways))
 
 
-def regions_of_runs(lines: Sequence[WholePath]) -> list[Region]:
+def regions_of_runs(rows: Sequence[Row]) -> list[Region]:
     """Regions that hold all steps of lines: each has a run of one line; some runs in all, but one a line at least."""
+    lines = list(map(points_in, rows))
     most = max(2, 1 + sum(map(len, lines)) // RUNS)
     runs = [line[at : at + most] for line in lines for at in range(0, max(1, len(line) - 1), most - 1)]
     return [run_region(run) for run in runs]
@@ -107,7 +109,7 @@ def regions_of_contours(contours: Sequence[WholePath]) -> list[Region]:
     """Regions that hold all that contours wind round: boxes, each of one of them, or of some where they are many."""
     count = ceil(len(contours) / RUNS)
     groups = [contours[at : at + count] for at in range(0, len(contours), max(1, count))]
-    return [box_region([point for contour in group for point in contour]) for group in groups]
+    return [box_region([value for contour in group for point in contour for value in point]) for group in groups]
 
 
 # ---- trees
@@ -121,7 +123,7 @@ def joined(nodes: Sequence[Node]) -> Node:
         max(node.right for node in nodes),
         max(node.high for node in nodes),
     )
-    return Node(box, nodes[0].points[:1], nodes)
+    return Node(box, nodes[0].row[:2], nodes)
 
 
 def grouped(nodes: Sequence[Node]) -> list[Node]:
@@ -140,7 +142,7 @@ def chains_of(contour: WholePath) -> list[Node]:
     """The chains of a contour, one behind the other."""
     closed = [*contour, contour[0]]
     starts = range(0, len(contour), CHAIN)
-    return [Node(box_round(closed[at : at + CHAIN + 1]), contour[at : at + CHAIN]) for at in starts]
+    return [Node(box_round(closed[at : at + CHAIN + 1]), row_of(contour[at : at + CHAIN])) for at in starts]
 
 
 def packed(nodes: Sequence[Node]) -> list[Node]:
@@ -194,63 +196,64 @@ def place_of(node: Node) -> int:
     return node.place
 
 
-def add_kept(node: Node, regions: Sequence[Region], found: WholePath) -> None:
+def add_kept(node: Node, regions: Sequence[Region], found: Row) -> None:
     """Adds the points of the chains in a node that are near, and the first one alone of each node that is far."""
     near = near_of(node, regions)
     if not near:
-        found.append(node.points[0])
+        found += node.row[:2]
     elif node.parts:
         for part in node.parts:
             add_kept(part, near, found)
     else:
-        found += node.points
+        found += node.row
 
 
-def add_in_box(node: Node, region: Region, found: WholePath) -> None:
+def add_in_box(node: Node, region: Region, found: Row) -> None:
     """As `add_kept`, of a node whose box comes near one region without other sides."""
     left, low, right, high, _ = region
     for part in node.parts:
         if part.right < left or part.left > right or part.high < low or part.low > high:
-            found.append(part.points[0])
+            found += part.row[:2]
         elif part.parts:
             add_in_box(part, region, found)
         else:
-            found += part.points
+            found += part.row
 
 
 class Nearby:
-    """A shape that is asked again and again for its part near lines, or near other contours."""
+    """A shape that is asked again and again for its part near lines, or near other contours: for contours, the
+    coordinates of each in a row."""
 
     def __init__(self, contours: Iterable[WholePath]) -> None:
         self.index = Index([tree_of(chains_of(contour)) for contour in contours if contour])
 
-    def part(self, lines: Sequence[WholePath]) -> list[WholePath]:
-        """Contours that wind near the lines as those of the shape do."""
+    def part(self, lines: Sequence[Row]) -> list[Row]:
+        """Contours that wind near the lines, which are rows, as those of the shape do."""
         lines = [line for line in lines if line]
         if not lines:
             return []
-        found = self.near([box_region([point for line in lines for point in line])])
-        return found if sum(map(len, found)) <= FEW else self.near(regions_of_runs(lines))
+        found = self.near([box_region(lines[0] if len(lines) == 1 else list(chain.from_iterable(lines)))])
+        return found if sum(map(len, found)) <= 2 * FEW else self.near(regions_of_runs(lines))
 
-    def part_within(self, contours: Sequence[WholePath]) -> list[WholePath]:
+    def part_within(self, contours: Sequence[WholePath]) -> list[Row]:
         """Contours that wind as those of the shape do wherever the given ones may fill."""
         return self.near(regions_of_contours([contour for contour in contours if contour]))
 
-    def near(self, regions: Sequence[Region]) -> list[WholePath]:
+    def near(self, regions: Sequence[Region]) -> list[Row]:
         """Contours that wind in the regions as those of the shape do."""
-        kept: list[WholePath] = []
+        kept: list[Row] = []
         is_box = len(regions) == 1 and not regions[0].sides
         for root in self.index.near(regions):
             if not root.parts:
                 # (a chain alone is near, as the index tells)
-                kept.append(root.points)
+                kept.append(root.row)
                 continue
-            points: WholePath = []
+            row: Row = []
             if is_box:
-                add_in_box(root, regions[0], points)
+                add_in_box(root, regions[0], row)
             else:
-                add_kept(root, regions, points)
-            kept.append(points)
+                add_kept(root, regions, row)
+            kept.append(row)
         return kept
 
 
@@ -258,9 +261,10 @@ class LinesNearby:
     """Open paths that are asked again and again for those near contours."""
 
     def __init__(self, lines: Iterable[WholePath]) -> None:
-        self.index = Index([Node(box_round(line), line) for line in lines if line])
+        self.lines = [line for line in lines if line]
+        self.index = Index([Node(box_round(line), []) for line in self.lines])
 
     def part(self, contours: Iterable[WholePath]) -> list[WholePath]:
         """The lines whose boxes come near what the contours may fill."""
         regions = regions_of_contours([contour for contour in contours if contour])
-        return [node.points for node in self.index.near(regions)]
+        return [self.lines[node.place] for node in self.index.near(regions)]

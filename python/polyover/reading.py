@@ -3,11 +3,12 @@
 from __future__ import annotations
 
 from dataclasses import dataclass
-from itertools import islice
+from itertools import accumulate, chain, islice
 from typing import Any, Callable, Iterable, Sequence
 
-from .contour import WholePath, extent_of
+from .contour import Row, WholePath, extent_of, points_in
 from .errors import BadInput
+from .flat import parted
 from .geojson import LINES, POLYGONS, Part, parts_of
 from .numbers import over_one_bottom
 from .polygons import Contour, Ring, contours_of_each
@@ -70,18 +71,20 @@ class Lines:
         """Their points."""
         return [part.paths[0] for part in self.parts]
 
-    def whole(self, whole: Whole) -> list[WholePath]:
-        """Their whole points; says how many of them are points at a scale."""
-        points = iter(whole([point for path in self.paths for point in path]))
-        paths = [list(islice(points, len(path))) for path in self.paths]
-        check_range(self.source, [(part.place, path) for part, path in zip(self.parts, paths)])
+    def rows(self, whole_row: Callable[[Sequence[Any]], Row]) -> list[Row]:
+        """Their whole coordinates, in rows; says how many of them are points at a scale."""
+        paths = self.paths
+        found = whole_row(list(chain.from_iterable(paths)))
+        rows = parted(found, list(accumulate(2 * len(path) for path in paths)))
+        if found and max(max(found), -min(found)) > LIMIT:
+            check_range(self.source, [(part.place, points_in(row)) for part, row in zip(self.parts, rows)])
         told = Told(self.source) if self.told is None else self.told
-        for part, path in zip(self.parts, paths):
-            if not path or path[0] == path[-1] and len(set(path)) < 2:
+        for part, row in zip(self.parts, rows):
+            if row[:2] == row[-2:] and len(set(points_in(row))) < 2:
                 told.add(COLLAPSED, part.place)
         if self.told is None:
             told.say()
-        return paths
+        return rows
 
 
 def check_range(source: str, paths: Iterable[tuple[object, WholePath]]) -> None:

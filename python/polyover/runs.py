@@ -10,7 +10,7 @@ from typing import Any, Callable, Iterable, Iterator, Sequence
 from . import calls, files, geojson, leaving, together
 from .answers import feature_of, leave, null_feature, say
 from .content import File
-from .contour import WholePath
+from .contour import Row, WholePath, points_in, row_of
 from .errors import BadInput
 from .formats import GEOJSON, format_of
 from .geojson import Feature
@@ -22,8 +22,9 @@ from .progress import faults_of, long_work
 from .reading import Lines, Polygons, check_range
 from .scaled import Scaled
 from .systems import DEFAULT, DEGREES
-from .together import Asked, Pair
+from .together import Asked, Pair, Points
 from .words import contours_of, fill_of, groups_of, look_of, paths_of, polygons_of, rings_of
+from .writing import json_text
 
 KEEPING = ("intersect", "difference")
 LOCATION = "location"
@@ -110,10 +111,12 @@ def kept(
 ) -> Iterator[Any]:
     """For each feature the shapes of its overlay by what is near it."""
     found = contours_of(given, scaled, first, group)
-    asked = [Asked(each.place, subject, clip.part_within(subject)) for each, subject in zip(group, found)]
+    asked = [
+        Asked(each.place, list(map(row_of, subject)), clip.part_within(subject)) for each, subject in zip(group, found)
+    ]
     is_asked = [bool(each.second) or given.rule != "intersect" for each in asked]
 
-    def one(pair: Pair) -> Any:
+    def one(pair: Points) -> Any:
         return calls.overlay(*pair, given.rule, fill_of(given), **look)
 
     def all_at_once(pairs: Sequence[Pair]) -> Any:
@@ -136,7 +139,7 @@ def run_relate(given: Any) -> None:
     both = polygons_of(given, first), polygons_of(given, second)
     with work_on_two(given, f"relations of {rings_of(first)} and {rings_of(second)} rings", first, second):
         relations = Scaled.of_digits(given.digits).relate(*both, fill_of(given), solver=given.solver)
-    leaving.leave([(leaving.parted(leaving.json_text(relations)), given.out)])
+    leaving.leave([(leaving.parted(json_text(relations)), given.out)])
 
 
 # ---- polygons and lines
@@ -173,16 +176,16 @@ def clips_of(given: Any, area: File, roads: File, picture: Picture) -> Iterator[
     roads.told.say()
 
 
-def groups_with_lines(scaled: Scaled, roads: File) -> Iterator[list[tuple[Feature, list[WholePath]]]]:
-    """Features, each with its lines by whole points: many at a time where they are all there."""
+def groups_with_lines(scaled: Scaled, roads: File) -> Iterator[list[tuple[Feature, list[Row]]]]:
+    """Features, each with its lines by whole coordinates: many at a time where they are all there."""
     for group in groups_of(roads):
         parts = [part for each in group for part in each.parts]
-        lines = iter(scaled.whole(Lines(parts, roads.name, roads.told)))
+        lines = iter(Lines(parts, roads.name, roads.told).rows(scaled.whole_row))
         yield [(each, list(islice(lines, len(each.parts)))) for each in group]
 
 
 def clipped(
-    given: Any, scaled: Scaled, shape: Nearby, source: str, group: Sequence[tuple[Feature, list[WholePath]]]
+    given: Any, scaled: Scaled, shape: Nearby, source: str, group: Sequence[tuple[Feature, list[Row]]]
 ) -> Iterator[Any]:
     """For each feature the parts of its lines that are kept."""
     options = {"invert": given.invert, "boundary": given.boundary, "solver": given.solver}
@@ -190,7 +193,7 @@ def clipped(
     # (without an edge near lines all of them is inside, or all outside)
     is_asked = [bool(each.second and (each.first or given.invert)) for each in asked]
 
-    def one(pair: Pair) -> Any:
+    def one(pair: Points) -> Any:
         return calls.clip(*pair, fill_of(given), **options)
 
     def all_at_once(pairs: Sequence[Pair]) -> Any:
@@ -204,7 +207,8 @@ def run_slice(given: Any) -> None:
     """Slices the polygons of a file, feature by feature, along the lines of a second file"""
     walls = files.lines_of(given.other, given)
     scaled = Scaled.of_digits(given.digits)
-    lines = LinesNearby([path for group in groups_with_lines(scaled, walls) for _, paths in group for path in paths])
+    rows = (row for group in groups_with_lines(scaled, walls) for _, its in group for row in its)
+    lines = LinesNearby(map(points_in, rows))
     walls.told.say()
 
     def cut(polygons: Polygons) -> Any:

@@ -10,8 +10,8 @@ from operator import sub
 from typing import Any, Callable, Iterable, Sequence
 
 from . import calls, quick, small
-from .columns import ERROR, EXACT, LEAST, whole_points
-from .contour import WholePath, WholePoint
+from .columns import ERROR, EXACT, LEAST, row_of_points, whole_points
+from .contour import Row, WholePath, WholePoint, points_in, row_of
 from .errors import BadInput
 from .flat import Flat, FlatFloats, FlatShapes, copied, parted
 from .geojson import is_geometry, points_of
@@ -151,13 +151,18 @@ class Scaled(RulesAtScale):
             # (a point that is none is named)
             return [self.whole_point(point) for point in path]
 
+    def whole_row(self, points: Sequence[Any]) -> Row:
+        """The whole coordinates of points, in a row."""
+        found = row_of_points(self.axes, points)
+        return row_of(self.whole_path(points)) if found is None else found
+
     def whole(self, paths: Group, name: str = "paths") -> list[WholePath]:
         """Paths with whole points; of polygons that were read, their contours for the fill rule nonzero. A fault names
         the place."""
         if isinstance(paths, Polygons):
             return [whole for whole, _ in paths.contours(self.whole_path)]
         if isinstance(paths, Lines):
-            return paths.whole(self.whole_path)
+            return list(map(points_in, paths.rows(self.whole_row)))
         given = [path if isinstance(path, (list, tuple)) else list(items_of(path)) for path in paths]
         try:
             points = iter(self.whole_path([point for path in given for point in path]))

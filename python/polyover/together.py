@@ -7,19 +7,20 @@ from __future__ import annotations
 from array import array
 from bisect import bisect_right
 from itertools import chain
+from struct import pack
 from typing import Any, Callable, Iterable, Iterator, NamedTuple, Sequence
 
 from . import calls
-from .contour import WholePath
+from .contour import Row, WholePath, points_in
 from .errors import NotSettled, OutOfMemory, TooManyEdges
 from .flat import Flat, FlatShapes
 from .nearby import MARGIN
 from .progress import faults_of
 from .text import LIMIT
 
-Pair = tuple[Sequence[WholePath], Sequence[WholePath]]
-# an answer: of each pair the coordinates of its paths, each in a row, or of the contours of its shapes
-Numbers = list[int]
+# two groups of paths, each a row, or, where they are asked alone, a list of points; answers are rows
+Pair = tuple[Sequence[Row], Sequence[Row]]
+Points = tuple[Sequence[WholePath], Sequence[WholePath]]
 # (points that are asked at once)
 POINTS = 50_000
 REFUSED = (MemoryError, NotSettled, OutOfMemory, TooManyEdges)
@@ -29,20 +30,22 @@ class Side:
     """Contours, or lines, of many pairs in arrays."""
 
     def __init__(self) -> None:
-        self.numbers, self.ends = array("q"), array("Q")
+        self.xs: Row = []
+        self.ys: Row = []
+        self.ends: list[int] = []
 
-    def add(self, paths: Sequence[WholePath], row: Numbers, move: int) -> None:
-        """Adds paths, whose coordinates are in a row, moved in x."""
-        row[0::2] = [x + move for x in row[0::2]]
-        end = len(self.numbers) // 2
-        self.numbers.extend(row)
-        for path in paths:
-            end += len(path)
-            self.ends.append(end)
+    def add(self, rows: Sequence[Row], xs: Sequence[Row], move: int) -> None:
+        """Adds paths, whose x are given too, moved in x."""
+        for row, across in zip(rows, xs):
+            self.xs += [x + move for x in across]
+            self.ys += row[1::2]
+            self.ends.append(len(self.ys))
 
     def flat(self) -> Flat:
         """The arrays as calls take them."""
-        return Flat.of_arrays(self.numbers, self.ends)
+        row = [0] * (2 * len(self.xs))
+        row[0::2], row[1::2] = self.xs, self.ys
+        return Flat.of_arrays(array("q", pack(f"{len(row)}q", *row)), array("Q", self.ends))
 
 
 class Together:
@@ -56,17 +59,17 @@ class Together:
         self.has_room = True
         at = -LIMIT
         for place, pair in enumerate(pairs):
-            rows = [list(chain.from_iterable(chain.from_iterable(paths))) for paths in pair]
-            xs = [row[0::2] for row in rows if row]
-            if not xs:
+            first, second = ([row[0::2] for row in rows] for rows in pair)
+            ends = [end for xs in (*first, *second) if xs for end in (min(xs), max(xs))]
+            if not ends:
                 continue
-            left, right = min(min(each) for each in xs), max(max(each) for each in xs)
+            left, right = min(ends), max(ends)
             if at + right - left > LIMIT:
                 self.has_room = False
                 return
             move = at - left
-            for side, paths, row in zip((self.first, self.second), pair, rows):
-                side.add(paths, row, move)
+            self.first.add(pair[0], first, move)
+            self.second.add(pair[1], second, move)
             self.places.append(place)
             self.starts.append(at - MARGIN)
             self.moves.append(move)
@@ -78,9 +81,9 @@ class Together:
         return self.places[at], self.moves[at]
 
 
-def paths_of(together: Together, found: Flat, count: int) -> list[list[Numbers]]:
+def paths_of(together: Together, found: Flat, count: int) -> list[list[Row]]:
     """The paths of each pair."""
-    answers: list[list[Numbers]] = [[] for _ in range(count)]
+    answers: list[list[Row]] = [[] for _ in range(count)]
     numbers, start = found.numbers.tolist(), 0
     for end in found.counts.tolist():
         row = numbers[2 * start : 2 * end]
@@ -91,9 +94,9 @@ def paths_of(together: Together, found: Flat, count: int) -> list[list[Numbers]]
     return answers
 
 
-def shapes_of(together: Together, found: FlatShapes, count: int) -> list[list[list[Numbers]]]:
+def shapes_of(together: Together, found: FlatShapes, count: int) -> list[list[list[Row]]]:
     """The shapes of each pair."""
-    answers: list[list[list[Numbers]]] = [[] for _ in range(count)]
+    answers: list[list[list[Row]]] = [[] for _ in range(count)]
     numbers, ends = found.contours.numbers.tolist(), found.contours.counts.tolist()
     start = first = 0
     for last in found.shape_ends.tolist():
@@ -113,8 +116,8 @@ class Asked(NamedTuple):
     """A pair that is asked, and the place that its faults name."""
 
     place: object
-    first: Sequence[WholePath]
-    second: Sequence[WholePath]
+    first: Sequence[Row]
+    second: Sequence[Row]
 
     @property
     def pair(self) -> Pair:
@@ -122,9 +125,14 @@ class Asked(NamedTuple):
         return self.first, self.second
 
     @property
-    def points(self) -> int:
+    def points(self) -> Points:
+        """The pair as lists of points."""
+        return list(map(points_in, self.first)), list(map(points_in, self.second))
+
+    @property
+    def size(self) -> int:
         """How many points it has."""
-        return sum(map(len, self.first)) + sum(map(len, self.second))
+        return sum(map(len, chain(self.first, self.second))) // 2
 
 
 def parts_of(asked: Iterable[Asked]) -> Iterator[list[Asked]]:
@@ -132,17 +140,18 @@ def parts_of(asked: Iterable[Asked]) -> Iterator[list[Asked]]:
     part: list[Asked] = []
     points = 0
     for each in asked:
-        if part and points + each.points > POINTS:
+        size = each.size
+        if part and points + size > POINTS:
             yield part
             part, points = [], 0
         part.append(each)
-        points += each.points
+        points += size
     if part:
         yield part
 
 
 def answers(
-    asked: Iterable[Asked], source: str, all_at_once: Callable[[list[Pair]], Any], one: Callable[[Pair], Any]
+    asked: Iterable[Asked], source: str, all_at_once: Callable[[list[Pair]], Any], one: Callable[[Points], Any]
 ) -> Iterator[Any]:
     """What is answered of each pair, in rows; one by one where a part is one pair, or is not answered. Then a fault
     names the source, and the pair's place."""
@@ -153,7 +162,7 @@ def answers(
             continue
         for each in part:
             with faults_of(source, place=each.place):
-                told = one(each.pair)
+                told = one(each.points)
             yield rows_in(told)
 
 
@@ -165,7 +174,7 @@ def rows_in(answer: Any) -> Any:
 # ---- the calls
 
 
-def clips(pairs: Sequence[Pair], fill: Any, **options: Any) -> list[list[Numbers]] | None:
+def clips(pairs: Sequence[Pair], fill: Any, **options: Any) -> list[list[Row]] | None:
     """Of each pair of a shape and lines the paths that `clip` leaves, with their coordinates in rows; none of all where
     these can't be asked at once, or the call is refused."""
     together = Together(pairs)
@@ -178,7 +187,7 @@ def clips(pairs: Sequence[Pair], fill: Any, **options: Any) -> list[list[Numbers
     return paths_of(together, found, len(pairs))
 
 
-def overlays(pairs: Sequence[Pair], rule: Any, fill: Any, **look: Any) -> list[list[list[Numbers]]] | None:
+def overlays(pairs: Sequence[Pair], rule: Any, fill: Any, **look: Any) -> list[list[list[Row]]] | None:
     """Of each pair of a subject and a clip the shapes of `overlay`, likewise."""
     together = Together(pairs)
     if not together.has_room:
@@ -190,7 +199,7 @@ def overlays(pairs: Sequence[Pair], rule: Any, fill: Any, **look: Any) -> list[l
     return shapes_of(together, found, len(pairs))
 
 
-def slices(pairs: Sequence[Pair], fill: Any, **look: Any) -> list[list[list[Numbers]]] | None:
+def slices(pairs: Sequence[Pair], fill: Any, **look: Any) -> list[list[list[Row]]] | None:
     """Of each pair of a shape and lines the shapes of `slice`, likewise."""
     together = Together(pairs)
     if not together.has_room:

@@ -6,6 +6,7 @@ from unittest import mock
 
 import polyover
 from polyover import calls
+from polyover.contour import points_in, row_of
 from polyover.nearby import LinesNearby, Nearby
 
 from .features import collection, feature, ran, square
@@ -26,6 +27,16 @@ def comb(count):
     """A contour of many teeth, whose back is far below them."""
     teeth = [point for x in range(0, 10 * count, 10) for point in ((x, 0), (x, 9000), (x + 5, 9000), (x + 5, 0))]
     return [*reversed(teeth), (0, -(10**6)), (10 * count, -(10**6))]
+
+
+def part(shape, lines):
+    """The part of a shape near lines."""
+    return list(map(points_in, shape.part(list(map(row_of, lines)))))
+
+
+def part_within(shape, contours):
+    """The part of a shape that may fill what contours do."""
+    return list(map(points_in, shape.part_within(contours)))
 
 
 class Asked(unittest.TestCase):
@@ -90,10 +101,10 @@ class Asked(unittest.TestCase):
         near = Nearby([comb(5000)])
         for lines in ([[(25_002, 10), (25_004, 20)]], [[(25_002, 10), (25_302, 20)]]):
             # (of 20,002; there are 4 a tooth within 556 at most)
-            self.assertLess(sum(map(len, near.part(lines))), 300)
-        self.assertLess(sum(map(len, near.part_within([box(25_000, 9, 25_100, 99)]))), 300)
+            self.assertLess(sum(map(len, part(near, lines))), 300)
+        self.assertLess(sum(map(len, part_within(near, [box(25_000, 9, 25_100, 99)]))), 300)
         # (inside, far from all edges)
-        self.assertLess(sum(map(len, near.part([[(25_000, -5000), (25_010, -5000)]]))), 100)
+        self.assertLess(sum(map(len, part(near, [[(25_000, -5000), (25_010, -5000)]]))), 100)
 
 
 class SameAnswers(unittest.TestCase):
@@ -105,15 +116,15 @@ class SameAnswers(unittest.TestCase):
         for _ in range(200):
             x, y = chance.randint(-50, 3050), chance.randint(-500, 9500)
             line = [(x, y), (x + chance.randint(-50, 50), y + chance.randint(-50, 50)), (x + 1, y)]
-            for part in (near.part([line]), near.part_within([line])):
+            for found in (part(near, [line]), part_within(near, [line])):
                 for p in line:
                     p = p[0] + 0.5, p[1] + 0.25
-                    self.assertEqual(winding(part, p), winding(shape, p))
+                    self.assertEqual(winding(found, p), winding(shape, p))
 
     def test_within_what_a_contour_fills(self):
         # (the inner one is far from each edge of the outer one)
         shape = Nearby([box(0, 0, 9000, 9000), box(4000, 4000, 4010, 4010), box(20_000, 0, 20_010, 10)])
-        self.assertEqual(len(shape.part_within([box(-5, -5, 9005, 9005)])), 2)
+        self.assertEqual(len(part_within(shape, [box(-5, -5, 9005, 9005)])), 2)
 
     def test_overlays(self):
         chance = random.Random(4)
@@ -125,8 +136,8 @@ class SameAnswers(unittest.TestCase):
             x, y = chance.randint(0, 20_000), chance.randint(0, 20_000)
             subject = [box(x, y, x + chance.randint(1, 3000), y + chance.randint(1, 3000)), box(x, -9, x + 9, -5)]
             for rule in ("intersect", "difference"):
-                part = polyover.overlay(subject, near.part_within(subject), rule)
-                self.assertEqual(part, polyover.overlay(subject, shape, rule))
+                found = polyover.overlay(subject, part_within(near, subject), rule)
+                self.assertEqual(found, polyover.overlay(subject, shape, rule))
 
     def test_slices(self):
         chance = random.Random(5)
@@ -141,11 +152,11 @@ class SameAnswers(unittest.TestCase):
 
     def test_in_order_and_without_points(self):
         near = Nearby([[], *(box(x, 0, x + 1, 1) for x in range(0, 10_000, 5))])
-        part = near.part([[(4000, 0), (5000, 1)]])
-        self.assertEqual(part, sorted(part))
+        found = part(near, [[(4000, 0), (5000, 1)]])
+        self.assertEqual(found, sorted(found))
         # (with the margin of 128 from 3875 to 5125)
-        self.assertEqual((len(part), part[0][0], part[-1][0]), (251, (3875, 0), (5125, 0)))
-        for nothing in (near.part([]), near.part([[]]), Nearby([]).part([[(0, 0), (1, 1)]]), near.part_within([])):
+        self.assertEqual((len(found), found[0][0], found[-1][0]), (251, (3875, 0), (5125, 0)))
+        for nothing in (part(near, []), part(near, [[]]), part(Nearby([]), [[(0, 0), (1, 1)]]), part_within(near, [])):
             self.assertEqual(nothing, [])
 
 

@@ -6,6 +6,7 @@ from unittest import mock
 
 import polyover
 from polyover import calls, together
+from polyover.contour import row_of
 from polyover.progress import faults_of
 from polyover.together import Asked
 
@@ -16,6 +17,11 @@ from .there import with_library
 def in_rows(answer):
     """Paths, or shapes, with the coordinates of each in a row."""
     return together.rows_in(answer)
+
+
+def rowed(pairs):
+    """Pairs of groups of paths, with the coordinates of each path in a row."""
+    return [tuple(list(map(row_of, paths)) for paths in pair) for pair in pairs]
 
 
 def boxes(chance, count):
@@ -45,10 +51,12 @@ class Same(unittest.TestCase):
 
     def test_by_hand(self):
         pairs = [([square(0, 0, 4, 4)[:-1]], [square(2, 2, 6, 6)[:-1]]), ([], []), ([square(0, 0, 1, 1)[:-1]], [])]
-        self.assertEqual(together.overlays(pairs, "intersect", "nonzero"), [[[[2, 4, 2, 2, 4, 2, 4, 4]]], [], []])
+        found = together.overlays(rowed(pairs), "intersect", "nonzero")
+        self.assertEqual(found, [[[[2, 4, 2, 2, 4, 2, 4, 4]]], [], []])
         pairs = [([square(0, 0, 4, 4)[:-1]], [[(-1, 2), (5, 2)]]), ([square(9, 9, 10, 10)[:-1]], [[(0, 0), (1, 0)]])]
-        self.assertEqual(together.clips(pairs, "nonzero"), [[[0, 2, 4, 2]], []])
-        self.assertEqual(together.clips(pairs, "nonzero", invert=True), [[[-1, 2, 0, 2], [4, 2, 5, 2]], [[0, 0, 1, 0]]])
+        self.assertEqual(together.clips(rowed(pairs), "nonzero"), [[[0, 2, 4, 2]], []])
+        found = together.clips(rowed(pairs), "nonzero", invert=True)
+        self.assertEqual(found, [[[-1, 2, 0, 2], [4, 2, 5, 2]], [[0, 0, 1, 0]]])
 
     def test_of_whole_meeting_points(self):
         chance = random.Random(8)
@@ -63,11 +71,11 @@ class Same(unittest.TestCase):
                 for ogc in (True, False):
                     look = {"ogc": ogc, "solver": solver, "minimum_area": chance.choice((0, 20))}
                     alone = [in_rows(calls.overlay(*pair, rule, fill, **look)) for pair in pairs]
-                    self.assertEqual(together.overlays(pairs, rule, fill, **look), alone)
+                    self.assertEqual(together.overlays(rowed(pairs), rule, fill, **look), alone)
             for invert in (True, False):
                 options = {"invert": invert, "boundary": chance.choice((True, False)), "solver": solver}
                 alone = [in_rows(calls.clip(*pair, fill, **options)) for pair in clipped]
-                self.assertEqual(together.clips(clipped, fill, **options), alone)
+                self.assertEqual(together.clips(rowed(clipped), fill, **options), alone)
 
     def test_of_one_slanted_pair_each(self):
         # (all have meeting points that are not whole, so each alone is snapped as all are)
@@ -79,7 +87,7 @@ class Same(unittest.TestCase):
             pairs.append(([[(x + u, y + v) for u, v in slanted]], [[(x + 7 * v, y + u) for u, v in slanted]]))
         for rule in ("intersect", "union", "xor"):
             alone = [in_rows(calls.overlay(*pair, rule, "nonzero")) for pair in pairs]
-            self.assertEqual(together.overlays(pairs, rule, "nonzero"), alone)
+            self.assertEqual(together.overlays(rowed(pairs), rule, "nonzero"), alone)
 
 
 class Refused(unittest.TestCase):
@@ -90,7 +98,7 @@ class Refused(unittest.TestCase):
         return list(together.answers(asked, "a.geojson", all_at_once, one))
 
     def test_one_by_one(self):
-        pairs = [Asked(f"feature {at}", [[(0, 0), (at, 0), (0, at)]], []) for at in (1, 2, 3)]
+        pairs = [Asked(f"feature {at}", [[0, 0, at, 0, 0, at]], []) for at in (1, 2, 3)]
         self.assertEqual(self.answers(pairs, lambda pair: pair[0]), [[[0, 0, at, 0, 0, at]] for at in (1, 2, 3)])
 
         def refuse(pair):
@@ -102,7 +110,7 @@ class Refused(unittest.TestCase):
             self.answers(pairs, refuse)
 
     def test_parts_have_few_points(self):
-        pairs = [Asked(at, [[(0, 0)] * 20], [[(1, 1)] * 5]) for at in range(10)]
+        pairs = [Asked(at, [[0, 0] * 20], [[1, 1] * 5]) for at in range(10)]
         with mock.patch.object(together, "POINTS", 60):
             self.assertEqual([len(part) for part in together.parts_of(pairs)], [2] * 5)
         with mock.patch.object(together, "POINTS", 3):
@@ -110,19 +118,19 @@ class Refused(unittest.TestCase):
 
     def test_no_room(self):
         wide = [[(-(2**61), 0), (2**61, 0), (0, 9)]]
-        ((ring,),) = together.overlays([(wide, [])], "subject", "nonzero")[0]
+        ((ring,),) = together.overlays(rowed([(wide, [])]), "subject", "nonzero")[0]
         self.assertEqual(set(zip(ring[0::2], ring[1::2])), set(wide[0]))
-        self.assertIsNone(together.overlays([(wide, [])] * 3, "subject", "nonzero"))
-        self.assertIsNone(together.clips([(wide, [])] * 3, "nonzero"))
+        self.assertIsNone(together.overlays(rowed([(wide, [])] * 3), "subject", "nonzero"))
+        self.assertIsNone(together.clips(rowed([(wide, [])] * 3), "nonzero"))
 
     @with_library
     def test_refused_by_rounds(self):
         # (a refusal of all asks each by itself, and names the one)
         for fault in (polyover.NotSettled("x"), polyover.OutOfMemory("x"), MemoryError()):
             with mock.patch.object(calls, "overlay", side_effect=fault):
-                self.assertIsNone(together.overlays([([[(0, 0), (1, 0), (0, 1)]], [])], "union", "nonzero"))
+                self.assertIsNone(together.overlays([([[0, 0, 1, 0, 0, 1]], [])], "union", "nonzero"))
         with self.assertRaises(polyover.BadInput), faults_of("a"):
-            together.overlays([([[(0, 0), (1, 0), (0, 1)]], [])], "nope", "nonzero")
+            together.overlays([([[0, 0, 1, 0, 0, 1]], [])], "nope", "nonzero")
 
 
 class Commands(unittest.TestCase):

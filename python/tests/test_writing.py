@@ -1,0 +1,60 @@
+"""Features of answers as text: that of `json`, number by number."""
+
+import json
+import random
+import unittest
+
+from polyover import geojson, writing
+from polyover.scaled import Scaled
+
+from .features import feature
+
+
+def written(features, digits=7):
+    """The text of a collection of features."""
+    return writing.features_text(features, digits, geojson.collection)
+
+
+def by_json(features):
+    """The same by `json` alone."""
+    return json.dumps(geojson.collection(features)) + "\n"
+
+
+class Written(unittest.TestCase):
+    """What is written is what `json` writes."""
+
+    def check(self, *features, digits=7):
+        """That features have the text of `json`."""
+        self.assertEqual(written(features, digits), by_json(features))
+
+    def test_by_hand(self):
+        path = [(0.0, -5.0), (0.0001, 1e-05), (1.5e-06, 179.9999999), (-0.1, 9999999.9999999), (1e7, 12345678.9)]
+        texts = ["[0.0, -5.0]", "[0.0001, 1e-05]", "[1.5e-06, 179.9999999]", "[-0.1, 9999999.9999999]"]
+        self.assertEqual(writing.lines_text([path[:4], path[4:]], 1e7),
+                         f"[[{', '.join(texts)}], [[10000000.0, 12345678.9]]]")
+        self.check(feature("MultiLineString", [path[:4], path[4:]], name="a"))
+
+    def test_at_each_scale(self):
+        chance = random.Random(11)
+        for digits in (-250, *range(-3, 20), 250):
+            scaled = Scaled.of_digits(digits)
+            for _ in range(40):
+                top = 10 ** chance.randint(1, 18)
+                rows = [[chance.randint(-top, top) // top_of * top_of for top_of in (1, 1, 10**3, 1, 10**7, 1)]
+                        for _ in range(2)]
+                self.check(feature("MultiLineString", scaled.rows(rows)),
+                           feature("MultiPolygon", [scaled.rows(rows), scaled.rows(rows[:1])]), digits=digits)
+
+    def test_others_stay_as_they_are(self):
+        one = feature("MultiLineString", [[(1.5, 2.5), (3.25, 4.0)]], at=[1, {"b": None}], text="\u00e9\"")
+        self.check()
+        self.check(one, {"type": "Feature", "properties": None, "geometry": None}, feature("Point", (1, 2.123456789012)))
+        self.assertEqual(writing.features_text([one], 7, lambda features: features[0]), json.dumps(one) + "\n")
+
+    def test_the_mark_in_a_property(self):
+        for value in (writing.MARK, {writing.MARK: 1}, f'"{writing.MARK}', [writing.MARKED]):
+            self.check(feature("MultiPolygon", [[[(0.5, 0.0), (1.0, 0.0), (0.0, 1.0), (0.5, 0.0)]]], mark=value))
+
+
+if __name__ == "__main__":
+    unittest.main()
