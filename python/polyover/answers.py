@@ -6,7 +6,7 @@ import warnings
 from contextlib import contextmanager
 from typing import Any, Iterable, Iterator
 
-from . import geojson, leaving, streams, tables, wkb, wkt
+from . import leaving, streams, tables, wkb, wkt
 from .content import File
 from .contour import box_of
 from .errors import BadInput, PolyoverWarning
@@ -18,7 +18,7 @@ from .leaving import Answer, leave_lines, parted
 from .picture import Picture
 from .sequences import RECORD
 from .systems import DEGREES, words_for
-from .writing import features_text
+from .writing import collection_text, feature_text
 
 
 def say(text: object) -> None:
@@ -41,9 +41,10 @@ def warnings_as_lines() -> Iterator[None]:
 
 def feature_of(geometry: dict[str, Any], members: dict[str, Any]) -> dict[str, Any]:
     """A feature of an answer, with members of the given one; a box that was stated is stated of the answer."""
+    if "bbox" not in members:
+        return {"type": "Feature", "properties": None, **members, "geometry": geometry}
     left = {name: value for name, value in members.items() if name != "bbox"}
-    box = {"bbox": bounds([geometry])} if "bbox" in members else {}
-    return {"type": "Feature", "properties": None, **left, **box, "geometry": geometry}
+    return {"type": "Feature", "properties": None, **left, "bbox": bounds([geometry]), "geometry": geometry}
 
 
 def null_feature(each: Feature) -> dict[str, Any]:
@@ -69,7 +70,7 @@ def points_in(coordinates: Any) -> list[Any]:
 def line_of(form: Format, feature: dict[str, Any], digits: int, system: int, place: str) -> str:
     """The line of a feature, with the number of its system where it has one; a fault names its place."""
     if form in SEQUENCES:
-        return RECORD * (form is RECORDS) + features_text([feature], digits, lambda features: features[0])
+        return f"{RECORD * (form is RECORDS)}{feature_text(feature, digits)}\n"
     try:
         written = wkt.written if form is WKT else wkb.written
         return written(feature["geometry"], system)
@@ -94,10 +95,11 @@ def text_of(given: Any, features: Iterable[dict[str, Any]], file: File) -> str:
         holding = Holding(GEOJSON, given.out, given.drop)
         holding.leave_out(words_for(file.system))
         holding.told.say()
-    listed, members = list(features), dict(file.members)
+    members = dict(file.members)
     if file.has_box:
-        members["bbox"] = bounds(each["geometry"] for each in listed)
-    return features_text(listed, given.digits, lambda features: geojson.collection(features, **members))
+        features = list(features)
+        members["bbox"] = bounds(each["geometry"] for each in features)
+    return collection_text(features, given.digits, members)
 
 
 def leave(given: Any, features: Iterable[dict[str, Any]], picture: Picture, file: File) -> None:

@@ -3,6 +3,7 @@
 from __future__ import annotations
 
 from itertools import chain
+from operator import mul, ne
 from typing import Any, Sequence
 
 from .text import LIMIT
@@ -15,12 +16,18 @@ Row = list[int]
 
 def double_area(contour: Sequence[Any]) -> Any:
     """Twice the area inside a contour, negative where it runs clockwise; exact for whole numbers."""
-    return sum(a[0] * b[1] - b[0] * a[1] for a, b in zip(contour, [*contour[1:], *contour[:1]]))
+    if not contour:
+        return 0
+    xs, ys = zip(*contour)
+    return sum(map(mul, xs, (*ys[1:], ys[0]))) - sum(map(mul, ys, (*xs[1:], xs[0])))
 
 
 def without_repeats(contour: WholePath) -> WholePath:
     """A contour without points that are equal to the one before them."""
-    return [point for point, before in zip(contour, [contour[-1], *contour]) if point != before] or contour[:1]
+    before = [contour[-1], *contour[:-1]]
+    if all(map(ne, contour, before)):
+        return contour
+    return [point for point, last in zip(contour, before) if point != last] or contour[:1]
 
 
 def is_flat(contour: WholePath) -> bool:

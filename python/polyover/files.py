@@ -93,13 +93,20 @@ def lines_in(name: str) -> Iterator[tuple[int, str]]:
 # ---- formats
 
 
+def drained(things: list[Any]) -> Iterator[Any]:
+    """The items of a list, which loses each as it comes: then its memory is free, where nothing else needs it."""
+    things.reverse()
+    while things:
+        yield things.pop()
+
+
 def json_content(name: str) -> Content:
     """What a file of GeoJSON has."""
     found = json.loads(bytes_of(name).decode("utf-8-sig"), object_pairs_hook=once)
     whole = geometry_of(found)
     is_collection = whole["type"] == "FeatureCollection"
     members = {key: value for key, value in whole.items() if key not in OWN} if is_collection else {}
-    things = [(0, each) for each in features_in(whole)]
+    things = ((0, each) for each in drained(list(features_in(whole))))
     return Content(things, members, system_in(members), is_collection and "bbox" in whole)
 
 

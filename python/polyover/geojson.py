@@ -18,6 +18,8 @@ POINTS = ("Point", "MultiPoint")
 KINDS = {*POLYGONS, *LINES, *POINTS}
 # (how many lists stand round a point)
 DEPTHS = {"Point": 0, "MultiPoint": 1, "LineString": 1, "MultiLineString": 2, "Polygon": 2, "MultiPolygon": 3}
+# (how few points a path may have, and the first part's name in places)
+LEAST = {"Polygon": (3, "polygon 1"), "LineString": (2, "line 1")}
 NESTED = 50
 LISTS, NUMBERS = {list, tuple}, {float, int}
 DROPPED = counted("members of # [point|points] beyond x and y are left out")
@@ -177,18 +179,21 @@ class Reader:
             raise BadInput(f"{place}: properties: {shown(members['properties'])} is no object")
         if geometry is None:
             return Feature(place, [], members, is_null=True)
-        line = self.plain_line(place, geometry)
-        return Feature(place, list(self.parts(place, geometry)) if line is None else [line], members)
+        part = self.plain_part(place, geometry)
+        return Feature(place, list(self.parts(place, geometry)) if part is None else [part], members)
 
-    def plain_line(self, place: Place, geometry: object) -> Part | None:
-        """The line of a geometry that is one, of points of two numbers of Python's own, where lines are wanted."""
-        if type(geometry) is not dict or geometry.get("type") != LINES[0] or LINES[0] not in self.kinds:
+    def plain_part(self, place: Place, geometry: object) -> Part | None:
+        """The line or polygon of a geometry that is one, of points of two numbers of Python's own, where it is wanted
+        and no path has too few points."""
+        if type(geometry) is not dict or geometry.get("type") != self.kinds[0]:
             return None
-        points = plain_points(geometry.get("coordinates"))
-        if points is None or len(points) < 2:
+        least, word = LEAST.get(self.kinds[0], (0, ""))
+        coordinates = geometry.get("coordinates")
+        paths = plain_paths([coordinates] if least == 2 else coordinates, least) if least else None
+        if not paths:
             return None
         self.finds_any = True
-        return Part(Place(place.feature, place.geometries, "line 1", 0, place.line), [points])
+        return Part(Place(place.feature, place.geometries, word, 0, place.line), paths)
 
 
 # ---- what stands where it should
@@ -253,6 +258,22 @@ def plain_points(path: Any) -> list[Any] | None:
         return None
     row = iter(numbers)
     return list(zip(row, row))
+
+
+def plain_paths(paths: Any, least: int) -> list[Path] | None:
+    """The points of lists, each as `plain_points` has them and at least so many; those of rings without the first one
+    again at the end."""
+    if type(paths) not in LISTS:
+        return None
+    found = []
+    for path in paths:
+        points = plain_points(path)
+        if points and least == 3 and len(points) > 1 and points[0] == points[-1]:
+            points.pop()
+        if points is None or len(points) < least:
+            return None
+        found.append(points)
+    return found
 
 
 def check_nested(place: Place, coordinates: object, depth: int) -> None:

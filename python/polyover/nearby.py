@@ -9,8 +9,10 @@ Contours, and the chains of each, stand in trees of boxes, so that a question co
 
 from __future__ import annotations
 
+from functools import cached_property
 from itertools import chain
 from math import ceil, sqrt
+from operator import attrgetter
 from typing import Iterable, NamedTuple, Sequence
 
 from .contour import Row, WholePath, points_in, row_of
@@ -25,6 +27,7 @@ FEW = 200
 MARGIN = 128
 
 Box = tuple[int, int, int, int]
+PLACE = attrgetter("place")
 
 
 class Node:
@@ -83,6 +86,12 @@ def box_region(row: Row) -> Region:
     """The box round points in a row, with the margin."""
     xs, ys = row[0::2], row[1::2]
     return Region(min(xs) - MARGIN, min(ys) - MARGIN, max(xs) + MARGIN, max(ys) + MARGIN)
+
+
+def box_region_round(regions: Sequence[Region]) -> Region:
+    """The box round regions."""
+    lefts, lows, rights, highs, _ = zip(*regions)
+    return Region(min(lefts), min(lows), max(rights), max(highs))
 
 
 def side_of(points: WholePath, a: int, b: int) -> Side:
@@ -175,12 +184,12 @@ class Index:
         """The things that come near any region, in order."""
         if not regions:
             return []
-        if len(regions) == 1:
-            left, low, right, high, _ = regions[0]
-        else:
-            left, low = min(each.left for each in regions), min(each.low for each in regions)
-            right, high = max(each.right for each in regions), max(each.high for each in regions)
-        nodes = self.top
+        left, low, right, high, sides = regions[0] if len(regions) == 1 else box_region_round(regions)
+        nodes = [
+            node
+            for node in self.top
+            if node.left <= right and node.right >= left and node.low <= high and node.high >= low
+        ]
         for _ in range(self.depth):
             nodes = [
                 part
@@ -188,12 +197,9 @@ class Index:
                 for part in node.parts
                 if part.left <= right and part.right >= left and part.low <= high and part.high >= low
             ]
-        return sorted((node for node in nodes if near_of(node, regions)), key=place_of)
-
-
-def place_of(node: Node) -> int:
-    """The place of a thing."""
-    return node.place
+        if len(regions) > 1 or sides:
+            nodes = [node for node in nodes if near_of(node, regions)]
+        return sorted(nodes, key=PLACE)
 
 
 def add_kept(node: Node, regions: Sequence[Region], found: Row) -> None:
@@ -225,7 +231,12 @@ class Nearby:
     coordinates of each in a row."""
 
     def __init__(self, contours: Iterable[WholePath]) -> None:
-        self.index = Index([tree_of(chains_of(contour)) for contour in contours if contour])
+        self.contours = [contour for contour in contours if contour]
+
+    @cached_property
+    def index(self) -> Index:
+        """Their trees, which are made where they are asked for."""
+        return Index([tree_of(chains_of(contour)) for contour in self.contours])
 
     def part(self, lines: Sequence[Row]) -> list[Row]:
         """Contours that wind near the lines, which are rows, as those of the shape do."""

@@ -139,7 +139,7 @@ def run_relate(given: Any) -> None:
     both = polygons_of(given, first), polygons_of(given, second)
     with work_on_two(given, f"relations of {rings_of(first)} and {rings_of(second)} rings", first, second):
         relations = Scaled.of_digits(given.digits).relate(*both, fill_of(given), solver=given.solver)
-    leaving.leave([(leaving.parted(json_text(relations)), given.out)])
+    leaving.leave([(leaving.parted(json_text(relations) + "\n"), given.out)])
 
 
 # ---- polygons and lines

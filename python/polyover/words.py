@@ -13,8 +13,8 @@ from .reading import Polygons
 from .scaled import Scaled
 from .text import Fill
 
-# (features that are asked together)
-AT_ONCE = 1000
+# (features that are asked together: of more the numbers leave the processor's cache)
+AT_ONCE = 100
 
 
 def fill_of(given: Any) -> Fill:

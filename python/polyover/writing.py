@@ -5,51 +5,43 @@ from __future__ import annotations
 
 import json
 from itertools import chain
-from typing import Any, Callable, Iterator, Sequence
+from typing import Any, Iterable, Sequence
 
 from .errors import BadInput
+from .geojson import collection
 
 # (decimals of this many digits are texts of different floats, and Python makes them soonest)
 DIGITS = 14
 POINT = f"[{{:.{DIGITS}}}, {{:.{DIGITS}}}], "
-MARK = "the coordinates of an answer"
-MARKED = json.dumps(MARK)
-
-Feature = dict[str, Any]
+# (how a feature ends whose coordinates are left out)
+END = "null}}"
 
 
 def json_text(value: Any) -> str:
     """The text of an answer as JSON."""
     try:
-        return json.dumps(value) + "\n"
+        return json.dumps(value)
     except RecursionError:
         raise BadInput("properties have too many lists or objects in one another") from None
 
 
-def features_text(features: Sequence[Feature], digits: int, around: Callable[[Sequence[Feature]], Any]) -> str:
-    """The text of what stands around features; coordinates of lines and polygons have `digits` behind the point."""
-    texts = [text for each in features for text in coordinates_in(each["geometry"], digits)]
-    parts = json_text(around(list(map(marked, features)))).split(MARKED)
-    if len(parts) != len(texts) + 1:
-        # (a property has the mark too)
-        return json_text(around(features))
-    return "".join(chain(chain.from_iterable(zip(parts, texts)), parts[-1:]))
+def collection_text(features: Iterable[dict[str, Any]], digits: int, members: dict[str, Any]) -> str:
+    """The lines of a collection of features, with members of its own; coordinates of lines and polygons have `digits`
+    behind the point."""
+    texts = [feature_text(each, digits) for each in features]
+    return f"{json_text(collection((), **members))[:-2]}{', '.join(texts)}]}}\n"
 
 
-def marked(feature: Feature) -> Feature:
-    """A feature with a mark in the place of the coordinates that are written here."""
+def feature_text(feature: dict[str, Any], digits: int) -> str:
+    """The text of a feature, whose geometry is its last member."""
     geometry = feature["geometry"]
-    if geometry is None or geometry["type"] not in WRITERS:
-        return feature
-    return {**feature, "geometry": {"type": geometry["type"], "coordinates": MARK}}
-
-
-def coordinates_in(geometry: Any, digits: int) -> Iterator[str]:
-    """The text of a geometry's coordinates, if it is written here."""
     write = geometry and WRITERS.get(geometry["type"])
-    if write:
-        # (from a greater number on there are more digits, or an exponent)
-        yield write(geometry["coordinates"], 10.0 ** (DIGITS - max(1, digits)))
+    if not write:
+        return json_text(feature)
+    text = json_text({**feature, "geometry": {"type": geometry["type"], "coordinates": None}})
+    # (from a greater number on there are more digits, or an exponent)
+    limit = 10.0 ** (DIGITS - max(1, digits))
+    return f"{text[:-len(END)]}{write(geometry['coordinates'], limit)}}}}}"
 
 
 def path_text(path: Sequence[Any], limit: float) -> str:

@@ -19,6 +19,7 @@ from polyover import library
 from polyover.__main__ import main
 
 try:
+    from polyover.contour import points_in, row_of
     from polyover.nearby import Nearby
 except ImportError:
     Nearby = None
@@ -48,6 +49,11 @@ def roads(count, chance):
     counts = [chance.randint(2, 6) for _ in range(count)]
     lines = [[[round(chance.uniform(-1, 1), 7) for _ in range(2)] for _ in range(most)] for most in counts]
     return [feature("LineString", line, name=at) for at, line in enumerate(lines)]
+
+
+def part_of(shape, lines):
+    """The part of a shape near lines."""
+    return list(map(points_in, shape.part(list(map(row_of, lines)))))
 
 
 class Many(unittest.TestCase):
@@ -80,7 +86,7 @@ class Many(unittest.TestCase):
         for each in roads(40, chance):
             lines = scaled.whole(polyover.lines_of(each))
             for options in ({}, {"invert": True}, {"boundary": True}):
-                found = polyover.clip(near.part(lines), lines, **options)
+                found = polyover.clip(part_of(near, lines), lines, **options)
                 expected = polyover.clip(shape, lines, **options)
                 self.assertEqual([len(path) for path in found], [len(path) for path in expected])
                 far = [abs(u - v) for a, b in zip(found, expected) for p, q in zip(a, b) for u, v in zip(p, q)]
@@ -92,13 +98,13 @@ class Many(unittest.TestCase):
         upper = [point for (x, y), (u, _) in zip(steps, steps[1:]) for point in ((x, y), (u, y))]
         shape = [[*upper, (39990, -9000), (0, -9000)]]
         near = Nearby(shape)
-        self.assertLess(sum(map(len, near.part([[(5, 9000), (5, -9999)]]))), 500)
+        self.assertLess(sum(map(len, part_of(near, [[(5, 9000), (5, -9999)]]))), 500)
         for _ in range(60):
             x, y = chance.randint(-9, 40009), chance.randint(-9999, 3999)
             along, down = chance.randint(1, 99), chance.randint(1, 9999)
             lines = [[(x, y), (x + along, y), (x + along, y - down)]]
             for options in ({}, {"invert": True}, {"boundary": True}):
-                found = polyover.clip(near.part(lines), lines, **options)
+                found = polyover.clip(part_of(near, lines), lines, **options)
                 self.assertEqual(found, polyover.clip(shape, lines, **options))
 
 

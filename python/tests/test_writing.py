@@ -12,12 +12,12 @@ from .features import feature
 
 def written(features, digits=7):
     """The text of a collection of features."""
-    return writing.features_text(features, digits, geojson.collection)
+    return writing.collection_text(features, digits, {"name": "a", "digits": 3})
 
 
 def by_json(features):
     """The same by `json` alone."""
-    return json.dumps(geojson.collection(features)) + "\n"
+    return json.dumps(geojson.collection(features, name="a", digits=3)) + "\n"
 
 
 class Written(unittest.TestCase):
@@ -48,12 +48,14 @@ class Written(unittest.TestCase):
     def test_others_stay_as_they_are(self):
         one = feature("MultiLineString", [[(1.5, 2.5), (3.25, 4.0)]], at=[1, {"b": None}], text="\u00e9\"")
         self.check()
-        self.check(one, {"type": "Feature", "properties": None, "geometry": None}, feature("Point", (1, 2.123456789012)))
-        self.assertEqual(writing.features_text([one], 7, lambda features: features[0]), json.dumps(one) + "\n")
+        null = {"type": "Feature", "properties": None, "geometry": None}
+        self.check(one, null, feature("Point", (1, 2.123456789012)))
+        self.assertEqual(writing.feature_text(one, 7), json.dumps(one))
 
-    def test_the_mark_in_a_property(self):
-        for value in (writing.MARK, {writing.MARK: 1}, f'"{writing.MARK}', [writing.MARKED]):
-            self.check(feature("MultiPolygon", [[[(0.5, 0.0), (1.0, 0.0), (0.0, 1.0), (0.5, 0.0)]]], mark=value))
+    def test_members_behind_properties(self):
+        ring = [(0.5, 0.0), (1.0, 0.0), (0.0, 1.0), (0.5, 0.0)]
+        self.check({"type": "Feature", "properties": None, "id": "null}}", "x": {"y": None},
+                    "geometry": {"type": "MultiPolygon", "coordinates": [[ring], [ring[::-1]]]}})
 
 
 if __name__ == "__main__":
