@@ -65,8 +65,13 @@ def plain_row(points: Sequence[Any]) -> list[Any] | None:
 def row_of_points(axes: Sequence[Any], points: Sequence[Any]) -> list[int] | None:
     """The whole coordinates, in a row, of points of two numbers of Python's own."""
     numbers = plain_row(points)
+    return None if numbers is None else row_of_numbers(axes, numbers)
+
+
+def row_of_numbers(axes: Sequence[Any], numbers: list[Any]) -> list[int] | None:
+    """The whole numbers of coordinates in a row, if all are numbers."""
     try:
-        return None if numbers is None else whole_row(axes, numbers)
+        return whole_row(axes, numbers)
     except (ValueError, OverflowError):
         # (a number that is none: one by one it is found)
         return None

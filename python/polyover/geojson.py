@@ -18,8 +18,6 @@ POINTS = ("Point", "MultiPoint")
 KINDS = {*POLYGONS, *LINES, *POINTS}
 # (how many lists stand round a point)
 DEPTHS = {"Point": 0, "MultiPoint": 1, "LineString": 1, "MultiLineString": 2, "Polygon": 2, "MultiPolygon": 3}
-# (how few points a path may have, and the first part's name in places)
-LEAST = {"Polygon": (3, "polygon 1"), "LineString": (2, "line 1")}
 NESTED = 50
 LISTS, NUMBERS = {list, tuple}, {float, int}
 DROPPED = counted("members of # [point|points] beyond x and y are left out")
@@ -55,6 +53,19 @@ class Part:
 
     place: Place
     paths: list[Path]
+
+
+class PlainLine(Part):
+    """A line of points of two finite numbers of Python's own, whose coordinates stand in a row."""
+
+    def __init__(self, place: Place, row: list[Any]) -> None:  # pylint: disable=super-init-not-called
+        self.place, self.row = place, row
+
+    @property
+    def paths(self) -> list[Path]:  # type: ignore[override]
+        """Its one path, whose points are made where they are asked for."""
+        numbers = iter(self.row)
+        return [list(zip(numbers, numbers))]
 
 
 @dataclass
@@ -187,13 +198,18 @@ class Reader:
         and no path has too few points."""
         if type(geometry) is not dict or geometry.get("type") != self.kinds[0]:
             return None
-        least, word = LEAST.get(self.kinds[0], (0, ""))
-        coordinates = geometry.get("coordinates")
-        paths = plain_paths([coordinates] if least == 2 else coordinates, least) if least else None
-        if not paths:
+        kind, coordinates = self.kinds[0], geometry.get("coordinates")
+        found: Any = None
+        if kind == LINES[0]:
+            row = plain_numbers(coordinates)
+            found = row and len(row) > 2 and PlainLine(place._replace(part="line 1"), row)
+        elif kind == POLYGONS[0]:
+            paths = plain_rings(coordinates)
+            found = paths and Part(place._replace(part="polygon 1"), paths)
+        if not found:
             return None
         self.finds_any = True
-        return Part(Place(place.feature, place.geometries, word, 0, place.line), paths)
+        return found  # type: ignore[no-any-return]
 
 
 # ---- what stands where it should
@@ -244,6 +260,15 @@ def checked_point(place: Place, number: int, point: object) -> Point:
 
 def plain_points(path: Any) -> list[Any] | None:
     """The points of a list, where each is a list of two numbers of Python's own, which are finite."""
+    numbers = plain_numbers(path)
+    if numbers is None:
+        return None
+    row = iter(numbers)
+    return list(zip(row, row))
+
+
+def plain_numbers(path: Any) -> list[Any] | None:
+    """The coordinates of such points in a row."""
     if type(path) not in LISTS or not set(map(type, path)) <= LISTS or set(map(len, path)) != {2}:
         return None
     numbers: list[Any] = list(chain.from_iterable(path))
@@ -256,21 +281,19 @@ def plain_points(path: Any) -> list[Any] | None:
     except OverflowError:
         # (a whole number that is too large for a float)
         return None
-    row = iter(numbers)
-    return list(zip(row, row))
+    return numbers
 
 
-def plain_paths(paths: Any, least: int) -> list[Path] | None:
-    """The points of lists, each as `plain_points` has them and at least so many; those of rings without the first one
-    again at the end."""
+def plain_rings(paths: Any) -> list[Path] | None:
+    """The points of rings, each as `plain_points` has them, without the first one again at the end; at least three."""
     if type(paths) not in LISTS:
         return None
     found = []
     for path in paths:
         points = plain_points(path)
-        if points and least == 3 and len(points) > 1 and points[0] == points[-1]:
+        if points and len(points) > 1 and points[0] == points[-1]:
             points.pop()
-        if points is None or len(points) < least:
+        if points is None or len(points) < 3:
             return None
         found.append(points)
     return found

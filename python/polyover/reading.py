@@ -6,10 +6,11 @@ from dataclasses import dataclass
 from itertools import accumulate, chain, islice
 from typing import Any, Callable, Iterable, Sequence
 
+from .columns import row_of_numbers
 from .contour import Row, WholePath, extent_of, points_in
 from .errors import BadInput
 from .flat import parted
-from .geojson import LINES, POLYGONS, Part, parts_of
+from .geojson import LINES, POLYGONS, Part, PlainLine, parts_of
 from .numbers import over_one_bottom
 from .polygons import Contour, Ring, contours_of_each
 from .text import LIMIT
@@ -71,11 +72,20 @@ class Lines:
         """Their points."""
         return [part.paths[0] for part in self.parts]
 
-    def rows(self, whole_row: Callable[[Sequence[Any]], Row]) -> list[Row]:
-        """Their whole coordinates, in rows; says how many of them are points at a scale."""
+    def whole_numbers(self, scaled: Any) -> tuple[Row, list[int]]:
+        """Their whole coordinates in one row, and how many each has."""
+        if all(type(part) is PlainLine for part in self.parts):
+            given = [part.row for part in self.parts]  # type: ignore[attr-defined]
+            found = row_of_numbers(scaled.axes, list(chain.from_iterable(given)))
+            if found is not None:
+                return found, list(map(len, given))
         paths = self.paths
-        found = whole_row(list(chain.from_iterable(paths)))
-        rows = parted(found, list(accumulate(2 * len(path) for path in paths)))
+        return scaled.whole_row(list(chain.from_iterable(paths))), [2 * len(path) for path in paths]
+
+    def rows(self, scaled: Any) -> list[Row]:
+        """Their whole coordinates, in rows; says how many of them are points at a scale."""
+        found, counts = self.whole_numbers(scaled)
+        rows = parted(found, list(accumulate(counts)))
         if found and max(max(found), -min(found)) > LIMIT:
             check_range(self.source, [(part.place, points_in(row)) for part, row in zip(self.parts, rows)])
         told = Told(self.source) if self.told is None else self.told

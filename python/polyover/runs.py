@@ -180,7 +180,7 @@ def groups_with_lines(scaled: Scaled, roads: File) -> Iterator[list[tuple[Featur
     """Features, each with its lines by whole coordinates: many at a time where they are all there."""
     for group in groups_of(roads):
         parts = [part for each in group for part in each.parts]
-        lines = iter(Lines(parts, roads.name, roads.told).rows(scaled.whole_row))
+        lines = iter(Lines(parts, roads.name, roads.told).rows(scaled))
         yield [(each, list(islice(lines, len(each.parts)))) for each in group]
 
 

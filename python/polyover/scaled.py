@@ -162,7 +162,7 @@ class Scaled(RulesAtScale):
         if isinstance(paths, Polygons):
             return [whole for whole, _ in paths.contours(self.whole_path)]
         if isinstance(paths, Lines):
-            return list(map(points_in, paths.rows(self.whole_row)))
+            return list(map(points_in, paths.rows(self)))
         given = [path if isinstance(path, (list, tuple)) else list(items_of(path)) for path in paths]
         try:
             points = iter(self.whole_path([point for path in given for point in path]))
