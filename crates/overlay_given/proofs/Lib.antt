@@ -1,8 +1,12 @@
+pub mod AlikePieces
 pub mod BelowWhole
 pub mod FirstSteps
 pub mod LeftSteps
 pub mod MoreSides
+pub mod Ranges
 pub mod RisesTold
+pub mod SharedFound
+pub mod SharedPlaces
 pub mod StartSums
 pub mod StepBounds
 pub mod Sums

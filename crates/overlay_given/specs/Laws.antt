@@ -1,19 +1,24 @@
 -- Laws of a walk along an edge of a list, which need not be an arrangement.
-use Rattle.std.specs.Prelude.{◌≡◌, ℕ, Bool, false, ℤ, pos, ◌+ℤ◌, List, length, slice_range}
+use Rattle.std.specs.Prelude.{◌≡◌, ◌↔◌, ℕ, Bool, false, ℤ, pos, ◌+ℤ◌, List, length, slice_range}
 use Rattle.overlay_geom.specs.Edges.{CountedEdge, ends_of}
 use Rattle.overlay_geom.specs.Merged.{IsMerged}
 use Rattle.overlay_geom.specs.Plane.{PlanePoint, in_plane}
 use Rattle.overlay_plane.specs.Balance.{HasBalancedCounts}
 use Rattle.overlay_plane.specs.EdgeLists.{IsForwardBy}
+use Rattle.overlay_order.specs.Content.{IsAscending}
 use Rattle.overlay_scaled.specs.Pieces.{IsPiece}
+use Rattle.overlay_scaled.specs.PlainContacts.{HasSharedPlace}
+use Rattle.overlay_exact.specs.AllMet.{AreMetByStarts}
 use Rattle.overlay_exact.specs.Along.{Met}
 use Rattle.overlay_exact.specs.PlacesAlong.{AreMetIn, IsPlaceWith}
+use Rattle.overlay_given.specs.Places.{ArePlacesBy, SomeShare}
 use Rattle.overlay_given.specs.Relations.{AreInteriorRelations, IsFoundOf, relations_by}
 use Rattle.overlay_given.specs.Steps.{Rises}
 use Rattle.overlay_given.specs.Walk.{WindsFromStart, WindsFrom, AreSidesOf}
 use Rattle.overlay_given.specs.declared.beside.Beside.{Beside}
 use Rattle.overlay_given.specs.declared.relations.Found.{Found}
 use Rattle.overlay_given.specs.declared.sides.FilledSides.{FilledSides}
+use Rattle.overlay_given.specs.declared.sides.SidesAtPlace.{SidesAtPlace}
 use Rattle.overlay_given.specs.declared.steps.Stop.TheVariants.{Later}
 
 -- the windings beside the first piece of an edge are known from those at its start
@@ -42,3 +47,10 @@ SidesTellInteriors = (filled : ℤ → Bool) (content es : List CountedEdge) →
     IsForwardBy ends_of es → HasBalancedCounts es → IsMerged content es → (sides : List FilledSides) →
     AreSidesOf filled es (length es) sides → (f : Found) → IsFoundOf sides f →
     AreInteriorRelations filled content (relations_by f)
+
+-- the sides at the meeting points tell whether a border of the subject alone and one of the clip alone end at one place
+abbrev pub PlacesTellSharedPlaces : Type 0
+PlacesTellSharedPlaces = (filled : ℤ → Bool) (es : List CountedEdge) (starts : List ℕ) (ms : List Met)
+    (places : List SidesAtPlace) → IsAscending es → IsForwardBy ends_of es → HasBalancedCounts es →
+    AreMetByStarts es (length es) starts ms → ArePlacesBy filled es (length es) starts ms places →
+    SomeShare starts ms places ↔ HasSharedPlace filled es

@@ -17,6 +17,16 @@ pub struct FilledSides {
     pub clip_below: bool,
 }
 
+/// The filled sides of the two pieces of an edge that end at a place of it, in their order along the edge. One piece
+/// alone ends where the edge starts or ends: both are its sides.
+#[derive(Debug, Clone, Copy, PartialEq, Eq)]
+pub struct SidesAtPlace {
+    /// The sides of the piece before the place.
+    pub before: FilledSides,
+    /// Those of the piece after it.
+    pub after: FilledSides,
+}
+
 /// A test of the filled sides of a piece.
 #[derive(Debug, Clone, Copy, PartialEq, Eq)]
 pub enum SideTest {
