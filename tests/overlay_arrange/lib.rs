@@ -1,5 +1,6 @@
 //! Tests of `overlay_arrange`: edges that are merged, cut and filled.
 
+mod batches;
 mod bundles;
 mod copies;
 mod cut;

@@ -160,3 +160,32 @@ fn three_equal_edges_are_merged_two_by_two(rt: HostRuntime) -> Result<(), Fail> 
     check(&rt, rt.alloc(), &edges, &wanted, Tally::of(0, 0, 2))?;
     Ok(())
 }
+
+#[test]
+fn pieces_that_are_joined_in_batches_keep_all_data(rt: HostRuntime) -> Result<(), Fail> {
+    // Of the edges from (-k, 0) to (k, 0), for k from 1 to 300, all but the first are cut, into 90,000 pieces with it.
+    // Three others meet in a point that is rounded, and have six pieces.
+    let mut content = Content::with_capacity(rt.alloc(), 0)?;
+    for k in 1..301i32 {
+        push(&rt, &mut content, IntPoint::new(-k, 0), IntPoint::new(k, 0))?;
+    }
+    for (from, to) in [(0, 3), (1, 2), (3, 0)] {
+        push(
+            &rt,
+            &mut content,
+            IntPoint::new(1000, from),
+            IntPoint::new(1003, to),
+        )?;
+    }
+    let mut calls = Tally::default();
+    content.arrange(Solver::Snapping, &mut calls)?;
+    assert!(rt; calls == Tally::of(90_005, 0, 89_401));
+    assert!(rt; content.edges().len() == 605);
+    for edge in &content.edges()[..599] {
+        // (the edges that have this piece)
+        let have = 301 - edge.a.x.max(-edge.a.x).max(edge.b.x) as u32;
+        let uncut = if have == 300 { 1 } else { 0 };
+        assert!(rt; edge.count.edge_data == Tally::of(have - uncut, 0, have - 1));
+    }
+    Ok(())
+}

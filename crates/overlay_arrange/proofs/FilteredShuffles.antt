@@ -1,11 +1,10 @@
 -- A list in another order, of which a test lets some items pass: those are in another order too.
-use Rattle.std.proofs.Common.{◌≡◌, Bool, true, false, cond, ℕ, zero, suc, ◌<◌, List, [], ◌∷◌, get_or, set, length}
-use Rattle.std.proofs.Common.{refl, subst, arith}
-use Rattle.std.specs.List.{filter, swap}
+use Rattle.std.proofs.Common.{Bool, true, false, cond, List, ◌∷◌, refl, arith}
+use Rattle.std.specs.List.{filter}
 use Rattle.std.specs.List.Sorted.{IsPermutation}
-use Rattle.std.proofs.lemmas.List.Edits.{swap_is}
-use Rattle.std.proofs.lemmas.List.Sorted.{IsPermutation-refl, IsPermutation-cons, IsPermutation-keeps}
+use Rattle.std.proofs.lemmas.List.Sorted.{IsPermutation-refl, IsPermutation-cons}
 use Rattle.std.proofs.lemmas.List.Sorted.{IsPermutation-swap, IsPermutation-trans}
+use Rattle.overlay_arrange.proofs.Exchanges.{of_orders}
 
 module _ {X : Type 0} (p : X → Bool) where
   -- what passes in the second list is what passes in the first, in another order
@@ -34,33 +33,11 @@ module _ {X : Type 0} (p : X → Bool) where
       by false true = IsPermutation-refl (y ∷ rest)
       by false false = IsPermutation-refl rest
 
-  -- with the first item and a later one exchanged
-  alike_first : (x d : X) (xs : List X) (k : ℕ) → k < length xs → PassAlike (x ∷ xs) (get_or xs k d ∷ set xs k x)
-  alike_first x d [] k within = absurd (omega arith)
-  alike_first x d (y ∷ xs) zero within = alike_turned x y xs
-  alike_first x d (y ∷ xs) (suc k) within =
-      IsPermutation-trans _ _ _ (alike_turned x y xs)
-      (IsPermutation-trans _ _ _ (alike_cons y (x ∷ xs) (get_or xs k d ∷ set xs k x)
-      (alike_first x d xs k (omega arith)))
-      (alike_turned y (get_or xs k d) (set xs k x)))
-
-  -- with any two items exchanged
-  alike_swapped : (d : X) (xs : List X) (i j : ℕ) → i < length xs → j < length xs →
-      PassAlike xs (set (set xs i (get_or xs j d)) j (get_or xs i d))
-  alike_swapped d [] i j before within = absurd (omega arith)
-  alike_swapped d (x ∷ xs) zero zero before within = IsPermutation-refl (filter p (x ∷ xs))
-  alike_swapped d (x ∷ xs) zero (suc j) before within = alike_first x d xs j (omega arith)
-  alike_swapped d (x ∷ xs) (suc i) zero before within = alike_first x d xs i (omega arith)
-  alike_swapped d (x ∷ xs) (suc i) (suc j) before within =
-      alike_cons x xs (set (set xs i (get_or xs j d)) j (get_or xs i d))
-      (alike_swapped d xs i j (omega arith) (omega arith))
-
   -- in any other order
   pub IsPermutation-filter : (xs ys : List X) → IsPermutation xs ys → IsPermutation (filter p xs) (filter p ys)
-  IsPermutation-filter xs ys = IsPermutation-keeps xs (PassAlike xs) (IsPermutation-refl (filter p xs))
-      (λ l i j at to h. IsPermutation-trans _ _ _ h (step l i j at to)) ys
-    where
-      step : (l : List X) (i j : ℕ) → i < length l → j < length l → PassAlike l (swap l i j)
-      step [] i j at to = absurd (omega arith)
-      step (d ∷ l) i j at to = subst (PassAlike (d ∷ l)) (swap_is (d ∷ l) i j d at to)
-          (alike_swapped d (d ∷ l) i j at to)
+  IsPermutation-filter = of_orders PassAlike (record {
+    same = λ xs. IsPermutation-refl (filter p xs);
+    on = λ xs ys zs first later. IsPermutation-trans _ _ _ first later;
+    behind = alike_cons;
+    turned = alike_turned;
+  })

@@ -1,6 +1,6 @@
--- What a test leaves of a list of points: those whose pixels an edge meets. They are the meetings that the edge adds.
-use Rattle.std.proofs.Common.{◌≡◌, ⊎_elim, inl, inr, ℕ, Bool, true, false, ◌&&◌, ℤ, List, ◌++◌, Contains, filter}
-use Rattle.std.proofs.Common.{refl, sym, ap, ◌∙◌, subst}
+-- What a test leaves of a list of points: those whose pixels an edge meets.
+use Rattle.std.proofs.Common.{◌≡◌, ⊎_elim, inl, inr, Bool, true, false, ◌&&◌, ℤ, List, Contains, filter}
+use Rattle.std.proofs.Common.{refl, sym, ◌∙◌, subst}
 use Rattle.overlay_geom.specs.Plane.{Point}
 use Rattle.overlay_geom.specs.Edges.{CountedEdge, ends_of}
 use Rattle.overlay_geom.specs.Points.{plain_point, plain_points}
@@ -8,8 +8,7 @@ use Rattle.overlay_geom.specs.declared.point.IntPoint.{IntPoint}
 use Rattle.overlay_plane.specs.SnapPoints.{is_in_box, line_meets, meets_pixel}
 use Rattle.overlay_plane.proofs.Entries.{Contains-filter, Contains-from_filter, Contains-from_map, Contains-map}
 use Rattle.overlay_arrange.specs.Cut.{IsEndOf}
-use Rattle.overlay_arrange.specs.HotPoints.{AddsMet, AreMetInside, meetings_at, meets_inside}
-use Rattle.overlay_arrange.specs.Meetings.{Meeting}
+use Rattle.overlay_arrange.specs.HotPoints.{AreMetInside, meets_inside}
 use Rattle.overlay_arrange.proofs.PixelBounds.{inside_where, is_end_or_not, met_at_end}
 
 module _ (e : CountedEdge) where
@@ -48,20 +47,3 @@ module _ (e : CountedEdge) where
 
       left : List (IntPoint I)
       left = filter tested vs
-
-  -- they are added
-  pub met_added : (i : ℕ) (vs us : List Point) (old new : List Meeting) → AreMetInside e vs us →
-      new ≡ old ++ meetings_at i us → AddsMet i e vs old new
-  met_added i vs us old new met is = record {
-    more = meetings_at i us;
-    added = is;
-    led = λ m at. let from = Contains-from_map here us m at in let r = met.within from.0 from.1 in (
-      sym (ap (λ (n : Meeting). n.place) from.2),
-      subst (Contains vs) (ap (λ (n : Meeting). n.point) from.2) r.0,
-      subst (λ (u : Point). meets_pixel (ends_of e) u ≡ true) (ap (λ (n : Meeting). n.point) from.2) r.1,
-    );
-    all = λ v at meets. ⊎_elim (λ end. inl end) (λ there. inr (Contains-map here us v there)) (met.all v at meets);
-  }
-    where
-      here : Point → Meeting
-      here v = record { place = i; point = v }

@@ -9,10 +9,11 @@ pub mod CarriedShuffles
 pub mod Crossings
 pub mod CutContents
 pub mod EdgeOrder
+pub mod Exchanges
 pub mod FilteredShuffles
 pub mod FirstEdges
 pub mod GatheredMeetings
-pub mod GatheredPixels
+pub mod SpanAmong
 pub mod HeightRuns
 pub mod HeldRuns
 pub mod HeldWeight
@@ -24,6 +25,7 @@ pub mod LedToEnds
 pub mod MeetingRuns
 pub mod MeetingsOnLines
 pub mod MergedContent
+pub mod MergedParts
 pub mod OpenPairs
 pub mod PairMeetings
 pub mod PassedCorners
@@ -46,6 +48,10 @@ pub mod SolverRounds
 pub mod SortedMerges
 pub mod SortedPoints
 pub mod SpanWithin
+pub mod StandingLists
+pub mod StandingPieces
+pub mod StandingRounds
+pub mod StandingRuns
 pub mod StripSearches
 pub mod UnjoinedRuns
 pub mod WholeMeetings

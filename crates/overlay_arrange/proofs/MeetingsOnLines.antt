@@ -11,7 +11,6 @@ use Rattle.overlay_plane.specs.Meetings.{MeetInWholePoints}
 use Rattle.overlay_plane.proofs.Entries.{all_of_entries}
 use Rattle.overlay_plane.proofs.WholeOnEdges.{forward_from_test}
 use Rattle.overlay_order.specs.Content.{IsHeld}
-use Rattle.overlay_pairs.specs.Places.{IsAt}
 use Rattle.overlay_arrange.specs.Cut.{AreLedAlongLines, IsEndOf, IsOnLineOf}
 use Rattle.overlay_arrange.specs.Meetings.{AreMeetings, IsOnItsLine, Meeting}
 use Rattle.overlay_arrange.proofs.LedThrough.{all_computed, computed_of, forward}

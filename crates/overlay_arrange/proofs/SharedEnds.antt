@@ -1,5 +1,5 @@
 -- Edges that share an end, and do not lie on one line, meet in ends alone.
-use Rattle.std.proofs.Common.{◌≡◌, inl, inr, true, ℤ, pos, ◌<ℤ◌, ◌≤ℤ◌}
+use Rattle.std.proofs.Common.{◌≡◌, inl, inr, true, pos}
 use Rattle.std.proofs.lemmas.Int.{by_lt_z}
 use Rattle.overlay_geom.specs.Plane.{Edge, cross_at}
 use Rattle.overlay_geom.specs.Placed.{share_end, IsAcross, IsAlong, IsBeside}

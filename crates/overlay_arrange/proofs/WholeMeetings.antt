@@ -1,12 +1,11 @@
 -- Edges meet in whole points alone, or overlap, exactly where the whole points through which they lead each other lie
 -- on their lines: where two lines cross, a whole point on both is the crossing itself. After such a round the pieces,
 -- merged, are settled.
-use Rattle.std.proofs.Common.{◌≡◌, ◌⊎◌, inl, inr, Bool, true, false, ℕ, ◌+◌, ◌<◌, pos, List, [], ◌∷◌, All, Contains}
-use Rattle.std.proofs.Common.{length, map, take, get_or, refl, sym, ap, ◌∙◌, subst, arith}
+use Rattle.std.proofs.Common.{◌≡◌, ◌⊎◌, inl, inr, true, pos, List, [], ◌∷◌, All, Contains}
+use Rattle.std.proofs.Common.{sym, ap, ◌∙◌, subst, arith}
 use Rattle.std.specs.Prelude.{◌↔◌}
 use Rattle.std.specs.List.{flat_map}
-use Rattle.std.proofs.lemmas.Bool.{both_ways}
-use Rattle.std.proofs.lemmas.List.Elements.{All-contains, All-nil, All-cons, All-filter, All-head}
+use Rattle.std.proofs.lemmas.List.Elements.{All-contains, All-nil, All-cons, All-filter}
 use Rattle.overlay_geom.specs.Edges.{CountedEdge, ends_of}
 use Rattle.overlay_geom.specs.Merged.{IsMerged}
 use Rattle.overlay_geom.specs.Placed.{IsAlong, IsBeside}
@@ -14,7 +13,6 @@ use Rattle.overlay_geom.specs.Plane.{Point, PlanePoint, Edge, IsAt, IsEnd, SameP
 use Rattle.overlay_geom.specs.Plane.{point_lt}
 use Rattle.overlay_geom.specs.Rounding.{nearest_point}
 use Rattle.overlay_geom.specs.Settled.{IsCommon, IsSettled}
-use Rattle.overlay_geom.proofs.Mapped.{All-mapped_more, mapped_more}
 use Rattle.overlay_geom.proofs.PointOrder.{IsBefore}
 use Rattle.overlay_geom.proofs.Rounded.{nearest_point-rounding}
 use Rattle.overlay_geom.proofs.Signs.{mul-zero}
@@ -25,7 +23,7 @@ use Rattle.overlay_plane.specs.Rounds.{Round}
 use Rattle.overlay_plane.proofs.CommonPoints.{along_of_parallel, common_is_meeting, one_on_both}
 use Rattle.overlay_plane.proofs.CrossingPoints.{IsPartWay, part_way_across, crossing_point, crossing_is_common}
 use Rattle.overlay_plane.proofs.CuttingRounds.{CutsThrough, cutting_through}
-use Rattle.overlay_plane.proofs.Entries.{all_of_entries, All-first, All-rest, Contains-flat_map, Contains-from_flat_map}
+use Rattle.overlay_plane.proofs.Entries.{all_of_entries, Contains-flat_map, Contains-from_flat_map}
 use Rattle.overlay_plane.proofs.InOrderLists.{Contains-in_order, Contains-put_in_order}
 use Rattle.overlay_plane.proofs.LinesWithin.{only_common_is_end}
 use Rattle.overlay_plane.proofs.Placements.{AreCrossing, by_placement, both_across, beside_have_no_common, ends_between}

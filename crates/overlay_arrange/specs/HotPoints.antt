@@ -1,5 +1,5 @@
 -- The hot points of a list of edges in their order, and a search for those whose pixels an edge meets.
-use Rattle.std.specs.Prelude.{◌≡◌, ◌⊎◌, ℕ, ◌<◌, ◌≤◌, Bool, true, ℤ, ◌<ℤ◌, List, [], ◌++◌, map, length}
+use Rattle.std.specs.Prelude.{◌≡◌, ◌⊎◌, ℕ, ◌<◌, ◌≤◌, Bool, true, ℤ, ◌<ℤ◌, List, [], length}
 use Rattle.std.specs.Prelude.{AllPairs, Contains, not, ◌&&◌, ◌||◌}
 use Rattle.overlay_geom.specs.Plane.{Point, point_eq, point_lt}
 use Rattle.overlay_geom.specs.Edges.{CountedEdge, ends_of}
@@ -7,7 +7,6 @@ use Rattle.overlay_plane.specs.SnapPoints.{hot_points, meets_pixel}
 use Rattle.overlay_pairs.specs.Places.{IsAt}
 use Rattle.overlay_pairs.specs.PointStrips.{AreStripsOf}
 use Rattle.overlay_arrange.specs.Cut.{IsEndOf}
-use Rattle.overlay_arrange.specs.Meetings.{Meeting, IsEndOrMet}
 
 -- the two lists have equal members
 pub record HaveSameMembers {X : Type 0} (xs ys : List X) : Type 0 where
@@ -43,7 +42,7 @@ pub record AreMetAmong (vs : List Point) (e : CountedEdge) (us : List Point) : T
   pub within : (v : Point) → Contains us v → Contains vs v
   pub all : (v : Point) → Contains vs v → meets_pixel (ends_of e) v ≡ true → Contains us v
 
--- ---- gathering
+-- ---- leading
 
 -- e meets the pixel of v, which is no end of e
 abbrev pub meets_inside : CountedEdge → Point → Bool
@@ -53,22 +52,3 @@ meets_inside e v = meets_pixel (ends_of e) v && not (point_eq v e.a || point_eq 
 pub record AreMetInside (e : CountedEdge) (vs us : List Point) : Type 0 where
   pub within : (v : Point) → Contains us v → Contains vs v × (meets_pixel (ends_of e) v ≡ true)
   pub all : (v : Point) → Contains vs v → meets_pixel (ends_of e) v ≡ true → IsEndOf e v ⊎ Contains us v
-
--- the points as meetings of the edge at place i
-abbrev pub meetings_at : ℕ → List Point → List Meeting
-meetings_at i vs = map (λ (v : Point). record { place = i; point = v }) vs
-
--- the points whose pixels the edge e at place i meets are added as its meetings; its own ends may be left out
-pub record AddsMet (i : ℕ) (e : CountedEdge) (vs : List Point) (old new : List Meeting) : Type 0 where
-  pub more : List Meeting
-  pub added : new ≡ old ++ more
-  pub led : (m : Meeting) → Contains more m →
-      (m.place ≡ i) × Contains vs m.point × (meets_pixel (ends_of e) m.point ≡ true)
-  pub all : (v : Point) → Contains vs v → meets_pixel (ends_of e) v ≡ true → IsEndOrMet more i e v
-
--- the meetings are those of the edges before place n: the points whose pixels each edge meets
-pub record AreSnappedBefore (es : List CountedEdge) (vs : List Point) (n : ℕ) (ms : List Meeting) : Type 0 where
-  pub led : (m : Meeting) → Contains ms m → (m.place < n)
-      × ((e : CountedEdge) × IsAt es m.place e × Contains vs m.point × (meets_pixel (ends_of e) m.point ≡ true))
-  pub all : (i : ℕ) (e : CountedEdge) → i < n → IsAt es i e → (v : Point) → Contains vs v →
-      meets_pixel (ends_of e) v ≡ true → IsEndOrMet ms i e v

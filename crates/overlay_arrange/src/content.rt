@@ -14,9 +14,10 @@ ghost use Rattle.overlay_order.specs.Content.{carried_edge, carried_edges};
 ghost use Rattle.overlay_order.specs.Content.{IsAscending, IsContent, IsHeld};
 ghost use Rattle.overlay_order.specs.EdgeData.{IsReversedBy};
 ghost use Rattle.overlay_graph.specs.FillTests.{some_fill_passes, IsFoundUnless};
+ghost use Rattle.overlay_arrange.specs.Batches.{StandFor};
 ghost use Rattle.overlay_arrange.specs.Stores.{IsStoreReached};
 
-use crate::merge::{merge, merge_runs, weight_of, weight_unless};
+use crate::merge::{join_runs, merge, merge_runs, weight_of, weight_unless};
 use overlay_geom::error::OverlayError;
 use overlay_geom::fill_rule::FillRule;
 use overlay_geom::number::IntNumber;
@@ -172,6 +173,28 @@ impl<I: IntNumber, C: EdgeCount, A: Allocator> Content<I, C, A> {
         merged
     }
 
+    /// Joins equal edges as `merge` does, and drops none. If memory is refused the edges are in some order.
+    pub(crate) fn join_runs(&mut self, store: &mut C::Store) -> Result<(), AllocError>
+    where
+        A: Clone,
+        ensures ok { OnOk result (StandFor C.merges self.old self.new) }
+        ensures content { IsContent I.limit (edges_in self.new) }
+        ensures lighter { weight (edges_in self.new) ≤ weight (edges_in self.old) }
+        ensures store { IsStoreReached C.writes store.old store.new }
+    {
+        let joined = join_runs(&mut self.edges, store);
+        self.weight = weight_of(&self.edges);
+        joined
+    }
+
+    /// Returns the weight of the edges.
+    pub(crate) fn weight(&self) -> u32
+        ensures weight { result ≡ weight (edges_in self.now) }
+        ensures light { result < 2 ^ 31 }
+    {
+        self.weight
+    }
+
     /// Returns the edges, each from its smaller to its larger end, in the coordinate range.
     pub fn edges(&self) -> &[CountedEdge<I, C>]
         ensures edges { carried_edges I.whole C.counts result.now ≡ self.now }
@@ -226,8 +249,8 @@ impl<I: IntNumber, C: EdgeCount, A: Allocator> Content<I, C, A> {
     }
 }
 
-// Returns whether a content of this weight reaches the limit with the weight of an added edge.
-fn reaches_limit(weight: u32, added: u32) -> bool
+/// Returns whether a content of this weight reaches the limit with an added weight.
+pub(crate) fn reaches_limit(weight: u32, added: u32) -> bool
     requires { weight < 2 ^ 31 }
     ensures { IsTrue result ↔ 2 ^ 31 ≤ weight + added }
 {

@@ -10,20 +10,20 @@ ghost use Rattle.overlay_geom.specs.Edges.{ends_of, weight};
 ghost use Rattle.overlay_geom.specs.Plane.{steps_between, steps_through};
 ghost use Rattle.overlay_geom.specs.Points.{plain_point, plain_points, InRange, AllInRange};
 ghost use Rattle.overlay_plane.specs.Carried.{edges_in};
-ghost use Rattle.overlay_plane.specs.CutPoints.{comes_first, cut_edges};
+ghost use Rattle.overlay_plane.specs.CutPoints.{comes_first, cut_edges, cut_points};
 ghost use Rattle.overlay_plane.specs.Cutting.{piece_along, pieces_through};
-ghost use Rattle.overlay_plane.specs.DerivedData.{AreCutAlong, AreGiven, GivesPiece, computed_chain};
+ghost use Rattle.overlay_plane.specs.DerivedData.{AreGiven, GivesPiece};
 ghost use Rattle.overlay_plane.specs.InOrder.{in_order};
 ghost use Rattle.overlay_plane.specs.Meetings.{MeetInWholePoints};
-ghost use Rattle.overlay_plane.specs.SnapPoints.{snap_points, snapped_edges};
 ghost use Rattle.overlay_order.specs.Content.{plain_edge, plain_edges, carried_edge, carried_edges};
 ghost use Rattle.overlay_order.specs.Content.{IsHeld, IsContent, IsAscending};
-ghost use Rattle.overlay_arrange.specs.Cut.{chain_by, AddsGiven, LeadingPoints, StaysWhole};
+ghost use Rattle.overlay_arrange.specs.Batches.{AreJoinedPieces};
+ghost use Rattle.overlay_arrange.specs.Cut.{AddsGiven, LeadingPoints, StaysWhole};
 ghost use Rattle.overlay_arrange.specs.Meetings.{plain_meetings, AreByPlace, AreInRange, AreLedAlong, AreMeetings};
 ghost use Rattle.overlay_arrange.specs.Meetings.{ArePointsAt};
-ghost use Rattle.overlay_arrange.specs.SnapMeetings.{AreSnapMeetings};
 ghost use Rattle.overlay_arrange.specs.Stores.{IsStoreReached};
 
+use crate::batches::Pieces;
 use crate::content::Content;
 use crate::crossing::is_end_of;
 use crate::meetings::{Meeting, run_at, sort_meetings};
@@ -37,10 +37,16 @@ use std::alloc::{AllocError, Allocator};
 use std::cmp::Ordering;
 use std::mem;
 
+// Least number of pieces from which on equal ones are joined before all are cut.
+const LEAST: usize = 1048576;
+// Number of pieces of an edge, on average, from which on equal ones are joined before all are cut.
+const MANY: usize = 64;
+
 impl<I: IntNumber, C: EdgeCount, A: Allocator> Content<I, C, A> {
-    /// Cuts each edge into the pieces of the chain through its meeting points. Returns whether a point was rounded, and
-    /// the edges before the cut. If no point was rounded, the edges met only in whole points or overlapped. The edges
-    /// ascend. The meetings are theirs, and are dropped. A refusal leaves the content as it was.
+    /// Cuts each edge into the pieces of the chain through its meeting points, and may join equal pieces. Returns
+    /// whether a point was rounded, and the edges before the cut. If no point was rounded, the edges met only in whole
+    /// points or overlapped. The edges ascend. The meetings are theirs, and are dropped. A refusal leaves the content
+    /// as it was.
     #[tactic(auto, using(crate::proofs::ReachedStores::never_written))]
     pub(crate) fn cut_at(
         &mut self,
@@ -51,9 +57,8 @@ impl<I: IntNumber, C: EdgeCount, A: Allocator> Content<I, C, A> {
         A: Clone,
         requires ascending { IsAscending (edges_in self.old) }
         requires meetings { AreMeetings (edges_in self.old) (plain_meetings I.whole meetings.items) }
-        ensures ok { OnOk result (edges_in self.new ≡ cut_edges (edges_in self.old)) }
-        ensures carried { OnOk result (AreCutAlong C.splits C.reverses
-            (computed_chain (edges_in self.old)) self.old self.new) }
+        ensures ok { OnOk result (AreJoinedPieces C.merges C.splits C.reverses
+            (cut_points (edges_in self.old)) self.old self.new) }
         ensures rounded { IfOk result (λ cut.
             (cut.0 ≡ false) ↔ MeetInWholePoints (edges_in self.old)) }
         ensures before { IfOk result (λ cut. edges_in cut.1 ≡ edges_in self.old) }
@@ -79,9 +84,8 @@ impl<I: IntNumber, C: EdgeCount, A: Allocator> Content<I, C, A> {
         A: Clone,
         requires ascending { IsAscending (edges_in self.old) }
         requires meetings { AreMeetings (edges_in self.old) (plain_meetings I.whole meetings.items) }
-        ensures ok { OnOk result (edges_in self.new ≡ cut_edges (edges_in self.old)) }
-        ensures carried { OnOk result (AreCutAlong C.splits C.reverses
-            (computed_chain (edges_in self.old)) self.old self.new) }
+        ensures ok { OnOk result (AreJoinedPieces C.merges C.splits C.reverses
+            (cut_points (edges_in self.old)) self.old self.new) }
         ensures before { IfOk result (λ before. edges_in before ≡ edges_in self.old) }
         ensures err { OnErr result (self.new ≡ self.old) }
         ensures store { IsStoreReached C.writes store.old store.new }
@@ -94,35 +98,10 @@ impl<I: IntNumber, C: EdgeCount, A: Allocator> Content<I, C, A> {
         let before = mem::replace(self, pieces);
         Ok(before)
     }
-
-    /// Cuts each edge into the pieces of the chain through the hot points whose pixels it meets. The meetings are these
-    /// points, sorted by their places. They are dropped. A refusal leaves the content as it was.
-    #[tactic(auto, using(crate::proofs::ReachedStores::never_written))]
-    pub(crate) fn snap_at(
-        &mut self,
-        meetings: Vec<Meeting<I>, A>,
-        store: &mut C::Store,
-    ) -> Result<(), OverlayError>
-    where
-        A: Clone,
-        requires meetings { AreSnapMeetings (edges_in self.old) (plain_meetings I.whole meetings.items) }
-        requires order { AreByPlace (plain_meetings I.whole meetings.items) }
-        ensures ok { OnOk result (edges_in self.new ≡ snapped_edges (edges_in self.old)) }
-        ensures carried { OnOk result (AreCutAlong C.splits C.reverses
-            (chain_by (snap_points (edges_in self.old))) self.old self.new) }
-        ensures err { OnErr result (self.new ≡ self.old) }
-        ensures store { IsStoreReached C.writes store.old store.new }
-        ensures too_many { IsErrOf result OverlayError.TooManyEdges
-            → 2 ^ 31 ≤ weight (snapped_edges (edges_in self.old)) }
-        ensures only { IfErr result (λ e. (e ≡ OverlayError.Memory) ⊎ (e ≡ OverlayError.TooManyEdges)) }
-    {
-        let alloc = self.allocator().clone()?;
-        *self = cut_edges(alloc, self.edges(), &meetings, store)?;
-        Ok(())
-    }
 }
 
-/// Returns the pieces of all edges, each along the chain through its meetings. These are sorted by their places.
+/// Returns the pieces of all edges, each along the chain through its meetings. Equal pieces may be joined. The meetings
+/// are sorted by their places.
 #[tactic(auto, using(crate::proofs::ReachedStores::never_written))]
 fn cut_edges<I: IntNumber, C: EdgeCount, A: Allocator + Clone>(
     alloc: A,
@@ -135,10 +114,7 @@ fn cut_edges<I: IntNumber, C: EdgeCount, A: Allocator + Clone>(
     requires order { AreByPlace (plain_meetings I.whole meetings.now) }
     ensures ok { let es = plain_edges I.whole C.counts edges.now in
         IfOk result (λ cut. (points : LeadingPoints) → AreLedAlong es (plain_meetings I.whole meetings.now) points
-        → edges_in cut ≡ flat_map (pieces_through points) es) }
-    ensures carried { let es = plain_edges I.whole C.counts edges.now in
-        IfOk result (λ cut. (points : LeadingPoints) → AreLedAlong es (plain_meetings I.whole meetings.now) points
-        → AreCutAlong C.splits C.reverses (chain_by points) (carried_edges I.whole C.counts edges.now) cut) }
+        → AreJoinedPieces C.merges C.splits C.reverses points (carried_edges I.whole C.counts edges.now) cut) }
     ensures store { IsStoreReached C.writes store.old store.new }
     ensures too_many { let es = plain_edges I.whole C.counts edges.now in
         IsErrOf result OverlayError.TooManyEdges
@@ -147,19 +123,24 @@ fn cut_edges<I: IntNumber, C: EdgeCount, A: Allocator + Clone>(
     ensures only { IfErr result (λ e. (e ≡ OverlayError.Memory) ⊎ (e ≡ OverlayError.TooManyEdges)) }
 {
     // (each meeting makes one piece more at most)
-    let most = edges.len().saturating_add(meetings.len());
-    let mut pieces = Content::with_capacity(alloc.clone()?, most)?;
+    let room = edges.len().saturating_add(meetings.len());
+    let mut pieces = Pieces::new(alloc.clone()?, room, many_pieces(edges.len()))?;
     let mut points = Vec::new(alloc);
     let mut near = 0;
     for (i, e) in edges.iter().enumerate() {
         put_points_at(&mut points, meetings, &mut near, i, e)?;
-        push_pieces(&mut pieces, e, &points, store)?;
+        pieces.add(e, &points, store)?;
     }
-    Ok(pieces)
+    Ok(pieces.content)
+}
+
+// Returns the number of pieces of `edges` edges from which on equal pieces are joined.
+fn many_pieces(edges: usize) -> usize {
+    edges.saturating_mul(MANY).max(LEAST)
 }
 
 /// Adds the pieces of an edge along the chain from its smaller to its larger end through the points.
-fn push_pieces<I: IntNumber, C: EdgeCount, A: Allocator>(
+pub(crate) fn push_pieces<I: IntNumber, C: EdgeCount, A: Allocator>(
     pieces: &mut Content<I, C, A>,
     e: &CountedEdge<I, C>,
     points: &[IntPoint<I>],
@@ -311,7 +292,7 @@ fn put_points<I: IntNumber, A: Allocator>(
 }
 
 /// Sorts the points by their order along the edge.
-fn sort_along<I: IntNumber, C: EdgeCount, A: Allocator>(
+pub(crate) fn sort_along<I: IntNumber, C: EdgeCount, A: Allocator>(
     points: &mut Vec<IntPoint<I>, A>,
     e: &CountedEdge<I, C>,
 ) -> Result<(), AllocError>

@@ -1,6 +1,7 @@
 //! The arrangement of contours. Counted edges are merged, and cut until they meet in ends alone.
 #![tactic(auto)]
 
+mod batches;
 pub mod content;
 mod course;
 mod crossing;

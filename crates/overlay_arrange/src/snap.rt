@@ -1,20 +1,24 @@
 //! The whole points through which snap rounding leads the edges of a list: the hot points whose pixels they meet.
 
-ghost use Rattle.std.specs.Prelude.{◌≡◌, ◌++◌, ◌+◌, ◌<◌, ◌≤◌, All, length, IsTrue, false};
-ghost use Rattle.std.specs.Prelude.{slice_range, IfOk, OnOk};
+ghost use Rattle.std.specs.Prelude.{◌≡◌, ◌⊎◌, ◌+◌, ◌^◌, ◌<◌, ◌≤◌, All, length, IsTrue, false};
+ghost use Rattle.std.specs.Prelude.{slice_range, IfOk, IfErr, IsErrOf, OnOk};
+ghost use Rattle.overlay_geom.specs.Edges.{weight};
 ghost use Rattle.overlay_geom.specs.Points.{plain_points};
-ghost use Rattle.overlay_order.specs.Content.{plain_edge, plain_edges, IsHeld};
+ghost use Rattle.overlay_plane.specs.SnapPoints.{snap_points, snapped_edges};
+ghost use Rattle.overlay_order.specs.Content.{carried_edges, plain_edge, plain_edges, IsContent, IsHeld};
 ghost use Rattle.overlay_pairs.specs.PointStrips.{AreStripsOf};
-ghost use Rattle.overlay_arrange.specs.HotPoints.{AddsMet, AreHotPoints, AreLeftBefore, AreMetAmong, AreMetInside};
+ghost use Rattle.overlay_arrange.specs.Batches.{AreJoinedPieces};
+ghost use Rattle.overlay_arrange.specs.HotPoints.{AreHotPoints, AreLeftBefore, AreMetAmong, AreMetInside};
 ghost use Rattle.overlay_arrange.specs.HotPoints.{ArePointsAscending, AreRightFrom, AreStripsIfAny};
-ghost use Rattle.overlay_arrange.specs.HotPoints.{meetings_at};
-ghost use Rattle.overlay_arrange.specs.Meetings.{plain_meetings, AreByPlace};
-ghost use Rattle.overlay_arrange.specs.SnapMeetings.{AreSnapMeetings};
+ghost use Rattle.overlay_arrange.specs.Stores.{IsStoreReached};
 
+use crate::batches::Pieces;
+use crate::content::Content;
 use crate::course::course_of;
-use crate::meetings::Meeting;
+use crate::cut::sort_along;
 use crate::pixel::meets_pixel_inside;
 use crate::pixel_runs::push_run;
+use overlay_geom::error::OverlayError;
 use overlay_geom::number::IntNumber;
 use overlay_geom::point::IntPoint;
 use overlay_order::count::EdgeCount;
@@ -26,36 +30,51 @@ use std::alloc::{AllocError, Allocator};
 
 // Number of points in the span of an edge up to which they are tested one by one; more are searched by strips.
 const FEW: usize = 16;
+// Least number of pieces from which on equal ones are joined before all edges are led.
+const LEAST: usize = 65536;
 
-/// Returns the hot points whose pixels each edge meets, as its meetings, sorted by the places of the edges. An edge's
-/// own ends are left out.
-pub(crate) fn gather_snapped<I: IntNumber, C: EdgeCount, A: Allocator + Clone>(
+/// Returns the pieces of all edges, each along the chain through the hot points whose pixels it meets. Equal pieces may
+/// be joined.
+#[tactic(auto, using(crate::proofs::ReachedStores::never_written))]
+pub(crate) fn snap_edges<I: IntNumber, C: EdgeCount, A: Allocator + Clone>(
     alloc: A,
     edges: &[CountedEdge<I, C>],
     hot: &[IntPoint<I>],
-) -> Result<Vec<Meeting<I>, A>, AllocError>
-    requires held { All (IsHeld I.limit) (plain_edges I.whole C.counts edges.now) }
+    store: &mut C::Store,
+) -> Result<Content<I, C, A>, OverlayError>
+    requires content { IsContent I.limit (plain_edges I.whole C.counts edges.now) }
     requires hot { AreHotPoints (plain_edges I.whole C.counts edges.now) (plain_points I.whole hot.now) }
-    ensures ok { IfOk result (λ meetings. AreSnapMeetings
-        (plain_edges I.whole C.counts edges.now) (plain_meetings I.whole meetings.items)) }
-    ensures order { IfOk result (λ meetings. AreByPlace (plain_meetings I.whole meetings.items)) }
+    ensures ok { IfOk result (λ led. AreJoinedPieces C.merges C.splits C.reverses
+        (snap_points (plain_edges I.whole C.counts edges.now)) (carried_edges I.whole C.counts edges.now) led) }
+    ensures store { IsStoreReached C.writes store.old store.new }
+    ensures too_many { IsErrOf result OverlayError.TooManyEdges
+        → 2 ^ 31 ≤ weight (snapped_edges (plain_edges I.whole C.counts edges.now)) }
+    ensures only { IfErr result (λ e. (e ≡ OverlayError.Memory) ⊎ (e ≡ OverlayError.TooManyEdges)) }
 {
     // (a quarter as wide as strips of edges)
     let width = strip_width(length_of_spans(edges, hot) / 16);
     let mut strips = Vec::new(alloc.clone()?);
     let mut points = Vec::new(alloc.clone()?);
-    let mut meetings = Vec::new(alloc);
+    let room = hot.len().saturating_mul(2);
+    let mut pieces = Pieces::new(alloc, room, many_pieces(hot.len()))?;
     let mut low = 0;
     // (strips do not pay for a few long spans)
     let mut spare = hot.len();
-    for i in 0..edges.len() {
-        let e = &edges[i];
+    for (i, e) in edges.iter().enumerate() {
         low = count_left_of(hot, e.a.x, low);
         take_near(&mut points, &mut strips, hot, width, e, low, spare)?;
         spare = spare_behind(spare, !strips.is_empty(), points.len());
-        push_snapped(&mut meetings, i, e, &mut points)?;
+        keep_met(&mut points, e);
+        sort_along(&mut points, e)?;
+        pieces.add(e, &points, store)?;
     }
-    Ok(meetings)
+    Ok(pieces.content)
+}
+
+// Returns the number of pieces from which on equal pieces are joined. Different pieces meet in ends alone, so that
+// there are fewer than three for each hot point.
+fn many_pieces(hot: usize) -> usize {
+    hot.saturating_mul(6).max(LEAST)
 }
 
 /// Returns how many points beyond `FEW` an edge may still test, all edges together, after one that tested `count`. It
@@ -240,21 +259,6 @@ fn take_range<I: IntNumber, A: Allocator>(
     Ok(())
 }
 
-/// Adds the points whose pixels the edge at place i meets, as its meetings, and leaves these points alone in the list.
-fn push_snapped<I: IntNumber, C: EdgeCount, A: Allocator>(
-    meetings: &mut Vec<Meeting<I>, A>,
-    i: usize,
-    e: &CountedEdge<I, C>,
-    points: &mut Vec<IntPoint<I>, A>,
-) -> Result<(), AllocError>
-    requires { IsHeld I.limit (plain_edge I.whole C.counts e.now) }
-    ensures ok { OnOk result (AddsMet i (plain_edge I.whole C.counts e.now) (plain_points I.whole points.old.items)
-        (plain_meetings I.whole meetings.old.items) (plain_meetings I.whole meetings.new.items)) }
-{
-    keep_met(points, e);
-    push_all(meetings, i, points)
-}
-
 /// Removes the points whose pixels the edge does not meet, and its own ends. No branch depends on the answers, which
 /// nothing foretells.
 fn keep_met<I: IntNumber, C: EdgeCount, A: Allocator>(
@@ -268,22 +272,4 @@ fn keep_met<I: IntNumber, C: EdgeCount, A: Allocator>(
     // (what is computed of the edge alone is computed once, for a copy)
     let e = *e;
     points.retain(|v| meets_pixel_inside(&e, *v));
-}
-
-/// Adds the points as meetings of the edge at place i.
-fn push_all<I: IntNumber, A: Allocator>(
-    meetings: &mut Vec<Meeting<I>, A>,
-    i: usize,
-    points: &[IntPoint<I>],
-) -> Result<(), AllocError>
-    ensures ok { OnOk result (plain_meetings I.whole meetings.new.items
-        ≡ plain_meetings I.whole meetings.old.items ++ meetings_at i (plain_points I.whole points.now)) }
-{
-    for k in 0..points.len() {
-        meetings.push(Meeting {
-            place: i,
-            point: points[k],
-        })?;
-    }
-    Ok(())
 }

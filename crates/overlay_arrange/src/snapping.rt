@@ -2,23 +2,25 @@
 //! meet.
 
 ghost use Rattle.std.specs.Prelude.{◌≡◌, ◌⊎◌, ◌↔◌, ◌^◌, false, [], IfOk, IfErr, OnOk, OnErr, IsErrOf};
+ghost use Rattle.overlay_geom.specs.Points.{plain_points};
 ghost use Rattle.overlay_geom.specs.declared.solver.Solver.TheVariants.{Snapping};
 ghost use Rattle.overlay_plane.specs.Arrangements.{IsReachedBy, IsSplit, WeighsTooMuch};
 ghost use Rattle.overlay_plane.specs.Carried.{edges_in};
 ghost use Rattle.overlay_order.specs.Content.{IsAscending, IsContent};
 ghost use Rattle.overlay_graph.specs.Arranged.{IsSplitCarrying};
-ghost use Rattle.overlay_arrange.specs.Meetings.{plain_meetings, AreByPlace, AreMeetings};
-ghost use Rattle.overlay_arrange.specs.SnapMeetings.{AreSnapMeetings};
+ghost use Rattle.overlay_arrange.specs.HotPoints.{AreHotPoints};
+ghost use Rattle.overlay_arrange.specs.Meetings.{plain_meetings, AreMeetings};
 ghost use Rattle.overlay_arrange.specs.Snapping.{AreHeavyPieces, IsLedOnce};
 ghost use Rattle.overlay_arrange.specs.Stores.{IsStoreReached};
 
 use crate::content::Content;
 use crate::hot::hot_points;
 use crate::meetings::Meeting;
-use crate::snap::gather_snapped;
+use crate::snap::snap_edges;
 use crate::whole::are_whole;
 use overlay_geom::error::OverlayError;
 use overlay_geom::number::IntNumber;
+use overlay_geom::point::IntPoint;
 use overlay_order::count::EdgeCount;
 use std::alloc::{AllocError, Allocator};
 
@@ -60,7 +62,7 @@ impl<I: IntNumber, C: EdgeCount, A: Allocator + Clone> Content<I, C, A> {
     ) -> Result<(), OverlayError>
         requires ascending { IsAscending (edges_in self.old) }
         requires meetings { AreMeetings (edges_in self.old) (plain_meetings I.whole meetings.items) }
-        ensures ok { OnOk result (IsLedOnce C.splits C.reverses self.old self.new) }
+        ensures ok { OnOk result (IsLedOnce C.merges C.splits C.reverses self.old self.new) }
         ensures err { OnErr result (self.new ≡ self.old) }
         ensures store { IsStoreReached C.writes store.old store.new }
         ensures too_many { IsErrOf result OverlayError.TooManyEdges → AreHeavyPieces (2 ^ 31) (edges_in self.old) }
@@ -70,23 +72,17 @@ impl<I: IntNumber, C: EdgeCount, A: Allocator + Clone> Content<I, C, A> {
             self.cut_through(meetings, store)?;
             return Ok(());
         }
-        let snapped = self.snapped_meetings(meetings)?;
-        self.snap_at(snapped, store)
+        let hot = self.hot_of(meetings)?;
+        let alloc = self.allocator().clone()?;
+        *self = snap_edges(alloc, self.edges(), &hot, store)?;
+        Ok(())
     }
 
-    /// Returns the hot points whose pixels the edges meet, as their meetings, sorted by their places. The given
-    /// meetings of the edges are dropped.
-    fn snapped_meetings(
-        &self,
-        meetings: Vec<Meeting<I>, A>,
-    ) -> Result<Vec<Meeting<I>, A>, AllocError>
+    /// Returns the hot points of the edges. The given meetings of the edges are dropped.
+    fn hot_of(&self, meetings: Vec<Meeting<I>, A>) -> Result<Vec<IntPoint<I>, A>, AllocError>
         requires { AreMeetings (edges_in self.now) (plain_meetings I.whole meetings.items) }
-        ensures ok { IfOk result (λ snapped.
-            AreSnapMeetings (edges_in self.now) (plain_meetings I.whole snapped.items)) }
-        ensures order { IfOk result (λ snapped. AreByPlace (plain_meetings I.whole snapped.items)) }
+        ensures ok { IfOk result (λ hot. AreHotPoints (edges_in self.now) (plain_points I.whole hot.items)) }
     {
-        let edges = self.edges();
-        let hot = hot_points(self.allocator().clone()?, edges, &meetings)?;
-        gather_snapped(self.allocator().clone()?, edges, &hot)
+        hot_points(self.allocator().clone()?, self.edges(), &meetings)
     }
 }

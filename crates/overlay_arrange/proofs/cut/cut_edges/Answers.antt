@@ -1,6 +1,6 @@
 -- Each edge is held and light, and is led through points in range; a heavy beginning makes a heavy whole.
-use Rattle.std.proofs.Common.{◌≡◌, ℕ, ◌≤◌, ◌<◌, ◌+◌, ◌++◌, ℤ, List, All, length, map, get_or, drop, refl, sym, subst}
-use Rattle.std.proofs.Common.{ap, ◌∙◌, append-nil, arith, rules}
+use Rattle.std.proofs.Common.{◌≡◌, ℕ, ◌≤◌, ◌<◌, ℤ, List, All, length, get_or, sym, subst}
+use Rattle.std.proofs.Common.{ap, arith, rules}
 use Rattle.std.proofs.lemmas.List.{at_drop_all}
 use Rattle.overlay_order.specs.declared.edge.CountedEdge.{CountedEdge}
 use Rattle.std.specs.List.{flat_map}
@@ -10,30 +10,31 @@ use Rattle.overlay_geom.specs.declared.point.IntPoint.{IntPoint}
 use Rattle.overlay_geom.specs.Counts.{Counts}
 use Rattle.overlay_geom.proofs.Mapped.{All-mapped_at, Contains-mapped, mapped_rest}
 use Rattle.overlay_plane.specs.Carried.{Carried, edges_in}
-use Rattle.overlay_plane.specs.Cutting.{piece_along, pieces_through}
+use Rattle.overlay_plane.specs.Cutting.{pieces_through}
 use Rattle.overlay_plane.specs.DerivedData.{ArePieces}
 use Rattle.overlay_order.specs.Content.{carried_edge, carried_edges, plain_edge, plain_edges, IsHeld}
-use Rattle.overlay_order.proofs.Appended.{next_appended}
+use Rattle.overlay_order.proofs.CarriedEdges.{edges_in-carried}
 use Rattle.overlay_pairs.proofs.Entries.{placed_in_mapped}
-use Rattle.overlay_arrange.specs.Cut.{chain_by, AddsGiven, LeadingPoints}
+use Rattle.overlay_arrange.specs.Batches.{AddsJoined}
+use Rattle.overlay_arrange.specs.Cut.{chain_by, LeadingPoints}
 use Rattle.overlay_arrange.specs.Stores.IsStoreReached.{unwritten}
 use Rattle.overlay_arrange.specs.Meetings.{plain_meetings, AreLedAlong, ArePointsAt}
 use Rattle.overlay_arrange.specs.declared.meetings.Meeting.{Meeting}
-use Rattle.overlay_arrange.proofs.CarriedPieces.{adds_all, adds_both, adds_none, pieces_added}
 use Rattle.overlay_arrange.proofs.CutContents.{weight_of_entry}
 use Rattle.overlay_arrange.proofs.LedThrough.{IsLedThrough, led_through, points_in_range}
-use Rattle.overlay_arrange.proofs.Pieces.{heavy_beginning}
 use Rattle.overlay_arrange.proofs.ReachedStores.{reached_on}
+use Rattle.overlay_arrange.proofs.StandingLists.{joined_both, joined_none}
+use Rattle.overlay_arrange.proofs.StandingPieces.{all_joined, heavy_among, joined_pieces, weighed_on}
 use Rattle.overlay_arrange.proofs.cut.cut_edges.Goals as goal
 
-pub push_pieces-requires-clause-held : goal.push_pieces-requires-clause-held
-push_pieces-requires-clause-held g c =
+pub add-requires-clause-held : goal.add-requires-clause-held
+add-requires-clause-held g c =
     All-mapped_at (IsHeld g.I.IntNumber.limit) (plain_edge g.I.IntNumber.whole g.C.EdgeCount.counts) c.args.edges.now
     c.loop-i.i c.index-edges-i.result
     c.loop-i-test.true c.index-edges-i.is c.requires.content.held
 
-pub push_pieces-requires-clause-light : goal.push_pieces-requires-clause-light
-push_pieces-requires-clause-light g c =
+pub add-requires-clause-light : goal.add-requires-clause-light
+add-requires-clause-light g c =
     let plain = plain_edge g.I.IntNumber.whole g.C.EdgeCount.counts in
     let bound = weight_of_entry (plain_edges g.I.IntNumber.whole g.C.EdgeCount.counts c.args.edges.now)
     (plain c.index-edges-i.result)
@@ -64,83 +65,82 @@ led_at limit whole counts edges i e ms ps qs held within is at taken points lead
     (leads i (plain_edge whole counts e) (placed_in_mapped (plain_edge whole counts) edges i e within is)
     (plain_points whole qs) at_qs)
 
-pub push_pieces-requires-clause-points : goal.push_pieces-requires-clause-points
-push_pieces-requires-clause-points g c =
+pub add-requires-clause-points : goal.add-requires-clause-points
+add-requires-clause-points g c =
     points_in_range g.I.IntNumber.limit (plain_meetings g.I.IntNumber.whole c.args.meetings.now) c.loop-i.i
     (ends_of (plain_edge g.I.IntNumber.whole g.C.EdgeCount.counts c.index-edges-i.result))
     (plain_points g.I.IntNumber.whole c.deref.result.now) c.requires.in_range
     (points_at g.I.IntNumber.whole g.C.EdgeCount.counts c.loop-i.i c.index-edges-i.result c.args.meetings.now
     c.put_points_at.new.points.items c.deref.result.now c.in_ok-put_points_at.ensures.ok c.deref.ensures.value)
 
-pub returns-in_err-push_pieces-clause-too_many : goal.returns-in_err-push_pieces-clause-too_many
-returns-in_err-push_pieces-clause-too_many g c = λ refused points leads.
+pub returns-in_err-add-clause-too_many : goal.returns-in_err-add-clause-too_many
+returns-in_err-add-clause-too_many g c = λ refused points leads.
     let plain = plain_edge g.I.IntNumber.whole g.C.EdgeCount.counts in
     let i = c.loop-i.i in
-    let pieces = pieces_through points in
-    let e = plain c.index-edges-i.result in
-    let rest = plain_edges g.I.IntNumber.whole g.C.EdgeCount.counts (drop (i + 1) c.args.edges.now) in
-    let all = next_appended pieces (edges_in c.loop-i.pieces) (edges_in c.loop-i.pieces ++ pieces e) e rest _ _
-    (mapped_rest plain c.args.edges.now i c.index-edges-i.result c.loop-i-test.true c.index-edges-i.is)
-    (c.loop-i.invariant.0 points leads) refl in
     let led = led_at g.I.IntNumber.limit g.I.IntNumber.whole g.C.EdgeCount.counts c.args.edges.now i
     c.index-edges-i.result c.args.meetings.now c.put_points_at.new.points.items c.deref.result.now
     c.requires.content.held c.loop-i-test.true c.index-edges-i.is
     c.in_ok-put_points_at.ensures.ok c.deref.ensures.value points leads in
-    heavy_beginning 2147483648 (edges_in c.loop-i.pieces ++ pieces e) (flat_map pieces rest) _ all
-    (subst (λ ss. 2147483648 ≤ weight (edges_in c.loop-i.pieces ++ map (piece_along e) ss)) led.chain
-    (c.push_pieces.ensures.too_many (search rules)))
+    heavy_among points _ _ (plain c.index-edges-i.result)
+    (mapped_rest plain c.args.edges.now i c.index-edges-i.result c.loop-i-test.true c.index-edges-i.is) _ led.chain
+    (edges_in c.loop-i.pieces.content) c.loop-i.pieces.away _ (c.loop-i.invariant.0 points leads) 2147483648
+    (c.add.ensures.too_many (search rules))
 
 pub loop-i-preserved : goal.loop-i-preserved
 loop-i-preserved g c =
     let plain = plain_edge g.I.IntNumber.whole g.C.EdgeCount.counts in
+    let carry = carried_edge g.I.IntNumber.whole g.C.EdgeCount.counts in
     let i = c.loop-i.i in
-    let e = plain c.index-edges-i.result in
-    let rest = plain_edges g.I.IntNumber.whole g.C.EdgeCount.counts (drop (i + 1) c.args.edges.now) in
     let led = led_at g.I.IntNumber.limit g.I.IntNumber.whole g.C.EdgeCount.counts c.args.edges.now i
     c.index-edges-i.result c.args.meetings.now c.put_points_at.new.points.items c.deref.result.now
     c.requires.content.held c.loop-i-test.true c.index-edges-i.is
     c.in_ok-put_points_at.ensures.ok c.deref.ensures.value in
-    let carry = carried_edge g.I.IntNumber.whole g.C.EdgeCount.counts in
+    let merges = g.C.EdgeCount.merges in
     let splits = g.C.EdgeCount.splits in
     let reverses = g.C.EdgeCount.reverses in
     let next = mapped_rest carry c.args.edges.now i c.index-edges-i.result c.loop-i-test.true c.index-edges-i.is in (
-      λ points leads. next_appended (pieces_through points) (edges_in c.loop-i.pieces) _ e rest _ _
-          (mapped_rest plain c.args.edges.now i c.index-edges-i.result c.loop-i-test.true c.index-edges-i.is)
-          (c.loop-i.invariant.0 points leads) (c.in_ok-push_pieces.ensures.ok
-          ∙ ap (λ ss. edges_in c.loop-i.pieces ++ map (piece_along e) ss) (led points leads).chain),
+      λ points leads. weighed_on points _ _ (plain c.index-edges-i.result)
+          (mapped_rest plain c.args.edges.now i c.index-edges-i.result c.loop-i-test.true c.index-edges-i.is) _
+          (led points leads).chain (edges_in c.loop-i.pieces.content) c.loop-i.pieces.away _
+          (c.loop-i.invariant.0 points leads) (edges_in c.add.new.self.content) c.add.new.self.away
+          c.in_ok-add.ensures.weighed,
       λ points leads new adds. (rw next at (c.loop-i.invariant.1 points leads)) new
-          (adds_both (ArePieces splits reverses (chain_by points))
-          (pieces_added splits reverses points (carry c.index-edges-i.result) _ (led points leads).chain
-          (led points leads).whole c.in_ok-push_pieces.ensures.carried) adds),
-      reached_on g.C.EdgeCount.writes _ _ _ c.loop-i.invariant.2 c.in_ok-push_pieces.ensures.store,
+          (joined_both merges (ArePieces splits reverses (chain_by points))
+          (joined_pieces merges splits reverses points (carry c.index-edges-i.result) _ (led points leads).chain
+          (led points leads).whole c.in_ok-add.ensures.carried) adds),
+      c.in_ok-add.ensures.light,
+      reached_on g.C.EdgeCount.writes _ _ _ c.loop-i.invariant.3 c.in_ok-add.ensures.store,
+    )
+
+pub loop-i-init : goal.loop-i-init
+loop-i-init g c =
+    rw (c.in_ok-pieces.ensures.empty, c.in_ok-pieces.ensures.none) (
+      λ points leads. omega arith,
+      λ points leads new adds. adds,
+      omega arith,
+      unwritten _,
     )
 
 pub returns-clause-ok : goal.returns-clause-ok
 returns-clause-ok g c = λ points leads.
-    let past : length c.args.edges.now ≤ c.loop-i.i = search rules in
-    let none = at_drop_all (λ (fs : List (CountedEdge _ _)). edges_in c.loop-i.pieces ++ flat_map
-    (pieces_through points) (plain_edges g.I.IntNumber.whole g.C.EdgeCount.counts fs))
-    c.args.edges.now c.loop-i.i past in
-    sym (append-nil (edges_in c.loop-i.pieces)) ∙ sym none ∙ c.loop-i.invariant.0 points leads
-
-pub loop-i-init : goal.loop-i-init
-loop-i-init g c =
-    rw (c.in_ok-pieces.ensures.empty) (
-      λ points leads. refl,
-      λ points leads new adds. adds_all (ArePieces g.C.EdgeCount.splits g.C.EdgeCount.reverses (chain_by points)) adds,
-      unwritten _,
-    )
-
-pub returns-clause-carried : goal.returns-clause-carried
-returns-clause-carried g c = λ points leads.
+    let whole = g.I.IntNumber.whole in
+    let counts = g.C.EdgeCount.counts in
     let gives = ArePieces g.C.EdgeCount.splits g.C.EdgeCount.reverses (chain_by points) in
     let past : length c.args.edges.now ≤ c.loop-i.i = search rules in
-    let none = at_drop_all (λ (fs : List (CountedEdge _ _)). carried_edges g.I.IntNumber.whole g.C.EdgeCount.counts fs)
-    c.args.edges.now c.loop-i.i past in
-    c.loop-i.invariant.1 points leads c.loop-i.pieces
-    (subst (λ (xs : List (Carried g.row.C.Denot)). AddsGiven gives xs c.loop-i.pieces c.loop-i.pieces) (sym none)
-    (adds_none gives c.loop-i.pieces))
+    let left = at_drop_all (λ (fs : List (CountedEdge _ _)). carried_edges whole counts fs) c.args.edges.now
+    c.loop-i.i past in
+    let none = at_drop_all (λ (fs : List (CountedEdge _ _)). weight (flat_map (pieces_through points)
+    (plain_edges whole counts fs))) c.args.edges.now c.loop-i.i past in
+    let all = c.loop-i.invariant.0 points leads in
+    let light = c.loop-i.invariant.2 in
+    let same = ap (λ es. weight (flat_map (pieces_through points) es)) (edges_in-carried whole counts c.args.edges.now)
+    in
+    all_joined g.C.EdgeCount.merges g.C.EdgeCount.splits g.C.EdgeCount.reverses points
+    (c.loop-i.invariant.1 points leads c.loop-i.pieces.content
+    (subst (λ (xs : List (Carried g.row.C.Denot)). AddsJoined g.C.EdgeCount.merges gives xs c.loop-i.pieces.content
+    c.loop-i.pieces.content) (sym left) (joined_none g.C.EdgeCount.merges gives c.loop-i.pieces.content)))
+    (omega (arith, all, light, none, same))
 
-pub returns-in_err-push_pieces-clause-store : goal.returns-in_err-push_pieces-clause-store
-returns-in_err-push_pieces-clause-store g c =
-    reached_on g.C.EdgeCount.writes _ _ _ c.loop-i.invariant.2 c.in_err-push_pieces.ensures.store
+pub returns-in_err-add-clause-store : goal.returns-in_err-add-clause-store
+returns-in_err-add-clause-store g c =
+    reached_on g.C.EdgeCount.writes _ _ _ c.loop-i.invariant.3 c.in_err-add.ensures.store

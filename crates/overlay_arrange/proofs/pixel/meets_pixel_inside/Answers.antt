@@ -3,7 +3,7 @@ use Rattle.std.proofs.Common.{not, ◌&&◌, ap, sym, ◌∙◌}
 use Rattle.std.proofs.lemmas.Bool.{false≢true}
 use Rattle.overlay_geom.specs.Edges.{ends_of}
 use Rattle.overlay_geom.specs.Points.{plain_point}
-use Rattle.overlay_plane.specs.SnapPoints.{is_in_box, line_meets}
+use Rattle.overlay_plane.specs.SnapPoints.{line_meets}
 use Rattle.overlay_order.specs.Content.{plain_edge}
 use Rattle.overlay_arrange.proofs.PixelBounds.{end_not_inside, inside_where, outside}
 use Rattle.overlay_arrange.proofs.pixel.meets_pixel_inside.Goals as goal

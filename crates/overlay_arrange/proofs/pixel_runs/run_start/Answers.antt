@@ -1,5 +1,5 @@
 -- The edge passes above the point before the guessed place, so it does above those up to it.
-use Rattle.std.proofs.Common.{◌≡◌, ◌+◌, ◌-◌, ◌<◌, ℕ, length, sym, ◌∙◌, subst, arith}
+use Rattle.std.proofs.Common.{◌≡◌, ◌+◌, ◌-◌, ◌<◌, length, sym, ◌∙◌, subst, arith}
 use Rattle.overlay_geom.specs.Points.{plain_point, plain_points}
 use Rattle.overlay_geom.specs.declared.point.IntPoint.{IntPoint}
 use Rattle.overlay_order.specs.Content.{plain_edge}

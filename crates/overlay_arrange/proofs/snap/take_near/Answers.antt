@@ -6,7 +6,7 @@ use Rattle.overlay_geom.specs.Points.{plain_point, plain_points}
 use Rattle.overlay_geom.proofs.PointOrder.{Decides-point_lt}
 use Rattle.overlay_order.specs.Content.{plain_edge}
 use Rattle.overlay_arrange.specs.HotPoints.{AreMetAmong}
-use Rattle.overlay_arrange.proofs.GatheredPixels.{span_among}
+use Rattle.overlay_arrange.proofs.SpanAmong.{span_among}
 use Rattle.overlay_arrange.proofs.snap.take_near.Goals as goal
 
 pub returns-else-goes_on-clause-ok : goal.returns-else-goes_on-clause-ok

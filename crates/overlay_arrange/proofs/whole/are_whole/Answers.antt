@@ -1,9 +1,8 @@
 -- A loop over the meetings: each lies on its edge's line, or the answer is no.
-use Rattle.std.proofs.Common.{◌≡◌, ◌<◌, ℕ, ℤ, List, All, length, get_or, refl, sym, subst, arith}
+use Rattle.std.proofs.Common.{◌≡◌, ◌<◌, ℕ, ℤ, List, All, length, get_or, refl, subst, arith}
 use Rattle.std.proofs.lemmas.List.{length-map}
-use Rattle.std.proofs.lemmas.List.Elements.{All-contains}
 use Rattle.overlay_geom.specs.Counts.{Counts}
-use Rattle.overlay_geom.specs.Points.{plain_point, InRange}
+use Rattle.overlay_geom.specs.Points.{InRange}
 use Rattle.overlay_geom.proofs.Mapped.{mapped_whole, All-mapped_at, All-mapped_more, Contains-mapped}
 use Rattle.overlay_order.specs.Content.{plain_edge, plain_edges, IsHeld}
 use Rattle.overlay_order.specs.declared.edge.CountedEdge.{CountedEdge}

@@ -8,6 +8,8 @@ use Rattle.overlay_arrange.proofs.RoundsTaken.{split_at_once, unsettled_at_once,
 use Rattle.overlay_arrange.proofs.RoundsTaken.{heavy_at_once, uncut_where_settled, cut_where_unsettled, Leaves}
 use Rattle.overlay_arrange.proofs.ReachedStores.{reached_on}
 use Rattle.overlay_arrange.proofs.SolverRounds.{cut_in_rounds, leaves_of_taken}
+use Rattle.overlay_arrange.proofs.StandingLists.{carries_of_standing, merged_of_standing}
+use Rattle.overlay_arrange.proofs.StandingRounds.{carrying_for, heavy_for, split_for, unsettled_for}
 use Rattle.overlay_geom.specs.Edges.{CountedEdge}
 use Rattle.overlay_geom.specs.Merged.{IsMerged}
 use Rattle.overlay_geom.specs.Settled.{IsSettled}
@@ -52,11 +54,12 @@ returns-in_err-is_rounded-clause-too_many g n c = λ same.
 
 pub returns-in_ok-split_since-clause-split : goal.returns-in_ok-split_since-clause-split
 returns-in_ok-split_since-clause-split g n c =
+    let joined = c.in_ok-is_rounded.ensures.ok in
     let first = leaves_cut g.I.IntNumber.limit (edges_in c.args.self.now) (edges_in c.merge_runs.new.self)
-    (edges_in c.cut_at.new.self) c.merge_runs.ensures.content c.in_ok-merge_runs.ensures.ok
-    (not_settled c.in-Some.is c.in_ok-meetings.ensures.settled) c.in_ok-is_rounded.ensures.ok in
-    split_on Rounds (c.args.rounds - 1) c.args.rounds _ _ _ (omega arith) first
-    c.split_since.ensures.before.light c.in_ok-split_since.ensures.split
+    (edges_in joined.pieces) c.merge_runs.ensures.content c.in_ok-merge_runs.ensures.ok
+    (not_settled c.in-Some.is c.in_ok-meetings.ensures.settled) joined.edges in
+    split_on Rounds (c.args.rounds - 1) c.args.rounds _ _ _ (omega arith) first joined.light
+    (split_for g.C.EdgeCount.merges joined.stands (c.args.rounds - 1) _ c.in_ok-split_since.ensures.split)
 
 pub returns-in_default-clause-cut : goal.returns-in_default-clause-cut
 returns-in_default-clause-cut g n c = uncut_where_settled c.in_ok-merge_runs.ensures.ok
@@ -70,21 +73,25 @@ pub returns-in_err-split_since-clause-not_settled : goal.returns-in_err-split_si
 returns-in_err-split_since-clause-not_settled g n c = λ same.
     let passed = err_from_is_err_and c.from_residual-in_err-split_since.result
     c.from_residual-in_err-split_since.ensures.1 in
+    let joined = c.in_ok-is_rounded.ensures.ok in
     let first = leaves_cut g.I.IntNumber.limit (edges_in c.args.self.now) (edges_in c.merge_runs.new.self)
-    (edges_in c.cut_at.new.self) c.merge_runs.ensures.content c.in_ok-merge_runs.ensures.ok
-    (not_settled c.in-Some.is c.in_ok-meetings.ensures.settled) c.in_ok-is_rounded.ensures.ok in
+    (edges_in joined.pieces) c.merge_runs.ensures.content c.in_ok-merge_runs.ensures.ok
+    (not_settled c.in-Some.is c.in_ok-meetings.ensures.settled) joined.edges in
     unsettled_on (c.args.rounds - 1) c.args.rounds _ _ (omega arith) first
-    (c.in_err-split_since.ensures.not_settled (cc))
+    (unsettled_for g.C.EdgeCount.merges joined.stands (c.args.rounds - 1)
+    (c.in_err-split_since.ensures.not_settled (cc)))
 
 pub returns-in_err-split_since-clause-too_many : goal.returns-in_err-split_since-clause-too_many
 returns-in_err-split_since-clause-too_many g n c = λ same.
     let passed = err_from_is_err_and c.from_residual-in_err-split_since.result
     c.from_residual-in_err-split_since.ensures.1 in
+    let joined = c.in_ok-is_rounded.ensures.ok in
     let first = leaves_cut g.I.IntNumber.limit (edges_in c.args.self.now) (edges_in c.merge_runs.new.self)
-    (edges_in c.cut_at.new.self) c.merge_runs.ensures.content c.in_ok-merge_runs.ensures.ok
-    (not_settled c.in-Some.is c.in_ok-meetings.ensures.settled) c.in_ok-is_rounded.ensures.ok in
+    (edges_in joined.pieces) c.merge_runs.ensures.content c.in_ok-merge_runs.ensures.ok
+    (not_settled c.in-Some.is c.in_ok-meetings.ensures.settled) joined.edges in
     heavy_on Rounds 2147483648 (c.args.rounds - 1) c.args.rounds _ _ (omega arith) first
-    (c.in_err-split_since.ensures.too_many (cc))
+    (heavy_for g.C.EdgeCount.merges joined.stands (c.args.rounds - 1) 2147483648
+    (c.in_err-split_since.ensures.too_many (cc)))
 
 pub returns-in_default-clause-carried : goal.returns-in_default-clause-carried
 returns-in_default-clause-carried g n c =
@@ -95,35 +102,36 @@ returns-in_default-clause-carried g n c =
 
 pub returns-in_ok-split_since-clause-carried : goal.returns-in_ok-split_since-clause-carried
 returns-in_ok-split_since-clause-carried g n c =
+    let joined = c.in_ok-is_rounded.ensures.ok in
     carried_on g.C.EdgeCount.merges g.C.EdgeCount.splits g.C.EdgeCount.reverses Rounds
     (c.args.rounds - 1) c.args.rounds
-    c.args.self.now c.merge_runs.new.self c.cut_at.new.self _ (computed_chain (edges_in c.merge_runs.new.self))
+    c.args.self.now c.merge_runs.new.self joined.pieces _ (computed_chain (edges_in c.merge_runs.new.self))
     (omega arith)
     (cut_in_rounds (edges_in c.args.self.now) (edges_in c.merge_runs.new.self)
     (forward_content g.I.IntNumber.limit (edges_in c.merge_runs.new.self) c.merge_runs.ensures.content)
     c.in_ok-merge_runs.ensures.ok
-    (not_settled c.in-Some.is c.in_ok-meetings.ensures.settled) (edges_in c.cut_at.new.self)
-    c.in_ok-is_rounded.ensures.ok)
-    c.in_ok-merge_runs.ensures.carried c.in_ok-is_rounded.ensures.carried
-    c.split_since.ensures.before.light c.in_ok-split_since.ensures.carried
+    (not_settled c.in-Some.is c.in_ok-meetings.ensures.settled) (edges_in joined.pieces) joined.edges)
+    c.in_ok-merge_runs.ensures.carried joined.carried joined.light
+    (carrying_for g.C.EdgeCount.merges joined.stands g.C.EdgeCount.splits g.C.EdgeCount.reverses (c.args.rounds - 1) _
+    c.in_ok-split_since.ensures.carried)
 
 -- where no point was rounded, the pieces, merged, are settled
 pub returns-in_ok-merge_runs-2-clause-split : goal.returns-in_ok-merge_runs-2-clause-split
 returns-in_ok-merge_runs-2-clause-split g n c =
     let unsettled : ¬ (IsSettled (edges_in c.merge_runs.new.self)) =
     not_settled c.in-Some.is c.in_ok-meetings.ensures.settled in
+    let joined = c.in_ok-is_rounded.ensures.ok in
+    let merged = merged_of_standing g.C.EdgeCount.merges (edges_in c.merge_runs-else-is_rounded.new.self) joined.stands
+    c.in_ok-merge_runs-2.ensures.ok in
     let first = leaves_cut g.I.IntNumber.limit (edges_in c.args.self.now) (edges_in c.merge_runs.new.self)
-    (edges_in c.cut_at.new.self) c.merge_runs.ensures.content c.in_ok-merge_runs.ensures.ok unsettled
-    c.in_ok-is_rounded.ensures.ok in
+    (edges_in joined.pieces) c.merge_runs.ensures.content c.in_ok-merge_runs.ensures.ok unsettled joined.edges in
     let settled = settled_where_whole (edges_in c.args.self.now) (edges_in c.merge_runs.new.self)
-    (edges_in c.cut_at.new.self) (edges_in c.merge_runs-else-is_rounded.new.self)
+    (edges_in joined.pieces) (edges_in c.merge_runs-else-is_rounded.new.self)
     (forward_content g.I.IntNumber.limit (edges_in c.merge_runs.new.self) c.merge_runs.ensures.content)
     c.in_ok-merge_runs.ensures.ok
-    unsettled (c.in_ok-is_rounded.ensures.rounded.0 c.if-is_rounded.false) c.in_ok-is_rounded.ensures.ok
-    c.in_ok-merge_runs-2.ensures.ok in
-    split_on Rounds (c.args.rounds - 1) c.args.rounds _ _ _ (omega arith) first
-    c.merge_runs-else-is_rounded.ensures.before.light
-    (split_at_once (c.args.rounds - 1) _ _ c.in_ok-merge_runs-2.ensures.ok settled)
+    unsettled (c.in_ok-is_rounded.ensures.rounded.0 c.if-is_rounded.false) joined.edges merged in
+    split_on Rounds (c.args.rounds - 1) c.args.rounds _ _ _ (omega arith) first joined.light
+    (split_at_once (c.args.rounds - 1) _ _ merged settled)
 
 pub returns-in_ok-merge_runs-2-clause-cut : goal.returns-in_ok-merge_runs-2-clause-cut
 returns-in_ok-merge_runs-2-clause-cut g n c = cut_where_unsettled c.in_ok-merge_runs.ensures.ok
@@ -133,25 +141,27 @@ pub returns-in_ok-merge_runs-2-clause-carried : goal.returns-in_ok-merge_runs-2-
 returns-in_ok-merge_runs-2-clause-carried g n c =
     let unsettled : ¬ (IsSettled (edges_in c.merge_runs.new.self)) =
     not_settled c.in-Some.is c.in_ok-meetings.ensures.settled in
+    let joined = c.in_ok-is_rounded.ensures.ok in
+    let merged = merged_of_standing g.C.EdgeCount.merges (edges_in c.merge_runs-else-is_rounded.new.self) joined.stands
+    c.in_ok-merge_runs-2.ensures.ok in
     let settled = settled_where_whole (edges_in c.args.self.now) (edges_in c.merge_runs.new.self)
-    (edges_in c.cut_at.new.self) (edges_in c.merge_runs-else-is_rounded.new.self)
+    (edges_in joined.pieces) (edges_in c.merge_runs-else-is_rounded.new.self)
     (forward_content g.I.IntNumber.limit (edges_in c.merge_runs.new.self) c.merge_runs.ensures.content)
     c.in_ok-merge_runs.ensures.ok
-    unsettled (c.in_ok-is_rounded.ensures.rounded.0 c.if-is_rounded.false) c.in_ok-is_rounded.ensures.ok
-    c.in_ok-merge_runs-2.ensures.ok in
+    unsettled (c.in_ok-is_rounded.ensures.rounded.0 c.if-is_rounded.false) joined.edges merged in
     carried_on g.C.EdgeCount.merges g.C.EdgeCount.splits g.C.EdgeCount.reverses Rounds
     (c.args.rounds - 1) c.args.rounds
-    c.args.self.now c.merge_runs.new.self c.cut_at.new.self _ (computed_chain (edges_in c.merge_runs.new.self))
+    c.args.self.now c.merge_runs.new.self joined.pieces _ (computed_chain (edges_in c.merge_runs.new.self))
     (omega arith)
     (cut_in_rounds (edges_in c.args.self.now) (edges_in c.merge_runs.new.self)
     (forward_content g.I.IntNumber.limit (edges_in c.merge_runs.new.self) c.merge_runs.ensures.content)
     c.in_ok-merge_runs.ensures.ok
-    unsettled (edges_in c.cut_at.new.self) c.in_ok-is_rounded.ensures.ok)
-    c.in_ok-merge_runs.ensures.carried c.in_ok-is_rounded.ensures.carried
-    c.merge_runs-else-is_rounded.ensures.before.light
+    unsettled (edges_in joined.pieces) joined.edges)
+    c.in_ok-merge_runs.ensures.carried joined.carried joined.light
     (carried_at_once g.C.EdgeCount.merges g.C.EdgeCount.splits g.C.EdgeCount.reverses (c.args.rounds - 1)
-    c.cut_at.new.self c.merge_runs-else-is_rounded.new.self
-    c.in_ok-merge_runs-2.ensures.ok settled c.in_ok-merge_runs-2.ensures.carried)
+    joined.pieces c.merge_runs-else-is_rounded.new.self merged settled
+    (carries_of_standing g.C.EdgeCount.merges c.merge_runs-else-is_rounded.new.self joined.stands
+    c.in_ok-merge_runs-2.ensures.carried))
 
 -- the store is reached by merging, cutting and the later rounds
 pub returns-in_err-is_rounded-clause-store : goal.returns-in_err-is_rounded-clause-store

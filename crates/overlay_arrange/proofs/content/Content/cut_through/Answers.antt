@@ -1,13 +1,13 @@
 -- The cut edges are the new content, and the old content is returned.
-use Rattle.std.proofs.Common.{sym, subst, ap, ◌∙◌, List, ◌≤◌}
+use Rattle.std.proofs.Common.{sym, subst, ap, List, ◌≤◌}
 use Rattle.std.specs.List.{flat_map}
 use Rattle.std.proofs.lemmas.Result.{err_from_is_err_and}
 use Rattle.overlay_geom.specs.Edges.{CountedEdge, weight}
 use Rattle.overlay_plane.specs.Carried.{edges_in}
 use Rattle.overlay_plane.specs.CutPoints.{cut_points}
 use Rattle.overlay_plane.specs.Cutting.{pieces_through}
-use Rattle.overlay_plane.specs.DerivedData.{AreCutAlong, computed_chain}
 use Rattle.overlay_order.specs.Content.{plain_edges}
+use Rattle.overlay_arrange.specs.Batches.{AreJoinedPieces}
 use Rattle.overlay_arrange.specs.Meetings.{plain_meetings, AreLedAlong}
 use Rattle.overlay_arrange.proofs.LedThrough.{meetings_in_range, meetings_lead_along}
 use Rattle.overlay_arrange.proofs.content.Content.cut_through.Goals as goal
@@ -28,21 +28,9 @@ returns-clause-ok g c =
     (meetings_lead_along g.I.IntNumber.limit (edges_in c.args.self.now) c.edges-2.ensures.content.held
     (plain_meetings g.I.IntNumber.whole c.sort_meetings.new.meetings.items)
     (rw c.edges.ensures.plain at c.sort_meetings.ensures.meetings)) in
-    ap edges_in c.replace-before.ensures.after ∙ c.in_ok-pieces.ensures.ok points leads
-    ∙ ap (flat_map (pieces_through points)) c.edges-2.ensures.plain
-
-pub returns-clause-carried : goal.returns-clause-carried
-returns-clause-carried g c =
-    let points = cut_points (edges_in c.args.self.now) in
-    let leads : AreLedAlong (plain_edges g.I.IntNumber.whole g.C.EdgeCount.counts c.edges-2.result.now)
-    (plain_meetings g.I.IntNumber.whole c.deref.result.now) points =
-    rw (c.deref.ensures.value, c.edges-2.ensures.plain)
-    (meetings_lead_along g.I.IntNumber.limit (edges_in c.args.self.now) c.edges-2.ensures.content.held
-    (plain_meetings g.I.IntNumber.whole c.sort_meetings.new.meetings.items)
-    (rw c.edges.ensures.plain at c.sort_meetings.ensures.meetings)) in
-    subst (AreCutAlong g.C.EdgeCount.splits g.C.EdgeCount.reverses (computed_chain (edges_in c.args.self.now))
-    c.args.self.now) (sym c.replace-before.ensures.after)
-    (rw c.edges-2.ensures.edges at (c.in_ok-pieces.ensures.carried points leads))
+    subst (AreJoinedPieces g.C.EdgeCount.merges g.C.EdgeCount.splits g.C.EdgeCount.reverses points c.args.self.now)
+    (sym c.replace-before.ensures.after)
+    (rw c.edges-2.ensures.edges at (c.in_ok-pieces.ensures.ok points leads))
 
 pub returns-in_err-pieces-clause-too_many : goal.returns-in_err-pieces-clause-too_many
 returns-in_err-pieces-clause-too_many g c = λ same.

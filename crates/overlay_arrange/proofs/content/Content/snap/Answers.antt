@@ -1,7 +1,6 @@
 -- If the merged list is settled no round is taken. Otherwise the edges are led once, and the merged pieces are settled.
 use Rattle.std.proofs.Common.{◌≡◌, ◌↔◌, Option, Some, None, sym, subst, ◌∙◌}
 use Rattle.std.proofs.lemmas.Result.{err_from_is_err_and}
-use Rattle.overlay_geom.specs.Settled.{IsSettled}
 use Rattle.overlay_plane.specs.Carried.{edges_in}
 use Rattle.overlay_order.specs.Content.{IsContent}
 use Rattle.overlay_arrange.proofs.ArrangedLists.{carried_at_once}
@@ -39,7 +38,6 @@ returns-clause-carried g c =
     c.args.self.now c.merge_runs.new.self c.merge_runs.ensures.content c.in_ok-merge_runs.ensures.ok
     (not_settled c.in-Some.is c.in_ok-meetings.ensures.settled) c.lead_once.new.self c.merge_runs-2.new.self
     c.merge_runs.ensures.before c.in_ok-merge_runs.ensures.carried c.in_ok-lead_once.ensures.ok
-    c.merge_runs-2.ensures.before
     c.in_ok-merge_runs-2.ensures.ok
     c.in_ok-merge_runs-2.ensures.carried
 
@@ -49,7 +47,6 @@ returns-clause-split g c =
     c.args.self.now c.merge_runs.new.self c.merge_runs.ensures.content c.in_ok-merge_runs.ensures.ok
     (not_settled c.in-Some.is c.in_ok-meetings.ensures.settled) c.lead_once.new.self c.merge_runs-2.new.self
     c.merge_runs.ensures.before c.in_ok-merge_runs.ensures.carried c.in_ok-lead_once.ensures.ok
-    c.merge_runs-2.ensures.before
     c.in_ok-merge_runs-2.ensures.ok
     c.in_ok-merge_runs-2.ensures.carried).split
 
