@@ -1,11 +1,12 @@
-//! Free functions of `overlay_given`.
+//! Free functions of `overlay_given` and `overlay_contacts`.
 
 use crate::figures::{Width, point};
 use crate::refusals::Trial;
+use overlay_contacts::relations::given_relations;
 use overlay_exact::exact_int::ExactInt;
 use overlay_exact::meetings::find_meetings;
 use overlay_geom::fill_rule::FillRule;
-use overlay_given::relations::interior_relations;
+use overlay_given::relations::{find_contacts, interior_relations};
 use overlay_given::walk::find_sides;
 use overlay_order::count::ShapeCountBoolean;
 use overlay_order::edge::CountedEdge;
@@ -47,7 +48,15 @@ fn check_relations<I: Width + ExactInt>(trial: &Trial<'_, impl Abort>) -> Result
     let sides = trial.refuse_call("overlay_given::find_sides", || {
         find_sides(memory, &edges, &met, FillRule::NonZero)
     })?;
-    assert!(trial.rt; sides.len() == 12);
+    assert!(trial.rt; sides.pieces.len() == 12);
+    let contacts = trial.refuse_call("overlay_given::find_contacts", || {
+        find_contacts(memory, &edges, FillRule::NonZero)
+    })?;
+    assert!(trial.rt; contacts.beside_piece && !contacts.in_points);
+    let told = trial.refuse_call("overlay_contacts::given_relations", || {
+        given_relations(memory, &edges, FillRule::NonZero)
+    })?;
+    assert!(trial.rt; told.intersects && told.interiors_intersect && !told.covers);
     Ok(())
 }
 

@@ -1,3 +1,4 @@
-//! Tests of `overlay_given`: relations of the interiors of contours as given.
+//! Tests of `overlay_given`: relations of contours as given.
 
+mod contacts;
 mod interiors;

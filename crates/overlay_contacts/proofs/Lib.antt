@@ -1,2 +1,3 @@
+pub mod ExactRelations
 pub mod GivenContacts
 pub mod ScaledClosures

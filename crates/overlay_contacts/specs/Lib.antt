@@ -1,1 +1,2 @@
+pub mod ExactRelations
 pub mod GivenContacts

@@ -1,5 +1,5 @@
-//! The mathematics of contacts of shapes as given: how the closures of their interiors meet. Each function here does
-//! nothing when it runs: its contract is a law, which the check proves.
+//! Relations of shapes as given: how the closures of their interiors meet, and all seven relations. Nothing is rounded.
 #![tactic(auto)]
 
 pub mod contacts;
+pub mod relations;

@@ -47,7 +47,7 @@ both_told : {X Y : Type 0} (a b : Bool) → IsTrue a ↔ X → IsTrue b ↔ Y �
 both_told a b of_a of_b = Decides-and a (not b) of_a (Decides-not b of_b)
 
 -- one equivalence after another
-chained : {X Y Z : Type 0} → X ↔ Y → Z ↔ Y → X ↔ Z
+pub chained : {X Y Z : Type 0} → X ↔ Y → Z ↔ Y → X ↔ Z
 chained (to, from) (there, back) = (λ x. back (to x), λ z. from (there z))
 
 -- so they tell the relations

@@ -48,19 +48,20 @@ range_count xs from end up within =
 
 module _ (filled : ℤ → Bool) (es : List CountedEdge) (i : ℕ) (e : CountedEdge) (ms : List Met)
     (given : AreMetIn es i e ms) (balanced : HasBalancedCounts es) where
+  -- the edge's start is its first place
+  pub first_place : (first : ℕ) → IsFirstEnd ms first → IsPlaceWith es e ms 0 first (in_plane e.a)
+  first_place first is = ⊎_elim
+      (λ (group : (m : Met) × IsAt ms 0 m × AreEqual m.part start_part × IsGroup ms 0 first).
+      (tell_places es i e ms given).start.met group.0 first group.1 group.2 group.3)
+      (λ (none : (first ≡ 0) × ((m : Met) → IsAt ms 0 m → ¬ (AreEqual m.part start_part))).
+      subst (λ n. IsPlaceWith es e ms 0 n (in_plane e.a)) (sym none.0)
+      ((tell_places es i e ms given).start.alone none.1)) is
+
   -- the walk begins
   pub walk_starts : (first : ℕ) → IsFirstEnd ms first → (b : Beside) →
       WindsFromStart es e (slice_range ms 0 first) b → Walked filled es e ms first b (filled_beside filled b ∷ [])
-  walk_starts first is b sums = walk_begun filled es i e ms given first b place
-      (winds_from_start es i e ms given balanced first place b sums)
-    where
-      place : IsPlaceWith es e ms 0 first (in_plane e.a)
-      place = ⊎_elim
-          (λ (group : (m : Met) × IsAt ms 0 m × AreEqual m.part start_part × IsGroup ms 0 first).
-          (tell_places es i e ms given).start.met group.0 first group.1 group.2 group.3)
-          (λ (none : (first ≡ 0) × ((m : Met) → IsAt ms 0 m → ¬ (AreEqual m.part start_part))).
-          subst (λ n. IsPlaceWith es e ms 0 n (in_plane e.a)) (sym none.0)
-          ((tell_places es i e ms given).start.alone none.1)) is
+  walk_starts first is b sums = walk_begun filled es i e ms given first b (first_place first is)
+      (winds_from_start es i e ms given balanced first (first_place first is) b sums)
 
 -- one more item is pushed behind those added
 pub pushed_more : {X : Type 0} (before old new added : List X) (x y : X) → old ≡ before ++ added → new ≡ old ++ x ∷ [] →

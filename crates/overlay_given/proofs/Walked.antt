@@ -35,7 +35,7 @@ use Rattle.overlay_given.specs.declared.steps.Stop.TheVariants.{Later}
 use Rattle.overlay_given.proofs.Winds.{winds_past}
 
 -- windings fill the sides that are filled where they are found
-sides_of_windings : (filled : ℤ → Bool) (es : List CountedEdge) (p : PlanePoint) (b : Beside) → WindBeside es p b →
+pub sides_of_windings : (filled : ℤ → Bool) (es : List CountedEdge) (p : PlanePoint) (b : Beside) → WindBeside es p b →
     filled_beside filled b ≡ sides_at filled es p
 sides_of_windings filled es p b winds = λ i. record {
   subj_above = filled (winds.subj_above i);
@@ -71,11 +71,11 @@ HasWalked filled es i ms from b old new = (e : CountedEdge) → IsAt es i e →
 
 module _ (filled : ℤ → Bool) (es : List CountedEdge) (i : ℕ) (e : CountedEdge) (ms : List Met)
     (given : AreMetIn es i e ms) where
-  told : TellPlaces es e ms
+  pub told : TellPlaces es e ms
   told = tell_places es i e ms given
 
   -- a piece leads on from a place before the end
-  next_piece : (j from : ℕ) (l : PlanePoint) → IsPlaceWith es e ms j from l → IsSmaller l (in_plane e.b) →
+  pub next_piece : (j from : ℕ) (l : PlanePoint) → IsPlaceWith es e ms j from l → IsSmaller l (in_plane e.b) →
       (m : PlanePoint) × IsPiece es e l m
   next_piece j from l place short = ⊎_elim
       (λ (more : from < length ms).
@@ -88,7 +88,7 @@ module _ (filled : ℤ → Bool) (es : List CountedEdge) (i : ℕ) (e : CountedE
       (cases_lt from (length ms))
 
   -- the sides beside a piece are those found where the windings beside it are known
-  beside_piece : (l m : PlanePoint) → IsPiece es e l m → (b : Beside) → WindsFrom es e l b →
+  pub beside_piece : (l m : PlanePoint) → IsPiece es e l m → (b : Beside) → WindsFrom es e l b →
       IsSidesOn filled es e (filled_beside filled b)
   beside_piece l m piece b winds =
       let inside = (pieces_follow es given.forward e).some l m piece in (
@@ -115,7 +115,7 @@ module _ (filled : ℤ → Bool) (es : List CountedEdge) (i : ℕ) (e : CountedE
   }
 
   -- so they are told of each piece that begins at the place
-  of_piece : (l : PlanePoint) → IsPlaceOn es e l → (b : Beside) → WindsFrom es e l b → (k n p : PlanePoint) →
+  pub of_piece : (l : PlanePoint) → IsPlaceOn es e l → (b : Beside) → WindsFrom es e l b → (k n p : PlanePoint) →
       IsPiece es e k n → IsWithinPiece e k n p → SamePlace k l → filled_beside filled b ≡ sides_at filled es p
   of_piece l place b winds k n p piece within same = sides_of_windings filled es p b
       (winds n p (moved_piece k l n same place piece) (moved_within k l n p same within))

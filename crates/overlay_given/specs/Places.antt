@@ -1,5 +1,5 @@
 -- The filled sides of the pieces that end at the meeting points of edges.
-use Rattle.std.specs.Prelude.{◌≡◌, ◌⊎◌, ◌||◌, Bool, true, ℕ, ◌+◌, ◌<◌, ◌≤◌, ℤ, List, length}
+use Rattle.std.specs.Prelude.{◌≡◌, ◌⊎◌, ◌||◌, Bool, true, ℕ, ◌+◌, ◌<◌, ◌≤◌, ℤ, List, ◌++◌, length}
 use Rattle.overlay_geom.specs.Edges.{CountedEdge, ends_of}
 use Rattle.overlay_geom.specs.Plane.{PlanePoint, SamePlace, in_plane}
 use Rattle.overlay_plane.specs.Rounds.{IsSmaller}
@@ -39,6 +39,21 @@ pub record AreSidesAt (filled : ℤ → Bool) (es : List CountedEdge) (e : Count
   pub comes_up : IsSmaller (in_plane e.a) place → (l : PlanePoint) × IsPiece es e l place
   pub leads_on : IsSmaller place (in_plane e.b) → (n : PlanePoint) × IsPiece es e place n
 
+-- those at the meeting points of e are added, in their order
+pub record AddsPlaces (filled : ℤ → Bool) (es : List CountedEdge) (e : CountedEdge) (ms : List Met)
+    (old new : List SidesAtPlace) : Type 0 where
+  pub added : List SidesAtPlace
+  pub after : new ≡ old ++ added
+  pub count : length added ≡ length ms
+  pub each : (k : ℕ) (m : Met) (a : SidesAtPlace) → IsAt ms k m → IsAt added k a → AreSidesAt filled es e m a
+
+-- one entry is added `count` times
+pub record AddsTimes (count : ℕ) (a : SidesAtPlace) (old new : List SidesAtPlace) : Type 0 where
+  pub added : List SidesAtPlace
+  pub after : new ≡ old ++ added
+  pub times : length added ≡ count
+  pub each : (k : ℕ) (b : SidesAtPlace) → IsAt added k b → b ≡ a
+
 -- ---- all edges
 
 -- the entries are those at the meeting points of the first n edges, which stand between the starts
@@ -65,6 +80,13 @@ pub record IsMetOn (starts : List ℕ) (ms : List Met) (places : List SidesAtPla
   pub before : k < end
   pub met : IsAt ms k m
   pub sides : IsAt places k a
+
+-- the starts, meeting points and entries fit each other
+pub record AreRangesBy (starts : List ℕ) (ms : List Met) (places : List SidesAtPlace) : Type 0 where
+  pub others : (i k : ℕ) (m : Met) (a : SidesAtPlace) → IsMetOn starts ms places i k m a →
+      (m.other + 1) < length starts
+  pub count : length places ≡ length ms
+  pub within : (i t : ℕ) → IsAt starts (i + 1) t → t ≤ length ms
 
 -- at each meeting point of the edges at places j and i, a piece of the first ends that borders the clip alone
 abbrev pub AllBorderClip : List ℕ → List Met → List SidesAtPlace → ℕ → ℕ → Type 0

@@ -2,8 +2,12 @@
 use Rattle.std.specs.Prelude.{◌≡◌, ◌↔◌, Bool, not, ◌&&◌, ℤ, List, IsTrue}
 use Rattle.std.specs.List.{list_any}
 use Rattle.overlay_geom.specs.Edges.{CountedEdge}
+use Rattle.overlay_geom.specs.Merged.{IsMerged}
 use Rattle.overlay_plane.specs.Predicates.{InteriorsIntersect, IsWithin, Covers}
+use Rattle.overlay_scaled.specs.PlainContacts.{passes_at, fill_both, fill_one, HasSharedPlace}
+use Rattle.overlay_scaled.specs.PlainPoints.{SomePlain}
 use Rattle.overlay_given.specs.Sides.{sides_pass}
+use Rattle.overlay_given.specs.declared.relations.Contacts.{Contacts}
 use Rattle.overlay_given.specs.declared.relations.Found.{Found}
 use Rattle.overlay_given.specs.declared.relations.InteriorRelations.{InteriorRelations}
 use Rattle.overlay_given.specs.declared.sides.FilledSides.{FilledSides}
@@ -31,3 +35,13 @@ pub record AreInteriorRelations (filled : ℤ → Bool) (content : List CountedE
   pub interiors_intersect : IsTrue r.interiors_intersect ↔ InteriorsIntersect filled content
   pub within : IsTrue r.within ↔ IsWithin filled content
   pub covers : IsTrue r.covers ↔ Covers filled content
+
+-- ---- contacts
+
+-- the pieces of the edges tell how the shapes meet, and the relations of the interiors of a content that merges to them
+pub record AreContacts (filled : ℤ → Bool) (es : List CountedEdge) (c : Contacts) : Type 0 where
+  pub interiors : (content : List CountedEdge) → IsMerged content es → AreInteriorRelations filled content c.interiors
+  pub common_side : IsTrue c.interiors.interiors_intersect ↔ SomePlain (passes_at fill_one filled es) es
+  pub beside_piece : IsTrue c.beside_piece ↔ SomePlain (passes_at fill_both filled es) es
+  pub in_points : IsTrue c.in_points ↔
+      (HasSharedPlace filled es × (¬ (SomePlain (passes_at fill_both filled es) es)))

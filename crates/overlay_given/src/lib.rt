@@ -5,6 +5,7 @@
 pub mod beside;
 pub mod laws;
 pub mod relations;
+mod shared;
 pub mod sides;
 mod start;
 mod steps;

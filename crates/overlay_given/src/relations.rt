@@ -5,8 +5,9 @@ ghost use Rattle.overlay_geom.specs.Merged.{IsMerged};
 ghost use Rattle.overlay_geom.specs.Rules.{is_filled};
 ghost use Rattle.overlay_plane.specs.Balance.{HasBalancedCounts};
 ghost use Rattle.overlay_order.specs.Content.{plain_edges, IsHeld, IsAscending};
-ghost use Rattle.overlay_given.specs.Relations.{AreInteriorRelations, IsFoundOf, relations_by};
+ghost use Rattle.overlay_given.specs.Relations.{AreContacts, AreInteriorRelations, IsFoundOf, relations_by};
 
+use crate::shared::has_shared_place;
 use crate::sides::{FilledSides, SideTest, some_pass};
 use crate::walk::find_sides;
 use overlay_exact::exact_int::ExactInt;
@@ -43,8 +44,50 @@ pub fn interior_relations<I: ExactInt, C: EdgeCount, A: Allocator + Clone>(
 {
     let found = find_meetings(alloc.clone()?, edges)?;
     let sides = find_sides(alloc, edges, &found, rule)?;
-    let told = found_in(&sides);
+    let told = found_in(&sides.pieces);
     Ok(told.relations())
+}
+
+/// How a subject and a clip meet, told by the pieces of their merged edges.
+#[derive(Debug, Clone, Copy, PartialEq, Eq)]
+pub struct Contacts {
+    /// The relations of the interiors.
+    pub interiors: InteriorRelations,
+    /// Both shapes fill a side of some piece.
+    pub beside_piece: bool,
+    /// No piece is so, but at some place a border of the subject alone ends, and a border of the clip alone.
+    pub in_points: bool,
+}
+
+/// Returns how subject and clip meet, told by their merged edges with balanced counts. Nothing is rounded. The error is
+/// that memory is refused.
+pub fn find_contacts<I: ExactInt, C: EdgeCount, A: Allocator + Clone>(
+    alloc: A,
+    edges: &[CountedEdge<I, C>],
+    rule: FillRule,
+) -> Result<Contacts, AllocError>
+    requires held { All (IsHeld I.limit) (plain_edges I.whole C.counts edges.now) }
+    requires ascending { IsAscending (plain_edges I.whole C.counts edges.now) }
+    requires balanced { HasBalancedCounts (plain_edges I.whole C.counts edges.now) }
+    ensures ok { IfOk result (AreContacts (is_filled rule) (plain_edges I.whole C.counts edges.now)) }
+{
+    let found = find_meetings(alloc.clone()?, edges)?;
+    let sides = find_sides(alloc, edges, &found, rule)?;
+    let told = found_in(&sides.pieces);
+    let interiors = told.relations();
+    if some_pass(&sides.pieces, SideTest::BothShapes) {
+        return Ok(Contacts {
+            interiors,
+            beside_piece: true,
+            in_points: false,
+        });
+    }
+    let in_points = has_shared_place(&found.starts, &found.met, &sides.places);
+    Ok(Contacts {
+        interiors,
+        beside_piece: false,
+        in_points,
+    })
 }
 
 // What is found of the filled sides of all pieces.

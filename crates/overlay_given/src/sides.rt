@@ -1,6 +1,6 @@
 //! Filled sides of pieces of edges, and tests of them.
 
-ghost use Rattle.std.specs.Prelude.{◌≡◌};
+ghost use Rattle.std.specs.Prelude.{◌≡◌, ◌||◌};
 ghost use Rattle.std.specs.List.{list_any};
 ghost use Rattle.overlay_given.specs.Sides.{sides_pass};
 
@@ -25,6 +25,15 @@ pub struct SidesAtPlace {
     pub before: FilledSides,
     /// Those of the piece after it.
     pub after: FilledSides,
+}
+
+impl SidesAtPlace {
+    /// Returns whether one of the pieces passes the test.
+    pub fn pass(self, test: SideTest) -> bool
+        ensures { result ≡ (sides_pass test self.before || sides_pass test self.after) }
+    {
+        test.passes(self.before) || test.passes(self.after)
+    }
 }
 
 /// A test of the filled sides of a piece.

@@ -11,10 +11,11 @@ ghost use Rattle.overlay_exact.specs.AllMet.{AreMetByStarts, AreMetOf};
 ghost use Rattle.overlay_exact.specs.Along.{plain_mets};
 ghost use Rattle.overlay_exact.specs.Groups.{AreInOrderAlongOne};
 ghost use Rattle.overlay_given.specs.Beside.{IsNear};
+ghost use Rattle.overlay_given.specs.Places.{AddsTimes, AddsPlaces, ArePlacesBy};
 ghost use Rattle.overlay_given.specs.Walk.{AddsSides, AreSidesOf, IsFirstEnd, WindsAtStart, WindsFromStart};
 
 use crate::beside::Beside;
-use crate::sides::FilledSides;
+use crate::sides::{FilledSides, SidesAtPlace};
 use crate::start::windings_at_start;
 use crate::steps::{Stop, sum_met};
 use overlay_exact::exact_int::ExactInt;
@@ -27,33 +28,45 @@ use overlay_order::count::EdgeCount;
 use overlay_order::edge::CountedEdge;
 use std::alloc::{AllocError, Allocator};
 
-/// Returns the sides that the shapes fill beside the pieces of the edges: those of the first edge in their order along
-/// it, then those of the next, and so on. `found` holds the meeting points of the edges.
-pub fn find_sides<I: ExactInt, C: EdgeCount, A: Allocator>(
+/// The filled sides of all pieces of a list of edges.
+#[derive(Drop)]
+pub struct PieceSides<A: Allocator> {
+    /// Those of the pieces of the first edge, then of the next, and so on; of one edge in their order along it.
+    pub pieces: Vec<FilledSides, A>,
+    /// For each meeting point of an edge, in the order of these, those of the pieces that end there.
+    pub places: Vec<SidesAtPlace, A>,
+}
+
+/// Returns the sides that the shapes fill beside the pieces of the edges. `found` holds the edges' meeting points.
+pub fn find_sides<I: ExactInt, C: EdgeCount, A: Allocator + Clone>(
     alloc: A,
     edges: &[CountedEdge<I, C>],
     found: &Meetings<I::Wide, A>,
     rule: FillRule,
-) -> Result<Vec<FilledSides, A>, AllocError>
+) -> Result<PieceSides<A>, AllocError>
     requires held { All (IsHeld I.limit) (plain_edges I.whole C.counts edges.now) }
     requires ascending { IsAscending (plain_edges I.whole C.counts edges.now) }
     requires balanced { HasBalancedCounts (plain_edges I.whole C.counts edges.now) }
     requires found { AreMetByStarts (plain_edges I.whole C.counts edges.now) (length edges.now)
         found.now.starts.items (plain_mets I.Wide.whole found.now.met.items) }
-    ensures ok { IfOk result (λ v.
-        AreSidesOf (is_filled rule) (plain_edges I.whole C.counts edges.now) (length edges.now) v.items) }
+    ensures pieces { IfOk result (λ v.
+        AreSidesOf (is_filled rule) (plain_edges I.whole C.counts edges.now) (length edges.now) v.pieces.items) }
+    ensures places { IfOk result (λ v. ArePlacesBy (is_filled rule) (plain_edges I.whole C.counts edges.now)
+        (length edges.now) found.now.starts.items (plain_mets I.Wide.whole found.now.met.items) v.places.items) }
 {
-    let mut sides = Vec::new(alloc);
+    let mut pieces = Vec::new(alloc.clone()?);
+    let mut places = Vec::new(alloc);
     for i in 0..edges.len() {
         let met = &found.met[found.starts[i]..found.starts[i + 1]];
-        push_sides(&mut sides, edges, i, met, rule)?;
+        push_sides(&mut pieces, &mut places, edges, i, met, rule)?;
     }
-    Ok(sides)
+    Ok(PieceSides { pieces, places })
 }
 
-// Adds the filled sides of the pieces of the edge at place i, in their order along it.
+// Adds the filled sides of the pieces of the edge at place i, in their order along it, and those at its meeting points.
 fn push_sides<I: ExactInt, C: EdgeCount, A: Allocator>(
-    sides: &mut Vec<FilledSides, A>,
+    pieces: &mut Vec<FilledSides, A>,
+    places: &mut Vec<SidesAtPlace, A>,
     edges: &[CountedEdge<I, C>],
     i: usize,
     met: &[MetAlong<I::Wide>],
@@ -65,17 +78,45 @@ fn push_sides<I: ExactInt, C: EdgeCount, A: Allocator>(
     requires within { i < length edges.now }
     requires met { (e : _) → IsAt (plain_edges I.whole C.counts edges.now) i e
         → AreMetOf (plain_edges I.whole C.counts edges.now) i e (plain_mets I.Wide.whole met.now) }
-    ensures ok { OnOk result ((e : _) → IsAt (plain_edges I.whole C.counts edges.now) i e
-        → AddsSides (is_filled rule) (plain_edges I.whole C.counts edges.now) e sides.old.items sides.new.items) }
+    ensures pieces { OnOk result ((e : _) → IsAt (plain_edges I.whole C.counts edges.now) i e
+        → AddsSides (is_filled rule) (plain_edges I.whole C.counts edges.now) e pieces.old.items pieces.new.items) }
+    ensures places { OnOk result ((e : _) → IsAt (plain_edges I.whole C.counts edges.now) i e
+        → AddsPlaces (is_filled rule) (plain_edges I.whole C.counts edges.now) e (plain_mets I.Wide.whole met.now)
+        places.old.items places.new.items) }
 {
     let mut from = first_end::<I>(met);
     let mut beside = beside_first_piece(edges, &edges[i], &met[..from]);
-    sides.push(beside.filled(rule))?;
+    let first = beside.filled(rule);
+    pieces.push(first)?;
+    push_places(places, from, first, first)?;
     while from < met.len() && !met[from].part.is_end() {
         let end = group_end::<I>(met, from);
+        let before = beside.filled(rule);
         beside = beside.plus(sum_met(Stop::Later, edges, &edges[i], &met[from..end]));
-        sides.push(beside.filled(rule))?;
+        let after = beside.filled(rule);
+        pieces.push(after)?;
+        push_places(places, end - from, before, after)?;
         from = end;
+    }
+    let last = beside.filled(rule);
+    push_places(places, met.len() - from, last, last)?;
+    Ok(())
+}
+
+// Adds the sides at one place for each of its `count` meeting points.
+fn push_places<A: Allocator>(
+    places: &mut Vec<SidesAtPlace, A>,
+    count: usize,
+    before: FilledSides,
+    after: FilledSides,
+) -> Result<(), AllocError>
+    ensures { OnOk result (AddsTimes count (record { before = before; after = after }) places.old.items
+        places.new.items) }
+{
+    let mut n = 0;
+    while n < count {
+        places.push(SidesAtPlace { before, after })?;
+        n += 1;
     }
     Ok(())
 }

@@ -19,6 +19,7 @@ returns g c =
           (interiors_told filled content es (zero_is_empty c.args.rule)
           (forward_of_held g.I.IntNumber.limit es c.requires.held) c.requires.balanced merged c.deref.result.now
           (subst (λ xs. AreSidesOf filled es (length es) xs) (sym c.deref.ensures.value)
-          (subst (λ n. AreSidesOf filled es n c.in_ok-sides.sides.items) (sym (length-map c.args.edges.now plain))
-          c.in_ok-sides.ensures.ok)) c.found_in-told.result c.found_in-told.ensures);
+          (subst (λ n. AreSidesOf filled es n c.in_ok-sides.sides.pieces.items)
+          (sym (length-map c.args.edges.now plain)) c.in_ok-sides.ensures.pieces)) c.found_in-told.result
+          c.found_in-told.ensures);
     }

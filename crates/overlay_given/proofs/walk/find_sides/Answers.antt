@@ -4,10 +4,12 @@ use Rattle.std.proofs.lemmas.List.{length-map}
 use Rattle.overlay_geom.specs.Rules.{is_filled}
 use Rattle.overlay_geom.proofs.Mapped.{mapped_range}
 use Rattle.overlay_order.specs.Content.{plain_edge, plain_edges}
-use Rattle.overlay_exact.specs.AllMet.{AreMetOf}
+use Rattle.overlay_exact.specs.AllMet.{AreMetOf, AreMetByStarts}
 use Rattle.overlay_exact.specs.Along.{plain_met, plain_mets}
 use Rattle.overlay_exact.proofs.MetByStarts.{entry_at}
+use Rattle.overlay_given.specs.Places.{AddsPlaces, ArePlacesBy}
 use Rattle.overlay_given.specs.Walk.{AreSidesOf}
+use Rattle.overlay_given.proofs.PlacesBy.{places_none, places_by_more}
 use Rattle.overlay_given.proofs.MoreSides.{sides_none, sides_more}
 use Rattle.overlay_given.proofs.WalkSteps.{at_start, at_next, starts_rise, start_within}
 use Rattle.overlay_given.proofs.walk.find_sides.Goals as goal
@@ -15,8 +17,16 @@ use Rattle.overlay_given.proofs.walk.find_sides.Goals as goal
 pub loop-i-init : goal.loop-i-init
 loop-i-init g c =
     let es = plain_edges g.I.IntNumber.whole g.C.EdgeCount.counts c.args.edges.now in
-    subst (AreSidesOf (is_filled c.args.rule) es 0) (sym c.new-sides.ensures.items)
-    (sides_none (is_filled c.args.rule) es)
+    let starts = c.args.found.now.starts.items in
+    let ms = plain_mets g.I.Wide.WideIntNumber.whole c.args.found.now.met.items in
+    let l = length-map c.args.edges.now (plain_edge g.I.IntNumber.whole g.C.EdgeCount.counts) in
+    record {
+      pieces = subst (AreSidesOf (is_filled c.args.rule) es 0) (sym c.new-pieces.ensures.items)
+          (sides_none (is_filled c.args.rule) es);
+      places = subst (ArePlacesBy (is_filled c.args.rule) es 0 starts ms) (sym c.new-places.ensures.items)
+          (places_none (is_filled c.args.rule) es starts ms
+          (subst (λ n. AreMetByStarts es n starts ms) (sym l) c.requires.found));
+    }
 
 pub index-requires : goal.index-requires
 index-requires g c =
@@ -61,17 +71,44 @@ loop-i-preserved g c =
     let l = length-map c.args.edges.now plain in
     let less = c.loop-i-test.true in
     let at = entry_at es c.loop-i.i (omega (arith, l, less)) in
-    sides_more (is_filled c.args.rule) es c.loop-i.i c.loop-i.sides.items c.push_sides.new.sides.items
-    c.loop-i.invariant at.0 at.1 (c.in_ok-push_sides.ensures.ok at.0 at.1)
+    let met = plain_met g.I.Wide.WideIntNumber.whole in
+    let items = c.args.found.now.met.items in
+    let starts = c.args.found.now.starts.items in
+    let n = length c.args.edges.now in
+    let s = c.index.result.now in
+    let t = c.index-in-loop-i.result.now in
+    let i = c.loop-i.i in
+    let filled = is_filled c.args.rule in
+    record {
+      pieces = sides_more filled es i c.loop-i.pieces.items c.push_sides.new.pieces.items c.loop-i.invariant.pieces at.0
+          at.1 (c.in_ok-push_sides.ensures.pieces at.0 at.1);
+      places = places_by_more filled es starts (map met items)
+          (subst (λ n. AreMetByStarts es n starts (map met items)) (sym l) c.requires.found) i s t at.0
+          c.loop-i.places.items c.push_sides.new.places.items c.loop-i.invariant.places at.1
+          (at_start es n starts (map met items) c.requires.found i less s t c.index.ensures c.index-in-loop-i.ensures)
+          (at_next es n starts (map met items) c.requires.found i less s t c.index.ensures c.index-in-loop-i.ensures)
+          (starts_rise es n starts (map met items) c.requires.found i less s t c.index.ensures
+          c.index-in-loop-i.ensures)
+          (start_within es n starts (map met items) c.requires.found i less s t c.index.ensures
+          c.index-in-loop-i.ensures)
+          (subst (λ xs. AddsPlaces filled es at.0 xs c.loop-i.places.items c.push_sides.new.places.items)
+          (mapped_range met items s t)
+          (subst (λ xs. AddsPlaces filled es at.0 (map met (slice_range xs s t)) c.loop-i.places.items
+          c.push_sides.new.places.items) c.deref.ensures.value (c.in_ok-push_sides.ensures.places at.0 at.1)));
+    }
 
 pub returns : goal.returns
 returns g c =
+    let es = plain_edges g.I.IntNumber.whole g.C.EdgeCount.counts c.args.edges.now in
     let ended = c.loop-i-test.false in
     let within = c.loop-i.auto.i-end in
+    let same : c.loop-i.i ≡ length c.args.edges.now = omega (arith, ended, within) in
     record {
-      ok = subst (λ n. AreSidesOf (is_filled c.args.rule)
-          (plain_edges g.I.IntNumber.whole g.C.EdgeCount.counts c.args.edges.now) n c.loop-i.sides.items)
-          (omega (arith, ended, within)) c.loop-i.invariant;
+      pieces = subst (λ n. AreSidesOf (is_filled c.args.rule) es n c.loop-i.pieces.items) same
+          c.loop-i.invariant.pieces;
+      places = subst (λ n. ArePlacesBy (is_filled c.args.rule) es n c.args.found.now.starts.items
+          (plain_mets g.I.Wide.WideIntNumber.whole c.args.found.now.met.items) c.loop-i.places.items) same
+          c.loop-i.invariant.places;
     }
 
 pub offset_bounds-deref-index : goal.offset_bounds-deref-index

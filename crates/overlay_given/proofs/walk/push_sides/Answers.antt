@@ -1,5 +1,5 @@
 -- The walk begins at the edge's start, goes on from group to group, and ends where no piece is left.
-use Rattle.std.proofs.Common.{◌≡◌, inl, inr, ◌+◌, ◌-◌, ◌*◌, ◌<◌, ◌≤◌, true, false, [], ◌∷◌, ◌++◌, length, take}
+use Rattle.std.proofs.Common.{◌≡◌, ◌⊎◌, inl, inr, ◌+◌, ◌-◌, ◌*◌, ◌<◌, ◌≤◌, true, false, [], ◌∷◌, ◌++◌, length, take}
 use Rattle.std.proofs.Common.{slice_range, map, sym, ap}
 use Rattle.std.proofs.Common.{subst, ◌∙◌, arith}
 use Rattle.std.proofs.lemmas.Bool.{false≢true}
@@ -9,21 +9,25 @@ use Rattle.overlay_geom.specs.Edges.{ends_of}
 use Rattle.overlay_geom.specs.Rules.{is_filled}
 use Rattle.overlay_geom.proofs.Mapped.{All-mapped_at, All-mapped_first, All-mapped_range, mapped_range}
 use Rattle.overlay_order.specs.Content.{plain_edge, plain_edges, IsHeld}
+use Rattle.overlay_pairs.specs.Places.{IsAt}
 use Rattle.overlay_pairs.proofs.Entries.{one_entry, placed_in_mapped}
-use Rattle.overlay_exact.specs.Along.{plain_met, plain_mets}
+use Rattle.overlay_exact.specs.Along.{Met, plain_met, plain_mets}
 use Rattle.overlay_exact.specs.Parts.{end_part, AreEqual}
 use Rattle.overlay_exact.specs.PlacesAlong.{AreMetIn}
 use Rattle.overlay_exact.proofs.MetByStarts.{entry_at}
 use Rattle.overlay_given.specs.Beside.{IsNear, filled_beside}
 use Rattle.overlay_given.specs.Laws.{IsSum}
+use Rattle.overlay_given.specs.Places.{AddsTimes}
 use Rattle.overlay_given.specs.Steps.{Rises}
 use Rattle.overlay_given.specs.Walk.{WindsFromStart}
 use Rattle.overlay_given.specs.declared.steps.Stop.TheVariants.{Later}
+use Rattle.overlay_given.proofs.PlacesWalked.{places_first, places_more, places_added, sides_at_group, sides_at_rest}
 use Rattle.overlay_given.proofs.Sums.{near_sum, near_wider}
 use Rattle.overlay_given.proofs.ToldRelations.{forward_of_held}
 use Rattle.overlay_given.proofs.Walked.{walk_on, sides_added}
 use Rattle.overlay_given.proofs.WalkSteps.{first_within, others_of, range_count, walk_starts, pushed_more}
 use Rattle.overlay_given.proofs.walk.push_sides.Goals as goal
+use Rattle.overlay_given.proofs.walk.push_sides.Goals.{then-loop-from-test+else-not-is_end, else-loop-from-test}
 
 pub first_end-from-requires : goal.first_end-from-requires
 first_end-from-requires g c =
@@ -121,13 +125,29 @@ loop-from-init g c =
           let is : plain c.index-edges-i.result ≡ e =
           one_entry es c.args.i (plain c.index-edges-i.result) e here at in (
             filled_beside filled b ∷ [],
-            c.in_ok-push.ensures.items ∙ ap (λ x. c.args.sides.now.items ++ x ∷ []) c.filled.ensures,
+            c.in_ok-push.ensures.items ∙ ap (λ x. c.args.pieces.now.items ++ x ∷ []) c.filled-first.ensures,
             walk_starts filled es c.args.i e ms given c.requires.balanced first c.first_end-from.ensures b
                 (subst (λ fs. WindsFromStart es e fs b) (mapped_range met c.args.met.now 0 first)
                 (subst (λ n. WindsFromStart es e (map met (take n c.args.met.now)) b) whole
                 (subst (λ f. WindsFromStart es f (map met (take first c.args.met.now)) b) is
                 c.beside_first_piece-beside.ensures.sums))),
           );
+      places = λ e at.
+          let given : AreMetIn es c.args.i e ms = record {
+            ascending = c.requires.ascending;
+            forward = forward_of_held limit es c.requires.held;
+            entry = at;
+            met = c.requires.met e at;
+          } in
+          let is : plain c.index-edges-i.result ≡ e =
+          one_entry es c.args.i (plain c.index-edges-i.result) e here at in
+          places_first filled es c.args.i e ms given c.requires.balanced first c.first_end-from.ensures b
+          (subst (λ fs. WindsFromStart es e fs b) (mapped_range met c.args.met.now 0 first)
+          (subst (λ n. WindsFromStart es e (map met (take n c.args.met.now)) b) whole
+          (subst (λ f. WindsFromStart es f (map met (take first c.args.met.now)) b) is
+          c.beside_first_piece-beside.ensures.sums))) c.args.places.now.items c.push_places.new.places.items
+          (subst (λ s. AddsTimes first (record { before = s; after = s }) c.args.places.now.items
+          c.push_places.new.places.items) c.filled-first.ensures c.in_ok-push_places.ensures);
     }
 
 pub loop-from-preserved : goal.loop-from-preserved
@@ -175,9 +195,9 @@ loop-from-preserved g c =
           let is : plain c.index-edges-i-in-loop-from.result ≡ e =
           one_entry es c.args.i (plain c.index-edges-i-in-loop-from.result) e here at in (
             walked.0 ++ filled_beside filled new ∷ [],
-            pushed_more c.args.sides.now.items c.loop-from.sides.items c.push-in-loop-from.new.self.items walked.0
-                c.filled-in-loop-from.result (filled_beside filled new) walked.1 c.in_ok-push-2.ensures.items
-                c.filled-in-loop-from.ensures,
+            pushed_more c.args.pieces.now.items c.loop-from.pieces.items c.push-in-loop-from.new.self.items walked.0
+                c.filled-after.result (filled_beside filled new) walked.1 c.in_ok-push-2.ensures.items
+                c.filled-after.ensures,
             walk_on filled es c.args.i e ms given from old walked.0 walked.2 end c.group_end-end.ensures
                 (met c.index-met-from.result)
                 (placed_in_mapped met c.args.met.now from c.index-met-from.result c.loop-from-test.true
@@ -189,17 +209,61 @@ loop-from-preserved g c =
                 (subst (λ f. Rises Later es f (map met (slice_range c.args.met.now from end)) c.sum_met.result) is
                 c.sum_met.ensures.sums)) c.requires.balanced sums,
           );
+      places = λ e at.
+          let walked = c.loop-from.invariant.walked e at in
+          let so_far = c.loop-from.invariant.places e at in
+          let given : AreMetIn es c.args.i e ms = record {
+            ascending = c.requires.ascending;
+            forward = forward_of_held limit es c.requires.held;
+            entry = at;
+            met = c.requires.met e at;
+          } in
+          let is : plain c.index-edges-i-in-loop-from.result ≡ e =
+          one_entry es c.args.i (plain c.index-edges-i-in-loop-from.result) e here at in
+          places_more filled es e ms from end
+          (record { before = filled_beside filled old; after = filled_beside filled new })
+          c.args.places.now.items c.loop-from.places.items c.push_places-in-loop-from.new.places.items so_far.0
+          (omega (arith, some)) so_far.1 so_far.2
+          (sides_at_group filled es c.args.i e ms given from old walked.0 walked.2 end c.group_end-end.ensures
+          (met c.index-met-from.result)
+          (placed_in_mapped met c.args.met.now from c.index-met-from.result c.loop-from-test.true c.index-met-from.is)
+          (λ equal. false≢true (sym no_end ∙ c.is_end.ensures.1
+          (subst (λ x. AreEqual (met x).part end_part) c.index-met-from.is equal)))
+          c.sum_met.result new
+          (subst (λ fs. Rises Later es e fs c.sum_met.result) (mapped_range met c.args.met.now from end)
+          (subst (λ f. Rises Later es f (map met (slice_range c.args.met.now from end)) c.sum_met.result) is
+          c.sum_met.ensures.sums)) c.requires.balanced sums)
+          (subst (λ s. AddsTimes (end - from) (record { before = filled_beside filled old; after = s })
+          c.loop-from.places.items c.push_places-in-loop-from.new.places.items) c.filled-after.ensures
+          (subst (λ s. AddsTimes (end - from) (record { before = s; after = c.filled-after.result })
+          c.loop-from.places.items c.push_places-in-loop-from.new.places.items) c.filled-before.ensures
+          c.in_ok-push_places-2.ensures));
     }
 
-pub returns-else-not-is_end : goal.returns-else-not-is_end
-returns-else-not-is_end g c =
+pub returns : goal.returns
+returns g c =
     let limit = g.I.IntNumber.limit in
     let met = plain_met g.I.Wide.WideIntNumber.whole in
     let es = plain_edges g.I.IntNumber.whole g.C.EdgeCount.counts c.args.edges.now in
     let ms = plain_mets g.I.Wide.WideIntNumber.whole c.args.met.now in
-    let test = c.if-not-is_end.false in
+    let from = c.loop-from.from in
+    let b = c.loop-from.beside in
+    let filled = is_filled c.args.rule in
+    let l = length-map c.args.met.now met in
+    let ended : (length ms ≤ from) ⊎ ((m : Met) × IsAt ms from m × AreEqual m.part end_part) =
+    elim c.loop-from-test.branch [
+      | then-loop-from-test+else-not-is_end w ↦
+          let test = w.if-not-is_end.false in
+          inr (
+            met w.index-met-from.result,
+            placed_in_mapped met c.args.met.now from w.index-met-from.result w.loop-from-test.true w.index-met-from.is,
+            subst (λ x. AreEqual (met x).part end_part) (sym w.index-met-from.is)
+                (w.is_end.ensures.0 (let at_end : w.is_end.result ≡ true = grind (arith, test) in at_end)),
+          )
+      | else-loop-from-test w ↦ inl (let all = w.loop-from-test.false in omega (arith, l, all))
+    ] in
     record {
-      ok = λ e at.
+      pieces = λ e at.
           let walked = c.loop-from.invariant.walked e at in
           let given : AreMetIn es c.args.i e ms = record {
             ascending = c.requires.ascending;
@@ -207,32 +271,27 @@ returns-else-not-is_end g c =
             entry = at;
             met = c.requires.met e at;
           } in
-          sides_added (is_filled c.args.rule) es c.args.i e ms given c.loop-from.from c.loop-from.beside walked.0
-          walked.2 c.args.sides.now.items c.loop-from.sides.items walked.1 (inr (
-            met c.index-met-from.result,
-            placed_in_mapped met c.args.met.now c.loop-from.from c.index-met-from.result c.loop-from-test.true
-                c.index-met-from.is,
-            subst (λ x. AreEqual (met x).part end_part) (sym c.index-met-from.is)
-                (c.is_end.ensures.0 (let at_end : c.is_end.result ≡ true = grind (arith, test) in at_end)),
-          ));
-    }
-
-pub returns-after-loop-from : goal.returns-after-loop-from
-returns-after-loop-from g c =
-    let limit = g.I.IntNumber.limit in
-    let es = plain_edges g.I.IntNumber.whole g.C.EdgeCount.counts c.args.edges.now in
-    let ms = plain_mets g.I.Wide.WideIntNumber.whole c.args.met.now in
-    let l = length-map c.args.met.now (plain_met g.I.Wide.WideIntNumber.whole) in
-    let all = c.loop-from-test.false in
-    record {
-      ok = λ e at.
+          sides_added filled es c.args.i e ms given from b walked.0 walked.2 c.args.pieces.now.items
+          c.loop-from.pieces.items walked.1 ended;
+      places = λ e at.
           let walked = c.loop-from.invariant.walked e at in
+          let so_far = c.loop-from.invariant.places e at in
           let given : AreMetIn es c.args.i e ms = record {
             ascending = c.requires.ascending;
             forward = forward_of_held limit es c.requires.held;
             entry = at;
             met = c.requires.met e at;
           } in
-          sides_added (is_filled c.args.rule) es c.args.i e ms given c.loop-from.from c.loop-from.beside walked.0
-          walked.2 c.args.sides.now.items c.loop-from.sides.items walked.1 (inl (omega (arith, l, all)));
+          let within = c.loop-from.invariant.within in
+          places_added filled es e ms c.args.places.now.items c.push_places-2.new.places.items
+          (places_more filled es e ms from (length ms)
+          (record { before = filled_beside filled b; after = filled_beside filled b })
+          c.args.places.now.items c.loop-from.places.items c.push_places-2.new.places.items so_far.0
+          (omega (arith, l, within)) so_far.1 so_far.2
+          (sides_at_rest filled es c.args.i e ms given from b walked.0 walked.2 ended)
+          (subst (λ n. AddsTimes (n - from) (record { before = filled_beside filled b; after = filled_beside filled b })
+          c.loop-from.places.items c.push_places-2.new.places.items) (sym l)
+          (subst (λ s. AddsTimes (length c.args.met.now - from) (record { before = s; after = s })
+          c.loop-from.places.items c.push_places-2.new.places.items) c.filled-last.ensures
+          c.in_ok-push_places-3.ensures)));
     }

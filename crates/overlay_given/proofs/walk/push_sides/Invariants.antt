@@ -4,6 +4,7 @@ use Rattle.overlay_geom.specs.Rules.{is_filled}
 use Rattle.overlay_order.specs.Content.{plain_edges}
 use Rattle.overlay_exact.specs.Along.{plain_mets}
 use Rattle.overlay_given.specs.Beside.{IsNear}
+use Rattle.overlay_given.proofs.PlacesWalked.{HasPlaces}
 use Rattle.overlay_given.proofs.Walked.{HasWalked}
 use Rattle.overlay_given.proofs.walk.push_sides.Given as goal
 
@@ -13,7 +14,8 @@ invariant-loop-from g l =
     let ms = plain_mets g.I.Wide.WideIntNumber.whole l.met in record {
       within : l.from ≤ length l.met;
       near : IsNear (158456325028528675187087900672 + l.from * 4294967296) l.beside;
-      walked : HasWalked (is_filled l.rule) es l.i ms l.from l.beside l.fn.sides.items l.sides.items;
+      walked : HasWalked (is_filled l.rule) es l.i ms l.from l.beside l.fn.pieces.items l.pieces.items;
+      places : HasPlaces (is_filled l.rule) es l.i ms l.from l.fn.places.items l.places.items;
     }
 
 abbrev pub decreases-loop-from : goal.decreases-loop-from
