@@ -75,9 +75,6 @@ its first line.
 
 [DEFINITIONS](DEFINITIONS.md) has the words: balanced, settled, planar, snap, orbit, anchor, filled side and others. A
 *ruled* list is planar and balanced, with a rule on the two windings that does not hold of (0, 0).
-
-Lemmas of `overlay_geom/proofs` are no laws, as those on the nearest whole number (`Rounded`) and on merging, which
-changes no winding, does not raise the weight, and has one answer (`MergedWindings`, `Weights`, `MergedOnce`).
 """
 ONLY = """
 ## Each answer is the only one

@@ -1,0 +1,5 @@
+pub mod Beginnings
+pub mod ExactBuilders
+pub mod ExactPaths
+pub mod OneExact
+pub mod ToldPaths

@@ -1,0 +1,4 @@
+pub mod Determined
+pub mod ExactBuilder
+pub mod ExactPaths
+pub mod ExactQueries
