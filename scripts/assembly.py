@@ -28,9 +28,9 @@ PROVED, UNPROVED = "of the proved module", "of an unproved module"
 TOLD = "\n@polyover_is_proved = constant i8 {}\n"
 
 # (functions up to this size become part of those that call them. A merged function has more callers than its instances
-# had, so less of it is inlined at a lower size. On inputs of benches/growth.py the library takes 2 in 100 less to 1 in
-# 100 more instructions than without merging, and 4 more on the zigzag, which takes 10 more at 5000)
-INLINED = ("-mllvm", "-inline-threshold=10000")
+# had: at 2000 the library takes up to 4 in 100 more instructions than if nothing is merged, here up to 2, and 10 for
+# zigzags; at 10000 a call would need a larger stack than docs/C.md says)
+INLINED = ("-mllvm", "-inline-threshold=5000")
 # (nothing else is done to the module)
 MERGED = ("-O0", "-Xclang", "-fmerge-functions", "-emit-llvm", "-c")
 QUOTED = re.compile(r'@"([^"]+)"')
