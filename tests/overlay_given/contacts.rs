@@ -66,7 +66,7 @@ fn assert_told(
     Ok(())
 }
 
-// Two bow ties of which each crosses itself in (4 / 3, 4 / 3). Each has a lobe of each direction.
+// Two bow ties that each cross themselves in (4 / 3, 4 / 3). Each has a lobe of each direction.
 #[test]
 fn bow_ties_through_a_third(rt: HostRuntime) -> Result<(), Fail> {
     let rows = [

@@ -1,4 +1,4 @@
--- A list that stands for another: the rounds of the one are those of the other.
+-- A list that stands for another: both have the same rounds.
 use Rattle.std.proofs.Common.{ℕ, ◌≤◌, List, [], ◌∷◌, length, arith}
 use Rattle.overlay_geom.specs.Edges.{CountedEdge, weight}
 use Rattle.overlay_geom.specs.Merged.{IsMerged}
@@ -36,7 +36,7 @@ module _ {C : Type 0} (merges : C → C → C → Type 0) {all some : List (Carr
     heavy_after limit [] count heavy = absurd (omega (arith, count))
     heavy_after limit (r ∷ rs) count heavy = heavy
 
-    -- what the one is split into the other is
+    -- both are split into the same edges
     pub split_for : (most : ℕ) (new : List CountedEdge) → IsSplit Rounds most (edges_in some) new →
         IsSplit Rounds most (edges_in all) new
     split_for most new h = record {
@@ -50,7 +50,7 @@ module _ {C : Type 0} (merges : C → C → C → Type 0) {all some : List (Carr
       light = h.light;
     }
 
-    -- if the one stays unsettled, so does the other
+    -- if the first stays unsettled, so does the second
     pub unsettled_for : (most : ℕ) → StaysUnsettled most (edges_in some) → StaysUnsettled most (edges_in all)
     unsettled_for most h = record {
       rounds = h.rounds;
@@ -61,7 +61,7 @@ module _ {C : Type 0} (merges : C → C → C → Type 0) {all some : List (Carr
       unsettled = h.unsettled;
     }
 
-    -- if the one weighs too much, so does the other
+    -- if the first weighs too much, so does the second
     pub heavy_for : (most limit : ℕ) → WeighsTooMuch Rounds most limit (edges_in some) →
         WeighsTooMuch Rounds most limit (edges_in all)
     heavy_for most limit h = record {

@@ -25,7 +25,7 @@ use std::alloc::{AllocError, Allocator};
 // How many times as long a list with few equal pieces may grow before they are joined again.
 const FEW: usize = 8;
 
-/// Pieces of edges, of which equal pieces may be joined.
+/// Pieces of edges. Equal pieces may be joined.
 #[derive(Drop)]
 pub(crate) struct Pieces<I: IntNumber, C: EdgeCount, A: Allocator> {
     /// The pieces.

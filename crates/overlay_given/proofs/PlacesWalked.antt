@@ -179,7 +179,7 @@ module _ (filled : ℤ → Bool) (es : List CountedEdge) (i : ℕ) (e : CountedE
     toward_here : IsSidesToward filled es e to.next (filled_beside filled b)
     toward_here = toward_by so_far.place to.next to.next b to.piece so_far.winds (inr (refl, refl))
 
-    -- a piece that ends there is the one that the walk has followed
+    -- a piece that ends there is the piece that the walk has followed
     ends_here : (l n p : PlanePoint) → IsPiece es e l n → IsWithinPiece e l n p → SamePlace to.next n →
         sides_at filled es p ≡ filled_beside filled b
     ends_here l n p piece within same = ⊎_elim

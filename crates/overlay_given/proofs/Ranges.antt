@@ -5,7 +5,7 @@ use Rattle.std.proofs.lemmas.Bool.{cases_lt}
 use Rattle.std.proofs.lemmas.List.{length-drop, length-take-le, take_all, get_or-take, get_or-drop}
 use Rattle.overlay_pairs.specs.Places.{IsAt}
 
--- the first of a list are so many, or all
+-- number of the first entries of a list, or of all
 length_first : {X : Type 0} (n k : ℕ) (xs : List X) → k < length (take n xs) → (k < n) × (k < length xs)
 length_first n k xs less = ⊎_elim
     (λ (more : length xs < n).

@@ -30,7 +30,7 @@ pub record IsUsable (failed : Bool) (es : List CountedEdge) : Type 0 where
   pub usable : failed ≡ false
   pub balanced : HasBalancedCounts es
 
--- a call that adds the paths, without their points on one line, answers so, of the builder before and of the one
+-- a call that adds the paths, without their points on one line, answers so, of the builder before and
 -- afterwards
 pub record ExactBuilderAdds {V : Type 0} (paths : List GivenPath) (old new : ExactBuilder)
     (result : Result V OverlayError) : Type 0 where

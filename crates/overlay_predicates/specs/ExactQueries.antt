@@ -36,6 +36,6 @@ pub record TellsOfContent {V : Type 0} (IsRight : (ℤ → Bool) → List Counte
 abbrev pub TellsRelation : ((ℤ → Bool) → List CountedEdge → Type 0) → ExactBuilder → Result Bool OverlayError → Type 0
 TellsRelation relation = TellsOfContent (λ filled es b. IsTrue b ↔ relation filled es)
 
--- and one of all of them which ones hold
+-- and a query of all relations tells each of them
 abbrev pub TellsRelations : ExactBuilder → Result Relations OverlayError → Type 0
 TellsRelations = TellsOfContent AreExactRelations

@@ -1,4 +1,4 @@
--- One entry more is added, until there are so many.
+-- One entry more is added, until the count is reached.
 use Rattle.std.proofs.Common.{◌≡◌, subst, arith}
 use Rattle.overlay_given.specs.Places.{AddsTimes}
 use Rattle.overlay_given.proofs.AddedTimes.{times_none, times_more}

@@ -1,4 +1,4 @@
--- The entry is added so many times.
+-- The entry is added as often as the count says.
 use Rattle.std.proofs.Common.{◌-◌, ◌≤◌}
 use Rattle.overlay_given.specs.Places.{AddsTimes}
 use Rattle.overlay_given.proofs.walk.push_places.Given as goal
