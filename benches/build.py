@@ -2,13 +2,13 @@
 """Builds a program without a proof, optimised: polyover, or the one of another crate.
 
     build.py PROGRAM                                   leaves polyover at the path PROGRAM
-    build.py PROGRAM --crate FOLDER --uses CRATE .. [--input FILE] [-- WORD ..]
+    build.py PROGRAM --crate FOLDER --uses CRATE ..
 
 FOLDER has the crate's src/main.rt, and CRATE .. are the crates that it uses, of the repository or the toolchain.
 
-The crates are copied to a temporary folder. Nothing is proved: `rt try` runs the program once with checks, on FILE (or
-else on no input) and with the words given, and its module is compiled again without them (scripts/unproved.py). That
-takes a minute or two, and a C compiler (`cc`). `scripts/build` builds polyover and the library for C by the same steps.
+The crates are copied to a temporary folder. Nothing is proved: the program's module is compiled without the checks that
+`rt try` adds (scripts/unproved.py). That takes a minute or two, and a C compiler (`cc`). `scripts/build` builds
+polyover and the library for C by the same steps.
 """
 
 import argparse
@@ -24,10 +24,10 @@ from unproved import POLYOVER, polyover_text, program_text  # noqa: E402
 PROVED = POLYOVER / "out" / "polyover"
 
 
-def build(program, crate, used, text="", words=()):
-    """Leaves the program of a crate at a path, after one run with checks on a text and with words."""
+def build(program, crate, used):
+    """Leaves the program of a crate at a path."""
     program.parent.mkdir(parents=True, exist_ok=True)
-    linked_program(program_text(crate, used, text, words), program.resolve())
+    linked_program(program_text(crate, used), program.resolve())
 
 
 # ---- the option of the scripts that time the program
@@ -46,28 +46,19 @@ def program_of(parser, options):
     return program
 
 
-def parted(words):
-    """The words before the first `--`, and those behind it, which argparse does not take behind an option's words."""
-    at = words.index("--") if "--" in words else len(words)
-    return words[:at], words[at + 1 :]
-
-
 def main():
-    usage = "build.py PROGRAM [--crate FOLDER --uses CRATE .. [--input FILE] [-- WORD ..]]"
+    usage = "build.py PROGRAM [--crate FOLDER --uses CRATE ..]"
     how = {"usage": usage, "description": __doc__, "formatter_class": argparse.RawDescriptionHelpFormatter}
     parser = argparse.ArgumentParser(**how)
     parser.add_argument("program", type=Path, metavar="PROGRAM")
     parser.add_argument("--crate", type=Path, metavar="FOLDER", help="the folder of another program's crate")
     parser.add_argument("--uses", nargs="+", metavar="CRATE", default=[], help="the crates that it uses")
-    parser.add_argument("--input", type=Path, metavar="FILE", help="what it reads in its run with checks")
-    here, words = parted(sys.argv[1:])
-    given = parser.parse_args(here)
+    given = parser.parse_args()
     if given.crate is None:
         given.program.parent.mkdir(parents=True, exist_ok=True)
         linked_program(polyover_text(), given.program.resolve())
     else:
-        text = given.input.read_text() if given.input else ""
-        build(given.program, given.crate.resolve(), given.uses, text, words)
+        build(given.program, given.crate.resolve(), given.uses)
 
 
 if __name__ == "__main__":

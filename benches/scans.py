@@ -34,7 +34,6 @@ KINDS = {
 SCANS = ("list", "tree")
 COLUMNS = ("Edges", "List, ms", "Tree, ms")
 EDGES_OF_A_RUN = 100_000
-SMALL = [str(word) for kind in KINDS for scan in SCANS for word in (kind, 80, scan, 1)]
 
 NAME = "timed_scans"
 USES = [
@@ -233,12 +232,12 @@ fn main(rt: HostRuntime) -> Result<()> {
 
 
 def build_scans(program):
-    """Leaves the program at a path; it is run on small inputs with checks first."""
+    """Leaves the program at a path."""
     with tempfile.TemporaryDirectory() as name:
         source = Path(name, NAME, "src")
         source.mkdir(parents=True)
         (source / "main.rt").write_text(DRIVER)
-        build(program, source.parent, USES, words=SMALL)
+        build(program, source.parent, USES)
 
 
 # ---- the table

@@ -31,6 +31,9 @@ TOLD = "\n@polyover_is_proved = constant i8 {}\n"
 # had: at 2000 the library takes up to 4 in 100 more instructions than if nothing is merged, here up to 2, and 10 for
 # zigzags; at 10000 a call would need a larger stack than docs/C.md says)
 INLINED = ("-mllvm", "-inline-threshold=5000")
+# (a program is built in less time with fewer: at 500 it takes 1 in 100 fewer instructions than if nothing is merged,
+# at 1000 4 to 7 fewer, but 11 seconds more to compile)
+INLINED_IN_PROGRAMS = ("-mllvm", "-inline-threshold=500")
 # (nothing else is done to the module)
 MERGED = ("-O0", "-Xclang", "-fmerge-functions", "-emit-llvm", "-c")
 QUOTED = re.compile(r'@"([^"]+)"')
@@ -98,25 +101,24 @@ PROCESSORS = {
 }
 
 
-def compiled(text: str, processor: Processor, to: Path, *flags: str, merges: bool = False) -> None:
-    """Compiles the text of a module for a processor, where asked with equal functions merged.
+def compiled(text: str, processor: Processor, to: Path, *flags: str) -> None:
+    """Compiles the text of a module for a processor, with equal functions merged.
 
-    Most functions of the library are instances that differ in no more than their names. The compiler makes one of equal
-    functions before it inlines calls; afterwards few bodies are still equal.
+    Most functions are instances that differ in no more than their names. The compiler makes one of equal functions
+    before it inlines calls; afterwards few bodies are still equal.
     """
     with tempfile.TemporaryDirectory(prefix="polyover-") as folder:
         module, merged = Path(folder) / "module.ll", Path(folder) / "merged.bc"
         module.write_text(processor.of(text))
-        if merges:
-            answer_of([clang(), *processor.flags(), *MERGED, module, "-o", merged])
-        answer_of([clang(), *processor.flags(), "-O3", *flags, merged if merges else module, "-o", to])
+        answer_of([clang(), *processor.flags(), *MERGED, module, "-o", merged])
+        answer_of([clang(), *processor.flags(), "-O3", *flags, merged, "-o", to])
 
 
 def linked_program(text: str, program: Path, *flags: str) -> None:
     """Links a program of the text of its module; flags of the compiler may follow."""
     with tempfile.TemporaryDirectory(prefix="polyover-") as folder:
         machine = Path(folder) / "program.o"
-        compiled(text, PROCESSORS["x86_64"], machine, "-fPIE", "-c", *flags)
+        compiled(text, PROCESSORS["x86_64"], machine, "-fPIE", "-c", *INLINED_IN_PROGRAMS, *flags)
         answer_of(["cc", machine, kit() / "c" / "libos_c.a", kit() / "c" / "liblibc_c.a", "-o", program])
 
 
@@ -160,7 +162,7 @@ def leave(file: Path, processor: str, is_proved: bool) -> None:
     text += TOLD.format(int(made_of == PROVED))
     file.parent.mkdir(parents=True, exist_ok=True)
     target = PROCESSORS[processor]
-    compiled(text, target, file, *target.code, "-ffunction-sections", "-fno-addrsig", "-S", merges=True)
+    compiled(text, target, file, *target.code, "-ffunction-sections", "-fno-addrsig", "-S")
     file.write_text(head + file.read_text())
     os.utime(file, (began, began))
 

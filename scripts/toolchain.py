@@ -8,14 +8,13 @@ from collections.abc import Sequence
 from pathlib import Path
 
 ROOT = Path(__file__).resolve().parent.parent
+# (the module that is left is the last one, with all checks)
 LEAVING = """\
 #!/bin/sh
 for word in "$@"; do case "$word" in *.bc) cp "$word" "{module}";; esac; done
-{unless}
+case "$*" in *-fsanitize=address*) exit 1;; esac
 exec "{clang}" "$@"
 """
-# (the module that is left is the last one, with all checks)
-UNLESS_LAST = 'case "$*" in *-fsanitize=address*) exit 1;; esac'
 
 
 def answer_of(words: Sequence, **how) -> str:
@@ -55,13 +54,13 @@ def link_all(source: Path, target: Path, *others: str) -> None:
             (target / each.name).symlink_to(each)
 
 
-def make_leaving_compiler(folder: Path, module: Path, runs: bool = True) -> None:
-    """The toolchain's folder of compilers as a folder of links, whose clang copies the last module it is given. If
-    nothing is to be run it fails there."""
+def make_leaving_compiler(folder: Path, module: Path) -> None:
+    """The toolchain's folder of compilers as a folder of links, whose clang copies the last module it is given, and
+    fails there."""
     link_all(kit() / "toolchain", folder, "bin")
     link_all(kit() / "toolchain" / "bin", folder / "bin", "clang")
     script = folder / "bin" / "clang"
-    script.write_text(LEAVING.format(module=module, clang=clang(), unless="" if runs else UNLESS_LAST))
+    script.write_text(LEAVING.format(module=module, clang=clang()))
     script.chmod(0o755)
 
 
@@ -79,8 +78,10 @@ def make_trying_kit(folder: Path, *others: str) -> Path:
     return folder / "bin" / "rt"
 
 
-def make_leaving_kit(folder: Path, module: Path, runs: bool = True) -> Path:
-    """Such a folder with such a compiler; gives its `rt`."""
+def leave_module(crate: Path, module: Path, folder: Path, *words: str) -> subprocess.CompletedProcess:
+    """Leaves the module, with all checks, that `rt try` compiles of a crate, and runs nothing. It makes links to the
+    toolchain in the folder, and gives how the try ended: it fails where it would link."""
     rt = make_trying_kit(folder, "toolchain")
-    make_leaving_compiler(folder / "toolchain", module, runs)
-    return rt
+    make_leaving_compiler(folder / "toolchain", module)
+    how = {"capture_output": True, "text": True, "check": False, "stdin": subprocess.DEVNULL}
+    return subprocess.run([rt, "try", "--steps", "1", *words], cwd=crate, **how)

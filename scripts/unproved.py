@@ -1,9 +1,9 @@
 """Modules without a proof: of a program, or of all calls for C, as `rt try` hands them to the toolchain's compiler.
 
 The toolchain has no build without a proof that is meant to be kept: `rattle build` makes nothing of a crate that is not
-proved, and `rt try` compiles with checks, runs once and keeps nothing. So the module is taken from there, and its
-checks, which a proved module does not have, are taken out of its text: they cost some 45 in 100 of the time. `CHECK`
-and `KINDS` are the one place that knows how they look. A module with a check of another look or kind is refused.
+proved, and `rt try` compiles with checks, runs and keeps nothing. So the module is taken from there, and nothing is
+run. Its checks, which a proved module does not have, are taken out of its text: they cost some 45 in 100 of the time.
+`CHECK` and `KINDS` alone know how they look. A module with a check of another look or kind is refused.
 """
 
 from __future__ import annotations
@@ -11,15 +11,14 @@ from __future__ import annotations
 import re
 import shutil
 import tempfile
-from collections.abc import Callable, Sequence
+from collections.abc import Callable
 from pathlib import Path
 
-from toolchain import ROOT, answer_of, make_leaving_kit, text_of
+from toolchain import ROOT, leave_module, text_of
 from workspace import crate_uses, crates_below, write_lines
 
 LIBRARY = "polyover_c"
 POLYOVER = ROOT / "crates" / "polyover"
-EXAMPLE = ROOT / "examples" / "square.txt"
 # What a checked module has more than a proved one: traps, calls of functions that test something and then trap, and a
 # pattern in memory that is not written yet.
 CHECK = re.compile(
@@ -85,19 +84,15 @@ def make_caller(crate: Path) -> None:
 
 
 def module_of(
-    crate: Path,
-    used: list[str],
-    folder: Path,
-    prepare: Callable[[Path], None] = lambda place: None,
-    text: str = "",
-    words: Sequence[str] = (),
+    crate: Path, used: list[str], folder: Path, prepare: Callable[[Path], None] = lambda place: None
 ) -> Path:
-    """The module of a program's crate, in the folder; the program runs once with checks, on a text and with words."""
+    """The module of a program's crate, in the folder."""
     module = folder / "module.bc"
-    rt = make_leaving_kit(folder / "kit", module)
     place = make_repository(folder / "repository", crate, used)
     prepare(place)
-    answer_of([rt, "try", "--", *words], cwd=place, input=text)
+    left = leave_module(place, module, folder / "kit")
+    if not module.is_file():
+        raise SystemExit(f"rt try: status {left.returncode}\n{left.stdout}{left.stderr}".strip())
     return module
 
 
@@ -121,15 +116,15 @@ def shown(text: str) -> str:
     return text.replace("define i32 @main()", "define internal i32 @main()") + "".join(aliases)
 
 
-def program_text(crate: Path, used: list[str], text: str = "", words: Sequence[str] = ()) -> str:
+def program_text(crate: Path, used: list[str]) -> str:
     """The text of the module of a program's crate."""
     with tempfile.TemporaryDirectory(prefix="polyover-") as folder:
-        return without_checks(module_of(crate, used, Path(folder), text=text, words=words))
+        return without_checks(module_of(crate, used, Path(folder)))
 
 
 def polyover_text() -> str:
-    """The text of the module of the program polyover, which answers an example with checks first."""
-    return program_text(POLYOVER, crate_uses()[POLYOVER.name], EXAMPLE.read_text())
+    """The text of the module of the program polyover."""
+    return program_text(POLYOVER, crate_uses()[POLYOVER.name])
 
 
 def leave_library(module: Path) -> None:
