@@ -166,6 +166,11 @@ void relating() {
     CHECK(value_of(relate_one(polyover::relation::within, fill::non_zero, it.subject, it.nested)));
     CHECK(!value_of(relate_one(polyover::relation::covers, fill::non_zero, it.subject, it.nested)));
     CHECK(value_of(relate_one(polyover::relation::touches, fill::non_zero, it.subject, {corner, it.three})));
+    const std::vector<Coordinate> around = {0, 0, 5, 0, 5, 2}, sliver = {0, 0, 3, 1, 5, 2};
+    const typename given<Coordinate>::contours inside{sliver, it.three};
+    const auto inner = value_of(relate_exact(fill::positive, inside, {around, it.three}));
+    CHECK(inner.bits() == (POLYOVER_INTERSECTS | POLYOVER_INTERIORS_INTERSECT | POLYOVER_WITHIN));
+    CHECK(value_of(relate_exact(fill::non_zero, it.subject, {})).bits() == POLYOVER_DISJOINT);
     const auto unknown = static_cast<polyover::relation>(3);
     CHECK(is_refused(status::bad_option, [&] { return relate_one(unknown, fill::non_zero, it.subject, it.clip); }));
 }
@@ -295,6 +300,8 @@ void refusals() {
     CHECK(is_refused(status::bad_ends, [&] { return overlay(rule::clip, fill::non_zero, it.subject, short_ends); }));
     CHECK(is_refused(status::bad_ends, [&] { return resolved(short_ends); }));
     CHECK(is_refused(status::out_of_range, [&] { return relate(fill::non_zero, it.subject, beyond); }));
+    CHECK(is_refused(status::bad_fill, [&] { return relate_exact(bad_fill, it.subject, beyond); }));
+    CHECK(is_refused(status::out_of_range, [&] { return relate_exact(fill::non_zero, it.subject, beyond); }));
     CHECK(is_refused(status::out_of_range, [&] { return prepare(fill::non_zero, beyond); }));
     CHECK(!polyover::in_range(far) && polyover::in_range(it.left) && in_range(it.subject.coordinates()));
     /* (rounds do not settle the needles; snap rounding does) */
@@ -314,6 +321,7 @@ void refused_memory() {
     const bool are_refused[] = {
         is_refused(status::memory, [&] { return overlay(rule::xor_, fill::non_zero, it.subject, it.clip); }),
         is_refused(status::memory, [&] { return relate(fill::non_zero, it.subject, it.clip); }),
+        is_refused(status::memory, [&] { return relate_exact(fill::non_zero, it.subject, it.clip); }),
         is_refused(status::memory, [&] { return prepare(fill::non_zero, it.subject); }),
         is_refused(status::memory, [&] { return resolved(it.subject); }),
     };

@@ -90,7 +90,7 @@ static void far_answers(int64_t factor, far_answer *answers) {
     const far_given given = multiplied(factor);
     const polyover_contours subject = {given.subject, 24, far_ends, 3}, clip = {given.clip, 8, far_ends, 1};
     const polyover_contours lines = {given.lines, 10, far_line_ends, 2};
-    memset(answers, 0, 20 * sizeof *answers);
+    memset(answers, 0, 21 * sizeof *answers);
     for (polyover_rule rule = POLYOVER_SUBJECT; rule <= POLYOVER_XOR; rule++) {
         CHECK(far_overlay(rule, &subject, &clip, &answers[rule]) == POLYOVER_OK);
         CHECK(far_hierarchy(rule, &subject, &clip, &answers[7 + rule]) == POLYOVER_OK);
@@ -102,15 +102,16 @@ static void far_answers(int64_t factor, far_answer *answers) {
     CHECK(polyover_edges(POLYOVER_EVEN_ODD, POLYOVER_SNAPPED, &subject, &clip, answers[18].coordinates, 128,
                          answers[18].fills, 32, &answers[18].count) == POLYOVER_OK);
     CHECK(polyover_relate(POLYOVER_EVEN_ODD, POLYOVER_SNAPPED, &subject, &clip, &answers[19].relations) == POLYOVER_OK);
+    CHECK(polyover_relate_exact(POLYOVER_EVEN_ODD, &subject, &clip, &answers[20].relations) == POLYOVER_OK);
 }
 
 static void far_coordinates(void) {
-    static far_answer here[20], far[20];
+    static far_answer here[21], far[21];
     far_answers(1, here);
     CHECK(here[POLYOVER_SUBJECT].counts.shapes == 2 && here[7].count == 1 && here[17].path_counts.paths > 0);
     for (size_t at = 0; at < sizeof factors / sizeof *factors; at++) {
         far_answers(factors[at], far);
-        for (size_t call = 0; call < 20; call++) {
+        for (size_t call = 0; call < 21; call++) {
             CHECK(is_multiplied(&here[call], &far[call], factors[at]));
         }
     }
@@ -126,5 +127,8 @@ static void one_far_list(void) {
     CHECK(far_overlay(POLYOVER_UNION, &second, &first, &union_exchanged) == POLYOVER_OK);
     CHECK(union_of_both.counts.shapes == 2 && memcmp(&union_of_both, &union_exchanged, sizeof union_of_both) == 0);
     CHECK(polyover_relate(POLYOVER_EVEN_ODD, POLYOVER_ROUNDS, &first, &second, &relations) == POLYOVER_OK);
+    CHECK(relations == POLYOVER_DISJOINT);
+    relations = 77;
+    CHECK(polyover_relate_exact(POLYOVER_EVEN_ODD, &second, &first, &relations) == POLYOVER_OK);
     CHECK(relations == POLYOVER_DISJOINT);
 }

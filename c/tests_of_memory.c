@@ -105,6 +105,10 @@ static polyover_status relate_one(const asked *of, room *to) {
     return polyover_relate_one(POLYOVER_DISJOINT, of->fill, of->solver, &of->subject, &of->clip, &to->relations);
 }
 
+static polyover_status relate_exact(const asked *of, room *to) {
+    return polyover_relate_exact(of->fill, &of->subject, &of->clip, &to->relations);
+}
+
 static polyover_status edges(const asked *of, room *to) {
     return polyover_edges(of->fill, of->solver, &of->subject, &of->clip, to->coordinates, 64, to->bytes, 16,
                           &to->count);
@@ -317,7 +321,7 @@ static void answered(void) {
     const call all[] = {overlay, hierarchy, simplify, slice, clip, relate, edges, locate, resolved, overlay_result,
                         hierarchy_result, simplify_result, slice_result, clip_result, edges_result, prepare,
                         relate_one, tiles_result, graph_overlay, graph_hierarchy, graph_edges, slice_custom_result,
-                        simplify_shape_result};
+                        simplify_shape_result, relate_exact};
     const call with_more[] = {overlay, hierarchy, simplify, slice, clip, relate, edges, overlay_result,
                               hierarchy_result, simplify_result, slice_result, clip_result, edges_result,
                               relate_one};
@@ -361,7 +365,8 @@ static void numbers(void) {
     of.fill = 4;
     const call filled[] = {overlay, hierarchy, simplify, slice, clip, relate, edges, overlay_result,
                            hierarchy_result, simplify_result, slice_result, clip_result, edges_result, prepare,
-                           relate_one, tiles_result, graph_overlay, slice_custom_result, simplify_shape_result};
+                           relate_one, tiles_result, graph_overlay, slice_custom_result, simplify_shape_result,
+                           relate_exact};
     for (size_t at = 0; at < COUNT(filled); at++) {
         TESTED_FIRST(filled[at], &of, POLYOVER_BAD_FILL);
     }
@@ -374,7 +379,8 @@ static void numbers(void) {
 static void faults(void) {
     const call one[] = {simplify, locate, resolved, simplify_result, prepare, tiles_result, simplify_shape_result};
     const call two[] = {overlay, hierarchy, slice, clip, relate, edges, overlay_result, hierarchy_result,
-                        slice_result, clip_result, edges_result, relate_one, graph_overlay, slice_custom_result};
+                        slice_result, clip_result, edges_result, relate_one, graph_overlay, slice_custom_result,
+                        relate_exact};
     asked of = squares();
     of.clip = bad;
     for (size_t at = 0; at < COUNT(two); at++) {

@@ -7,8 +7,10 @@ static polyover_relations TEST(related)(const NUMBER *subject, const NUMBER *cli
                             subject[2], subject[3], subject[0], subject[3]};
     const NUMBER second[] = {clip[0], clip[1], clip[2], clip[1], clip[2], clip[3], clip[0], clip[3]};
     const CONTOURS given = {first, 8, four, 1}, other = {second, 8, four, 1};
-    polyover_relations relations = 77;
+    polyover_relations relations = 77, exact = 77;
     CHECK(NAME(polyover_relate)(fill, POLYOVER_SNAPPED, &given, &other, &relations) == POLYOVER_OK);
+    CHECK(NAME(polyover_relate_exact)(fill, &given, &other, &exact) == POLYOVER_OK);
+    CHECK(exact == relations);
     for (polyover_relations bit = POLYOVER_INTERSECTS; bit <= POLYOVER_COVERS; bit *= 2) {
         uint32_t holds = 77;
         CHECK(NAME(polyover_relate_one)(bit, fill, POLYOVER_SNAPPED, &given, &other, &holds) == POLYOVER_OK);
@@ -84,6 +86,59 @@ static void TEST(relating_refused)(void) {
     CHECK(TEST(not_related)(0, &none, &none) == POLYOVER_OK);
     CHECK(TEST(not_related)(0, &square, &none) == POLYOVER_OK);
     CHECK(TEST(not_related)(0, &square, NULL) == POLYOVER_OK);
+}
+
+/* The exact relations of two contours of n points. */
+static polyover_relations TEST(exactly_related)(const NUMBER *subject, const NUMBER *clip, size_t n,
+                                                polyover_fill fill) {
+    const CONTOURS first = {subject, 2 * n, &n, 1}, second = {clip, 2 * n, &n, 1};
+    polyover_relations relations = 77;
+    CHECK(NAME(polyover_relate_exact)(fill, &first, &second, &relations) == POLYOVER_OK);
+    return relations;
+}
+
+/* Relations where edges cross in points that are not whole. */
+static void TEST(exact_relations)(void) {
+    const polyover_relations overlaps = POLYOVER_INTERSECTS | POLYOVER_INTERIORS_INTERSECT;
+    const polyover_relations touches = POLYOVER_INTERSECTS | POLYOVER_TOUCHES;
+    /* (2, 1) is inside the first. */
+    const NUMBER first[] = {1, 2, 3, 2, 2, 0}, second[] = {0, 0, 2, 1, 3, 2};
+    /* The clip runs clockwise, so that positive filling fills nothing of it. */
+    const NUMBER sliver[] = {0, -1, 4, 5, 1, 2}, turned[] = {0, 0, 4, 5, 5, 6};
+    /* Both meet in (1/3, 2/3) alone, where the lines y = 2x, y = 5x - 1, y = 1 - x and y = 2 - 4x cross. */
+    const NUMBER bow[] = {0, 0, 1, 2, 1, 4, 0, -1}, other[] = {0, 1, 1, 0, 1, -2, 0, 2};
+    /* They have the border from (0, 0) to (5, 2), above (3, 1) and below (2, 1). */
+    const NUMBER below[] = {0, 0, 3, 1, 5, 2}, above[] = {0, 0, 5, 2, 2, 1}, around[] = {0, 0, 5, 0, 5, 2};
+    CHECK(TEST(exactly_related)(first, second, 3, POLYOVER_NON_ZERO) == overlaps);
+    CHECK(TEST(exactly_related)(sliver, turned, 3, POLYOVER_EVEN_ODD) == overlaps);
+    CHECK(TEST(exactly_related)(sliver, turned, 3, POLYOVER_POSITIVE) == POLYOVER_DISJOINT);
+    CHECK(TEST(exactly_related)(bow, other, 4, POLYOVER_EVEN_ODD) == (touches | POLYOVER_POINT_INTERSECTS));
+    CHECK(TEST(exactly_related)(below, above, 3, POLYOVER_NON_ZERO) == touches);
+    CHECK(TEST(exactly_related)(below, around, 3, POLYOVER_NON_ZERO) == (overlaps | POLYOVER_WITHIN));
+    CHECK(TEST(exactly_related)(around, below, 3, POLYOVER_POSITIVE) == (overlaps | POLYOVER_COVERS));
+}
+
+static polyover_status TEST(not_exactly_related)(polyover_fill fill, const CONTOURS *subject, const CONTOURS *clip) {
+    polyover_relations relations = 77;
+    polyover_status status = NAME(polyover_relate_exact)(fill, subject, clip, &relations);
+    CHECK(status == POLYOVER_OK ? relations == POLYOVER_DISJOINT : relations == 77);
+    return status;
+}
+
+static void TEST(exact_relating_refused)(void) {
+    const NUMBER beyond[] = {0, 0, LIMIT, 0, -LIMIT - 1, 4, 0, 4};
+    const size_t four[] = {4}, falling[] = {4, 3};
+    const CONTOURS square = {TEST(subject_at), 8, four, 1}, bad = {TEST(subject_at), 8, falling, 2};
+    const CONTOURS far = {beyond, 8, four, 1}, none = {NULL, 0, NULL, 0};
+    CHECK(TEST(not_exactly_related)(4, &bad, &far) == POLYOVER_BAD_FILL);
+    CHECK(TEST(not_exactly_related)(UINT32_MAX, &square, &square) == POLYOVER_BAD_FILL);
+    CHECK(TEST(not_exactly_related)(3, &bad, &far) == POLYOVER_BAD_ENDS);
+    CHECK(TEST(not_exactly_related)(3, &far, &bad) == POLYOVER_OUT_OF_RANGE);
+    CHECK(TEST(not_exactly_related)(3, &square, &bad) == POLYOVER_BAD_ENDS);
+    CHECK(TEST(not_exactly_related)(3, &none, &far) == POLYOVER_OUT_OF_RANGE);
+    CHECK(TEST(not_exactly_related)(0, &none, &none) == POLYOVER_OK);
+    CHECK(TEST(not_exactly_related)(0, &square, &none) == POLYOVER_OK);
+    CHECK(TEST(not_exactly_related)(0, &square, NULL) == POLYOVER_OK);
 }
 
 /* One relation: by both solvers, and by numbers that are the bit of none. */

@@ -251,6 +251,42 @@ static void TEST(many_squares)(polyover_solver solver) {
     TEST(let_go)(&clip);
 }
 
+/* The exact relations of both. */
+static polyover_relations TEST(exactly)(const TEST(made) *subject, const TEST(made) *clip) {
+    const CONTOURS first = TEST(given)(subject), second = TEST(given)(clip);
+    polyover_relations relations = 77;
+    CHECK(NAME(polyover_relate_exact)(POLYOVER_NON_ZERO, &first, &second, &relations) == POLYOVER_OK);
+    return relations;
+}
+
+/* A triangle that is thin, level or upright, from 0 across all others. */
+static void TEST(needle)(TEST(made) *it, size_t at, int is_level) {
+    const size_t along[] = {0, 1000, 0}, across[] = {4 * at, 4 * at + 1, 4 * at + 2};
+    for (size_t corner = 0; corner < 3; corner++) {
+        TEST(point)(it, is_level ? along[corner] : across[corner], is_level ? across[corner] : along[corner]);
+    }
+    TEST(end)(it);
+}
+
+/* 200 needles across 200 others, which meet in 160,000 points; and 12,544 squares beside as many, which touch them. */
+static void TEST(many_exactly)(void) {
+    TEST(made) subject = TEST(none)(), clip = TEST(none)();
+    for (size_t at = 0; at < 200; at++) {
+        TEST(needle)(&subject, at, 1);
+        TEST(needle)(&clip, at, 0);
+    }
+    CHECK(TEST(exactly)(&subject, &clip) == (POLYOVER_INTERSECTS | POLYOVER_INTERIORS_INTERSECT));
+    CHECK(TEST(exactly)(&clip, &clip) ==
+          (POLYOVER_INTERSECTS | POLYOVER_INTERIORS_INTERSECT | POLYOVER_WITHIN | POLYOVER_COVERS));
+    subject.count = subject.end_count = clip.count = clip.end_count = 0;
+    TEST(squares)(&subject, SIDE, 4, 0, 2);
+    TEST(squares)(&clip, SIDE, 4, 2, 4);
+    CHECK(TEST(exactly)(&subject, &clip) ==
+          (POLYOVER_INTERSECTS | POLYOVER_TOUCHES | POLYOVER_POINT_INTERSECTS));
+    TEST(let_go)(&subject);
+    TEST(let_go)(&clip);
+}
+
 /* A square in a hole in each of 4,225 squares: of each column the outer ones come first. */
 static void TEST(many_islands)(polyover_solver solver) {
     const size_t side = 65, count = side * side;
@@ -487,6 +523,7 @@ static void TEST(limits)(polyover_solver solver) {
 
 static void TEST(sizes)(void) {
     TEST(many_points)();
+    TEST(many_exactly)();
     for (polyover_solver solver = POLYOVER_SNAPPED; solver <= POLYOVER_ROUNDS; solver++) {
         TEST(many_squares)(solver);
         TEST(many_islands)(solver);

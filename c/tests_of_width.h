@@ -314,6 +314,8 @@ static void TEST(all)(void) {
     TEST(small_triangles)();
     TEST(relating_refused)();
     TEST(one_relation)();
+    TEST(exact_relations)();
+    TEST(exact_relating_refused)();
     TEST(locations)();
     TEST(locating_refused)();
     TEST(edges)();

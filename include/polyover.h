@@ -302,6 +302,20 @@ polyover_status polyover_relate_one_32(polyover_relations relation, polyover_fil
                                        const polyover_contours_32 *subject, const polyover_contours_32 *clip,
                                        uint32_t *holds);
 
+/* How the subject and the clip lie to each other under the fill rule, as they are given: nothing is rounded. On
+ * POLYOVER_OK *relations is the sum of the bits of the relations that hold; after any other status it stays.
+ *
+ * The closed region of a shape is the closure of its interior, which is what the fill rule fills off the contours. So
+ * relations of shapes as small as a few units, and of slivers, hold as for any others. Of the triangles at
+ * `polyover_relate` POLYOVER_INTERSECTS and POLYOVER_INTERIORS_INTERSECT are told.
+ *
+ * Tested first, in this order: POLYOVER_BAD_FILL; then of the subject, and then of the clip, POLYOVER_BAD_ENDS and
+ * POLYOVER_OUT_OF_RANGE. POLYOVER_TOO_MANY_EDGES and POLYOVER_MEMORY are left. */
+polyover_status polyover_relate_exact(polyover_fill fill, const polyover_contours *subject,
+                                      const polyover_contours *clip, polyover_relations *relations);
+polyover_status polyover_relate_exact_32(polyover_fill fill, const polyover_contours_32 *subject,
+                                         const polyover_contours_32 *clip, polyover_relations *relations);
+
 /* Where each of the points, x before y in `coordinates`, lies in the contours, which are one shape: a point is inside
  * it that is inside an odd number of them, and inside a contour that winds an odd number of times round it.
  *

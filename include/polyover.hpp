@@ -312,6 +312,7 @@ struct width<std::int64_t> {
     static constexpr auto edges_result = polyover_edges_result;
     static constexpr auto relate = polyover_relate;
     static constexpr auto relate_one = polyover_relate_one;
+    static constexpr auto relate_exact = polyover_relate_exact;
     static constexpr auto locate = polyover_locate;
     static constexpr auto prepare = polyover_prepare;
     static constexpr auto prepared_locate = polyover_prepared_locate;
@@ -359,6 +360,7 @@ struct width<std::int32_t> {
     static constexpr auto edges_result = polyover_edges_result_32;
     static constexpr auto relate = polyover_relate_32;
     static constexpr auto relate_one = polyover_relate_one_32;
+    static constexpr auto relate_exact = polyover_relate_exact_32;
     static constexpr auto locate = polyover_locate_32;
     static constexpr auto prepare = polyover_prepare_32;
     static constexpr auto prepared_locate = polyover_prepared_locate_32;
@@ -974,6 +976,17 @@ template <class Coordinate>
         detail::width<Coordinate>::relate_one(detail::number(relation), detail::number(fill), detail::number(solver),
                                               &subject.raw(), &clip.raw(), &holds);
     return detail::answered(ended, holds != 0);
+}
+
+/// Returns how the subject and the clip lie to each other as they are given: nothing is rounded. Refused as `relate`
+/// is, but for `bad_option` and `not_settled`.
+template <class Coordinate>
+[[nodiscard]] returned<relations> relate_exact(polyover::fill fill, basic_contours<Coordinate> subject,
+                                               detail::contours_of<Coordinate> clip) {
+    polyover_relations bits = 0;
+    const polyover_status ended =
+        detail::width<Coordinate>::relate_exact(detail::number(fill), &subject.raw(), &clip.raw(), &bits);
+    return detail::answered(ended, relations(bits));
 }
 
 /// Writes where each point, x before y in `points`, lies in contours that are joined by exclusive or, to the first

@@ -11,6 +11,7 @@ pub mod locate;
 pub mod overlay;
 pub mod prepared;
 pub mod relate;
+pub mod relate_exact;
 pub mod simplify;
 pub mod simplify_shape;
 pub mod slice;
