@@ -102,16 +102,14 @@ enum {
     POLYOVER_ROUNDS = 1
 };
 
-/* How a subject and a clip lie to each other: a bit for each relation. The closed region of one is what it fills, with
- * the edges on a side of which it does. */
+/* How a subject and a clip lie to each other: a bit for each relation. The closed region of one is what it fills off
+ * the edges, with the edges on a side of which it does. */
 typedef uint32_t polyover_relations;
 enum {
     POLYOVER_INTERSECTS = 1,          /* some point is in both closed regions */
     POLYOVER_INTERIORS_INTERSECT = 2, /* some point off the edges is filled by both */
     POLYOVER_TOUCHES = 4,             /* they intersect, and no point off the edges is filled by both */
-    /* they intersect, and no edge has sides that the one fills and sides that the other fills: they meet in single
-     * points alone */
-    POLYOVER_POINT_INTERSECTS = 8,
+    POLYOVER_POINT_INTERSECTS = 8,    /* they intersect, and near each common point there is no other */
     /* the subject fills some point off the edges, and the clip fills each such point */
     POLYOVER_WITHIN = 16,
     POLYOVER_DISJOINT = 32, /* they do not intersect */
@@ -273,13 +271,20 @@ polyover_status polyover_simplify_32(polyover_fill fill, const polyover_options_
                                      size_t coordinate_room, size_t *contour_ends, size_t contour_room,
                                      size_t *shape_ends, size_t shape_room, polyover_counts *counts);
 
-/* How the subject and the clip lie to each other under the fill rule, split by the solver. On POLYOVER_OK *relations is
- * the sum of the bits of the relations that hold; after any other status it stays.
+/* How the subject and the clip lie to each other under the fill rule, as they are given: nothing is rounded. On
+ * POLYOVER_OK *relations is the sum of the bits of the relations that hold; after any other status it stays.
  *
- * All are told of one arrangement of the contours, in which edges that meet are cut as by `polyover_overlay`, at points
- * that are rounded: so of shapes as small as a few units they may differ from the relations of the contours as they
- * are. Of (1, 2), (2, 0), (3, 2) and (0, 0), (3, 2), (2, 1) POLYOVER_DISJOINT is told, though (2, 1) is inside the
- * first one; with each coordinate times 4 it is not. To come nearer, multiply all coordinates by a power of two.
+ * Tested first, in this order: POLYOVER_BAD_FILL; then of the subject, and then of the clip, POLYOVER_BAD_ENDS and
+ * POLYOVER_OUT_OF_RANGE. POLYOVER_TOO_MANY_EDGES and POLYOVER_MEMORY are left. */
+polyover_status polyover_relate_exact(polyover_fill fill, const polyover_contours *subject,
+                                      const polyover_contours *clip, polyover_relations *relations);
+polyover_status polyover_relate_exact_32(polyover_fill fill, const polyover_contours_32 *subject,
+                                         const polyover_contours_32 *clip, polyover_relations *relations);
+
+/* The same of one arrangement of the contours, in which edges that meet are cut by the solver as by `polyover_overlay`,
+ * at points that are rounded. So relations of shapes as small as a few units may differ from those of the contours as
+ * they are given. Of (1, 2), (2, 0), (3, 2) and (0, 0), (3, 2), (2, 1) POLYOVER_DISJOINT is told, though (2, 1) is
+ * inside the first one: `polyover_relate_exact` tells that they intersect.
  *
  * Tested first, in this order: POLYOVER_BAD_FILL; POLYOVER_BAD_OPTION, for the solver; then of the subject, and then of
  * the clip, POLYOVER_BAD_ENDS and POLYOVER_OUT_OF_RANGE. POLYOVER_NOT_SETTLED, by POLYOVER_ROUNDS alone,
@@ -301,20 +306,6 @@ polyover_status polyover_relate_one(polyover_relations relation, polyover_fill f
 polyover_status polyover_relate_one_32(polyover_relations relation, polyover_fill fill, polyover_solver solver,
                                        const polyover_contours_32 *subject, const polyover_contours_32 *clip,
                                        uint32_t *holds);
-
-/* How the subject and the clip lie to each other under the fill rule, as they are given: nothing is rounded. On
- * POLYOVER_OK *relations is the sum of the bits of the relations that hold; after any other status it stays.
- *
- * The closed region of a shape is the closure of its interior, which is what the fill rule fills off the contours. So
- * relations of shapes as small as a few units, and of slivers, hold as for any others. Of the triangles at
- * `polyover_relate` POLYOVER_INTERSECTS and POLYOVER_INTERIORS_INTERSECT are told.
- *
- * Tested first, in this order: POLYOVER_BAD_FILL; then of the subject, and then of the clip, POLYOVER_BAD_ENDS and
- * POLYOVER_OUT_OF_RANGE. POLYOVER_TOO_MANY_EDGES and POLYOVER_MEMORY are left. */
-polyover_status polyover_relate_exact(polyover_fill fill, const polyover_contours *subject,
-                                      const polyover_contours *clip, polyover_relations *relations);
-polyover_status polyover_relate_exact_32(polyover_fill fill, const polyover_contours_32 *subject,
-                                         const polyover_contours_32 *clip, polyover_relations *relations);
 
 /* Where each of the points, x before y in `coordinates`, lies in the contours, which are one shape: a point is inside
  * it that is inside an odd number of them, and inside a contour that winds an odd number of times round it.

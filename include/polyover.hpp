@@ -953,8 +953,18 @@ template <class Coordinate>
 
 // ---- relations and locations
 
-/// Returns how the subject and the clip lie to each other, told of one arrangement of both. Refused as `overlay` is,
-/// but for `bad_rule`.
+/// Returns how the subject and the clip lie to each other as they are given: nothing is rounded. Refused as `relate`
+/// is, but for `bad_option` and `not_settled`.
+template <class Coordinate>
+[[nodiscard]] returned<relations> relate_exact(polyover::fill fill, basic_contours<Coordinate> subject,
+                                               detail::contours_of<Coordinate> clip) {
+    polyover_relations bits = 0;
+    const polyover_status ended =
+        detail::width<Coordinate>::relate_exact(detail::number(fill), &subject.raw(), &clip.raw(), &bits);
+    return detail::answered(ended, relations(bits));
+}
+
+/// Returns the same of one arrangement of both, whose points are rounded. Refused as `overlay` is, but for `bad_rule`.
 template <class Coordinate>
 [[nodiscard]] returned<relations> relate(polyover::fill fill, basic_contours<Coordinate> subject,
                                          detail::contours_of<Coordinate> clip,
@@ -976,17 +986,6 @@ template <class Coordinate>
         detail::width<Coordinate>::relate_one(detail::number(relation), detail::number(fill), detail::number(solver),
                                               &subject.raw(), &clip.raw(), &holds);
     return detail::answered(ended, holds != 0);
-}
-
-/// Returns how the subject and the clip lie to each other as they are given: nothing is rounded. Refused as `relate`
-/// is, but for `bad_option` and `not_settled`.
-template <class Coordinate>
-[[nodiscard]] returned<relations> relate_exact(polyover::fill fill, basic_contours<Coordinate> subject,
-                                               detail::contours_of<Coordinate> clip) {
-    polyover_relations bits = 0;
-    const polyover_status ended =
-        detail::width<Coordinate>::relate_exact(detail::number(fill), &subject.raw(), &clip.raw(), &bits);
-    return detail::answered(ended, relations(bits));
 }
 
 /// Writes where each point, x before y in `points`, lies in contours that are joined by exclusive or, to the first

@@ -55,7 +55,7 @@ def told(value: Any) -> str:
 
 
 def answer(call: str, given: list[Any], options: dict[str, Any]) -> str:
-    """What the library for C answers, or why it is refused. (Python's own `relate` asks at a finer scale.)"""
+    """What the library for C answers, or why it is refused. (Relations are those of the arrangement.)"""
     try:
         if call == "relate":
             found = by_library.relate(given[0], given[1], options["fill"], "snapped")

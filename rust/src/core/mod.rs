@@ -1,6 +1,7 @@
 //! Overlays, simplifying, relations, and location of points.
 
 pub mod answer;
+pub mod exact;
 pub mod extract;
 pub mod fill_rule;
 pub mod graph;

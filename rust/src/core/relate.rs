@@ -1,5 +1,6 @@
 //! How two shapes lie to each other.
 
+use crate::core::exact::Exactly;
 use crate::core::fill_rule::FillRule;
 use crate::core::integer::OverlayInt;
 use crate::core::overlay::ShapeType;
@@ -16,6 +17,13 @@ use crate::i_shape::source::int::resource::IntShapeResource;
 #[derive(Debug, Clone, Copy, PartialEq, Eq, Hash)]
 pub struct Relations {
     bits: u32,
+}
+
+impl Relations {
+    /// The relations with these bits.
+    pub(crate) const fn of(bits: u32) -> Self {
+        Self { bits }
+    }
 }
 
 /// Declares what each bit says.
@@ -53,8 +61,7 @@ impl Query for Related {
     type Answer = Relations;
 
     fn ask<E: Engine>(&self, first: Given<'_, E::C>, second: Given<'_, E::C>) -> Result<Relations, OverlayError> {
-        let bits = E::relate(self.0, self.1, first, second)?;
-        Ok(Relations { bits })
+        Ok(Relations::of(E::relate(self.0, self.1, first, second)?))
     }
 }
 
@@ -221,6 +228,11 @@ impl<I: OverlayInt> PredicateOverlay<I> {
             self.subject.as_given(),
             self.clip.as_given(),
         )
+    }
+
+    /// All relations at once of the contours as they are, under a fill rule.
+    pub(crate) fn try_exact_relations_with(&self, fill_rule: FillRule) -> Result<Relations, OverlayError> {
+        I::ask(&Exactly(fill_rule), self.subject.as_given(), self.clip.as_given())
     }
 
     /// Whether the relation with a bit holds, under a fill rule, by a solver.

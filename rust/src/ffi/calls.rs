@@ -105,6 +105,10 @@ pub(crate) trait Engine: 'static + Sized {
         clip: Given<'_, Self::C>,
     ) -> Result<bool, OverlayError>;
 
+    /// The bits of the relations that hold of the contours as they are.
+    fn relate_exact(fill: FillRule, subject: Given<'_, Self::C>, clip: Given<'_, Self::C>)
+        -> Result<u32, OverlayError>;
+
     /// Writes where points lie in resolved contours; there is a place for each point.
     fn locate(shape: Given<'_, Self::C>, points: &[Self::C], locations: &mut [u8]) -> Result<(), OverlayError>;
 
@@ -309,6 +313,13 @@ macro_rules! engine {
                 // SAFETY: as said above.
                 done(unsafe { sys::$width::relate_one(relation, fill, solver, &subject, &clip, &mut to) })?;
                 Ok(to == 1)
+            }
+
+            fn relate_exact(fill: FillRule, subject: Given<'_, $c>, clip: Given<'_, $c>) -> Result<u32, OverlayError> {
+                let (subject, clip, mut to) = (subject.raw(), clip.raw(), 0);
+                // SAFETY: as said above.
+                done(unsafe { sys::$width::relate_exact(fill.number(), &subject, &clip, &mut to) })?;
+                Ok(to)
             }
 
             fn locate(shape: Given<'_, $c>, points: &[$c], to: &mut [u8]) -> Result<(), OverlayError> {

@@ -214,6 +214,13 @@ macro_rules! calls {
                     clip: *const Contours<$c>,
                     holds: *mut u32,
                 ) -> Status;
+                #[link_name = concat!("polyover_relate_exact", $suffix)]
+                pub(crate) fn relate_exact(
+                    fill: u32,
+                    subject: *const Contours<$c>,
+                    clip: *const Contours<$c>,
+                    relations: *mut u32,
+                ) -> Status;
                 #[link_name = concat!("polyover_locate", $suffix)]
                 pub(crate) fn locate(
                     shape: *const Contours<$c>,

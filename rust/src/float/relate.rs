@@ -43,6 +43,12 @@ macro_rules! relations_of_floats {
             /// As of [`Self::try_relations_on`].
             fn try_relations(&self, other: &R) -> Result<Relations, OverlayError>;
 
+            /// All relations at once of the contours as that grid has them: no edge is moved.
+            ///
+            /// # Errors
+            /// As of [`Self::try_relations_on`].
+            fn try_exact_relations(&self, other: &R) -> Result<Relations, OverlayError>;
+
             $(
                 $(#[$doc])*
                 ///
@@ -65,6 +71,10 @@ macro_rules! relations_of_floats {
 
             fn try_relations(&self, other: &R1) -> Result<Relations, OverlayError> {
                 FloatPredicateOverlay::<P>::try_from_subj_and_clip(self, other)?.try_relations()
+            }
+
+            fn try_exact_relations(&self, other: &R1) -> Result<Relations, OverlayError> {
+                FloatPredicateOverlay::<P>::try_from_subj_and_clip(self, other)?.try_exact_relations()
             }
 
             $(
@@ -188,6 +198,14 @@ impl<P: FloatPointCompatible, I: OverlayInt> FloatPredicateOverlay<P, I> {
     /// As of [`PredicateOverlay::try_relations`].
     pub fn try_relations(&self) -> Result<Relations, OverlayError> {
         self.overlay.try_relations_with(self.fill_rule, self.solver)
+    }
+
+    /// All relations at once of the contours as the grid has them: no edge is moved, and `solver` plays no part.
+    ///
+    /// # Errors
+    /// As of [`PredicateOverlay::try_relations`].
+    pub fn try_exact_relations(&self) -> Result<Relations, OverlayError> {
+        self.overlay.try_exact_relations_with(self.fill_rule)
     }
 
     /// The grid of the contours.
