@@ -1,1 +1,2 @@
+pub mod OneTelling
 pub mod Told

@@ -1,14 +1,17 @@
 -- What bits tell of the arrays, and why none are told.
 use Rattle.std.proofs.Common.{◌≡◌, ◌<◌, ℕ, ℤ, false, List, inl, inr, refl, ap₂, subst}
+use Rattle.std.specs.Prelude.{Result, Ok, Err, MatchResult}
 use Rattle.overlay_geom.specs.Plane.{Point}
 use Rattle.overlay_geom.specs.Rules.{is_filled}
 use Rattle.overlay_geom.specs.declared.error.OverlayError.{OverlayError}
 use Rattle.overlay_geom.specs.declared.error.OverlayError.TheVariants as error
 use Rattle.overlay_geom.specs.declared.fill_rule.FillRule.{FillRule}
-use Rattle.overlay_builder.specs.GivenPaths.{added_paths, subject_and_clip}
-use Rattle.overlay_builder.specs.PathLists.{MayRefuseBuilder}
+use Rattle.overlay_builder.specs.GivenPaths.{GivenPath, added_paths, subject_and_clip}
+use Rattle.overlay_builder.specs.PathLists.{HoldsPaths, MayRefuseBuilder}
 use Rattle.overlay_relate.specs.declared.relations.Relations.{Relations}
-use Rattle.overlay_predicates.specs.ExactPaths.{AreExactOfPaths}
+use Rattle.overlay_predicates.specs.ExactBuilder.{ExactBuilder, empty_builder}
+use Rattle.overlay_predicates.specs.ExactQueries.{TellsRelations}
+use Rattle.overlay_predicates.proofs.ToldPaths.{told_of_made}
 use Rattle.polyover_calls.specs.declared.fault.Fault.{Fault}
 use Rattle.polyover_calls.proofs.Refusals.{unread, unanswered}
 use Rattle.polyover_calls.specs.Asked.{fill_of}
@@ -17,7 +20,17 @@ use Rattle.polyover_calls.specs.Related.{bits_of}
 use Rattle.polyover_calls.specs.Statuses.{status_of_fault, status_of_error}
 use Rattle.polyover_calls.specs.declared.status.Status.{Status}
 use Rattle.polyover_calls.specs.declared.status.Status.TheVariants.{Done}
-use Rattle.polyover_exact.specs.Exact.{AreExactBits, AreExactRefused, ExactlyRelatingEnds, IsUnknownFill}
+use Rattle.polyover_exact.specs.Exact.{AreExactBits, AreExactOfHeld, AreExactRefused, ExactlyRelatingEnds}
+use Rattle.polyover_exact.specs.Exact.{IsUnknownFill}
+
+-- a new builder that holds the paths tells of them, or memory is refused
+pub told_of_held : (fill : FillRule) (paths : List GivenPath) (b : ExactBuilder) (r : Result Relations OverlayError) →
+    HoldsPaths (added_paths false paths) b.edges → b ≡ record (empty_builder fill) { edges = b.edges } →
+    TellsRelations b r →
+    MatchResult r (AreExactOfHeld (is_filled fill) paths) (MayRefuseBuilder (added_paths false paths))
+told_of_held fill paths b (Ok r) holds made told =
+    record { content = b.edges; holds = holds; exact = told_of_made fill paths b (Ok r) holds made told }
+told_of_held fill paths b (Err e) holds made told = told_of_made fill paths b (Err e) holds made told
 
 module _ {I : Type 0} (whole : I → ℤ) (limit fill : ℕ) (subject clip : Contours I) where
   pub told_ends : (old new : ℕ) → AreExactBits whole limit fill subject clip new →
@@ -49,14 +62,14 @@ module _ {I : Type 0} (whole : I → ℤ) (limit fill : ℕ) (subject clip : Con
 
   pub bits_told : (f : FillRule) (p q : List (List Point)) (r : Relations) (bits : ℕ) → fill < 4 →
       AreGiven whole limit subject → AreGiven whole limit clip → f ≡ fill_of fill → p ≡ paths_of whole subject →
-      q ≡ paths_of whole clip → AreExactOfPaths (is_filled f) (subject_and_clip p q) r → bits ≡ bits_of r →
+      q ≡ paths_of whole clip → AreExactOfHeld (is_filled f) (subject_and_clip p q) r → bits ≡ bits_of r →
       AreExactBits whole limit fill subject clip bits
   bits_told f p q r bits known s c same_f same_p same_q hold same = record {
     known = known;
     subject_given = s;
     clip_given = c;
     relations = r;
-    hold = subst (λ y. AreExactOfPaths (is_filled y) (paths_given whole subject clip) r) same_f
-        (subst (λ paths. AreExactOfPaths (is_filled f) paths r) (ap₂ subject_and_clip same_p same_q) hold);
+    hold = subst (λ y. AreExactOfHeld (is_filled y) (paths_given whole subject clip) r) same_f
+        (subst (λ paths. AreExactOfHeld (is_filled f) paths r) (ap₂ subject_and_clip same_p same_q) hold);
     bits = same;
   }

@@ -1,8 +1,9 @@
 -- How a subject and a clip in arrays lie to each other, as they are given: bits, and refusals.
-use Rattle.std.specs.Prelude.{◌≡◌, ◌≤◌, ◌<◌, ◌⊎◌, ℕ, ℤ, false}
+use Rattle.std.specs.Prelude.{◌≡◌, ◌≤◌, ◌<◌, ◌⊎◌, ℕ, ℤ, Bool, false, List}
+use Rattle.overlay_builder.specs.GivenPaths.{GivenPath, added_paths}
+use Rattle.overlay_builder.specs.PathLists.{HoldsPaths, MayRefuseBuilder}
+use Rattle.overlay_geom.specs.Edges.{CountedEdge}
 use Rattle.overlay_geom.specs.Rules.{is_filled}
-use Rattle.overlay_builder.specs.GivenPaths.{added_paths}
-use Rattle.overlay_builder.specs.PathLists.{MayRefuseBuilder}
 use Rattle.overlay_relate.specs.declared.relations.Relations.{Relations}
 use Rattle.overlay_predicates.specs.ExactPaths.{AreExactOfPaths}
 use Rattle.polyover_calls.specs.Asked.{fill_of}
@@ -12,6 +13,12 @@ use Rattle.polyover_calls.specs.Related.{bits_of}
 use Rattle.polyover_calls.specs.declared.status.Status.{Status}
 use Rattle.polyover_calls.specs.declared.status.Status.TheVariants.{BadFill, Done}
 
+-- a builder can hold the paths, and each answer tells whether the relation holds of them as they are
+pub record AreExactOfHeld (filled : ℤ → Bool) (paths : List GivenPath) (r : Relations) : Type 0 where
+  pub content : List CountedEdge
+  pub holds : HoldsPaths (added_paths false paths) content
+  pub exact : AreExactOfPaths filled paths r
+
 -- the number of the fill rule is known, both are given, and the bits tell how the contours of both lie to each other
 -- under the fill rule, as they are given
 pub record AreExactBits {I : Type 0} (whole : I → ℤ) (limit fill : ℕ) (subject clip : Contours I)
@@ -20,7 +27,7 @@ pub record AreExactBits {I : Type 0} (whole : I → ℤ) (limit fill : ℕ) (sub
   pub subject_given : AreGiven whole limit subject
   pub clip_given : AreGiven whole limit clip
   pub relations : Relations
-  pub hold : AreExactOfPaths (is_filled (fill_of fill)) (paths_given whole subject clip) relations
+  pub hold : AreExactOfHeld (is_filled (fill_of fill)) (paths_given whole subject clip) relations
   pub bits : sum ≡ bits_of relations
 
 -- the number of the fill rule stands for nothing

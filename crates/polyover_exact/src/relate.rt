@@ -6,10 +6,9 @@ ghost use Rattle.overlay_geom.specs.Points.{AllInRange};
 ghost use Rattle.overlay_geom.specs.Rules.{bit, is_filled};
 ghost use Rattle.overlay_builder.specs.GivenPaths.{added_paths, subject_and_clip};
 ghost use Rattle.overlay_builder.specs.PathLists.{MayRefuseBuilder};
-ghost use Rattle.overlay_predicates.specs.ExactPaths.{AreExactOfPaths};
 ghost use Rattle.polyover_calls.specs.Given.{contours_of};
 ghost use Rattle.polyover_calls.specs.Related.{bits_of};
-ghost use Rattle.polyover_exact.specs.Exact.{AreExactBits, AreExactRefused, ExactlyRelatingEnds};
+ghost use Rattle.polyover_exact.specs.Exact.{AreExactBits, AreExactOfHeld, AreExactRefused, ExactlyRelatingEnds};
 
 use overlay_exact::exact_int::ExactInt;
 use overlay_geom::error::OverlayError;
@@ -79,7 +78,7 @@ fn relations_between<I: ExactInt>(
         (paths_in I.whole subject.now.points.items subject.now.ranges.items) }
     requires clip_in_range { All (AllInRange I.limit) (paths_in I.whole clip.now.points.items clip.now.ranges.items) }
     ensures { MatchResult result
-        (AreExactOfPaths (is_filled fill)
+        (AreExactOfHeld (is_filled fill)
         (subject_and_clip (paths_in I.whole subject.now.points.items subject.now.ranges.items)
         (paths_in I.whole clip.now.points.items clip.now.ranges.items)))
         (MayRefuseBuilder (added_paths false

@@ -1,7 +1,7 @@
 //! How two shapes lie to each other as they are added: nothing is rounded.
 //!
-//! A shape is here the closure of its interior, the points off its contours that the fill rule takes. Contours may
-//! cross, overlap and touch. [`relate`](crate::core::relate) tells the relations of an arrangement, as `i_overlay` does.
+//! A shape is here the closure of its interior, the points off its contours that the fill rule fills. Contours may
+//! cross, overlap and touch. [`relate`](crate::core::relate) tells relations of an arrangement, as `i_overlay` does.
 
 use crate::core::fill_rule::FillRule;
 use crate::core::integer::OverlayInt;
@@ -25,8 +25,8 @@ impl Query for Exactly {
     }
 }
 
-/// Contours of a subject and of a clip, to be asked how they lie to each other as they were added. Queries leave them as
-/// they are.
+/// Contours of a subject and of a clip, to be asked how they lie to each other as they were added. Queries leave them
+/// as they are.
 ///
 /// ```
 /// use polyover::core::exact::ExactPredicates;
