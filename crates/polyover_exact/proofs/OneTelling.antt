@@ -1,11 +1,10 @@
 -- Exact relations of arrays are told in one way: faults of arguments are apart, and what a builder can hold weighs too
 -- little to be refused.
-use Rattle.std.proofs.Common.{◌≡◌, ◌⊎◌, ◌≤◌, ◌<◌, ℕ, ℤ, false, List, [], refl, sym, ap, ◌∙◌, arith}
+use Rattle.std.proofs.Common.{◌≡◌, ◌<◌, ℕ, ℤ, false, List, [], sym, ap, ◌∙◌, arith}
 use Rattle.std.proofs.lemmas.List.Sorted.{IsPermutation-refl}
 use Rattle.overlay_geom.specs.Edges.{CountedEdge}
 use Rattle.overlay_geom.specs.Rules.{is_filled}
 use Rattle.overlay_geom.specs.declared.error.OverlayError.{OverlayError}
-use Rattle.overlay_geom.specs.declared.error.OverlayError.TheVariants as error
 use Rattle.overlay_builder.proofs.LightPaths.{not_all_added}
 use Rattle.overlay_builder.specs.GivenPaths.{added_paths}
 use Rattle.overlay_builder.specs.PathLists.{AddedPath, HoldsPaths, MayRefuseBuilder, SomePathWeighsTooMuch}
@@ -21,7 +20,7 @@ use Rattle.polyover_calls.specs.Related.{bits_of}
 use Rattle.polyover_calls.specs.declared.status.Status.{Status}
 use Rattle.polyover_calls.specs.declared.status.Status.TheVariants.{Done}
 use Rattle.polyover_exact.specs.Determined.{RelationsAreToldOnce}
-use Rattle.polyover_exact.specs.Exact.{AreExactBits, AreExactRefused, ExactlyRelatingEnds, IsUnknownFill}
+use Rattle.polyover_exact.specs.Exact.{AreExactBits, ExactlyRelatingEnds, IsUnknownFill}
 
 -- no path weighs too much among paths that a builder holds
 light : (paths : List (AddedPath CountedEdge)) (content : List CountedEdge) → HoldsPaths paths content →
