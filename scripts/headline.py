@@ -128,7 +128,7 @@ STD = {
 }
 TOP = """# The headline, whole
 
-Made by `scripts/headline.py --write`. The gate compares this page with the sources.
+Made by `scripts/headline.py --write`.
 
 The headline of [README](../README.md#what-is-guaranteed) is two clauses of the contract of `Overlay::overlay`. All that
 they cite of windings stands here, down to Rattle's library: each definition cites only those above it and that library.

@@ -66,21 +66,19 @@ FEW_WORDS = 12
 SENTENCES = re.compile(r"(?<=\.) (?=[A-Z])")
 TOP = """# Theorems
 
-Made by `scripts/theorems.py --write`. The gate compares this page with the sources.
+Made by `scripts/theorems.py --write`.
 
 A law is the contract of a function without a body, or whose body calls such laws alone. Here stands the first sentence
-of its comment, or the name alone where that says the law; `scripts/specs.py --contracts CRATE` prints all, with the
-contract and the names of its definitions in `specs`. The lemmas behind it stand in `proofs`: each file says its idea in
-its first line.
+of its comment, or the name alone where that says the law; `scripts/specs.py --contracts CRATE` prints the contracts.
 
-[DEFINITIONS](DEFINITIONS.md) has the words: balanced, settled, planar, snap, orbit, anchor, filled side and others. A
-*ruled* list is planar and balanced, with a rule on the two windings that does not hold of (0, 0).
+[DEFINITIONS](DEFINITIONS.md) has the words. A *ruled* list is planar and balanced, with a rule on the two windings that
+does not hold of (0, 0).
 """
 ONLY = """
 ## Each answer is the only one
 
-Two answers that meet one contract are equal, but for the cases at the end. Each law stands in the crate of its
-relation. Those by name alone say that two answers are equal, under the conditions that their definitions tell.
+Two answers that meet one contract are equal, but for the cases at the end. Laws by name alone say that two answers are
+equal, under the conditions that their definitions tell.
 """
 OPEN = """
 The contracts leave open:
