@@ -83,8 +83,8 @@ def made_move(chance, limit):
 
 def answered(width, fill, subject, clip):
     """The relations that the library tells at a width."""
-    name, kind, _ = width
-    call, told = getattr(library.library().functions, f"polyover_relate_exact{name}"), c_uint32()
+    ending, kind, _ = width
+    call, told = getattr(library.library().functions, f"polyover_relate_exact{ending}"), c_uint32()
     given = [
         library.Contours(array(kind, chain(*chain(*contours))), array(library.SIZES, accumulate(map(len, contours))))
         for contours in (subject, clip)
