@@ -1,70 +1,7 @@
 //! How two shapes meet, asked of merged edges, under each rule.
 
-use overlay_exact::exact_int::ExactInt;
-use overlay_geom::fill_rule::FillRule;
-use overlay_geom::point::IntPoint;
-use overlay_given::relations::find_contacts;
-use overlay_order::count::ShapeCountBoolean;
-use overlay_order::edge::CountedEdge;
-use std::alloc::{Allocator, Global};
-use std::process::Abort;
+use crate::asked::{APART, BESIDE, COVERING, IN_POINTS, assert_told};
 use std::test::Fail;
-
-// The ends of an edge, and the counts of the subject and of the clip.
-type Row = (i16, i16, i16, i16, i32, i32);
-
-// Whether both fill sides of some piece, whether they meet in single points alone, and whether interiors intersect.
-type Told = (bool, bool, bool);
-
-const APART: Told = (false, false, false);
-
-const IN_POINTS: Told = (false, true, false);
-
-const BESIDE: Told = (true, false, false);
-
-const INSIDE: Told = (true, false, true);
-
-fn told<I: ExactInt + From<i16>, A: Allocator + Clone>(
-    alloc: A,
-    rows: &[Row],
-    rule: FillRule,
-) -> Result<Told, Fail> {
-    let mut edges = Vec::new(alloc.clone()?);
-    for row in rows {
-        let (ax, ay, bx, by, subj, clip) = *row;
-        edges.push(CountedEdge {
-            a: IntPoint::new(I::from(ax), I::from(ay)),
-            b: IntPoint::new(I::from(bx), I::from(by)),
-            count: ShapeCountBoolean { subj, clip },
-        })?;
-    }
-    let found = find_contacts(alloc, &edges, rule)?;
-    Ok((
-        found.beside_piece,
-        found.in_points,
-        found.interiors.interiors_intersect,
-    ))
-}
-
-// Even-odd, non-zero, positive and negative filling, with coordinates of 32 and of 64 bits.
-fn assert_told(
-    rt: &impl Abort,
-    alloc: Global,
-    rows: &[Row],
-    wanted: [Told; 4],
-) -> Result<(), Fail> {
-    let rules = [
-        FillRule::EvenOdd,
-        FillRule::NonZero,
-        FillRule::Positive,
-        FillRule::Negative,
-    ];
-    for k in 0..4 {
-        assert!(rt; told::<i32, _>(alloc, rows, rules[k])? == wanted[k]);
-        assert!(rt; told::<i64, _>(alloc, rows, rules[k])? == wanted[k]);
-    }
-    Ok(())
-}
 
 // Two bow ties that each cross themselves in (4 / 3, 4 / 3). Each has a lobe of each direction.
 #[test]
@@ -159,5 +96,10 @@ fn a_corner_on_the_border_from_inside(rt: HostRuntime) -> Result<(), Fail> {
         (5, 5, 7, 3, 0, 1),
         (6, 5, 7, 3, 0, -1),
     ];
-    assert_told(&rt, rt.alloc(), &rows, [INSIDE, INSIDE, INSIDE, APART])
+    assert_told(
+        &rt,
+        rt.alloc(),
+        &rows,
+        [COVERING, COVERING, COVERING, APART],
+    )
 }

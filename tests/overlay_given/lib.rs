@@ -1,4 +1,5 @@
 //! Tests of `overlay_given`: relations of contours as given.
 
+mod asked;
 mod contacts;
 mod interiors;
