@@ -30,55 +30,40 @@ pub(crate) const APART: Relations = Relations {
 pub(crate) const CROSSING: Relations = Relations {
     intersects: true,
     interiors_intersect: true,
-    touches: false,
-    point_intersects: false,
-    within: false,
     disjoint: false,
-    covers: false,
+    ..APART
 };
 
 /// The subject within the clip.
 pub(crate) const WITHIN: Relations = Relations {
-    intersects: true,
-    interiors_intersect: true,
-    touches: false,
-    point_intersects: false,
     within: true,
-    disjoint: false,
-    covers: false,
+    ..CROSSING
+};
+
+/// The clip within the subject.
+pub(crate) const COVERING: Relations = Relations {
+    covers: true,
+    ..CROSSING
 };
 
 /// Both alike.
 pub(crate) const ALIKE: Relations = Relations {
-    intersects: true,
-    interiors_intersect: true,
-    touches: false,
-    point_intersects: false,
-    within: true,
-    disjoint: false,
     covers: true,
+    ..WITHIN
 };
 
 /// A common border.
 pub(crate) const TOUCHING: Relations = Relations {
     intersects: true,
-    interiors_intersect: false,
     touches: true,
-    point_intersects: false,
-    within: false,
     disjoint: false,
-    covers: false,
+    ..APART
 };
 
 /// Single common points.
 pub(crate) const IN_POINTS: Relations = Relations {
-    intersects: true,
-    interiors_intersect: false,
-    touches: true,
     point_intersects: true,
-    within: false,
-    disjoint: false,
-    covers: false,
+    ..TOUCHING
 };
 
 /// Returns the points, in range.
@@ -151,26 +136,25 @@ fn of_two<I: ExactInt>(
 }
 
 // Returns the relations of the two, of a new builder. They are the same one by one, and under EvenOdd in one call.
-fn relations<I: ExactInt + From<i16>>(
+fn relations<I: ExactInt>(
     rt: &impl Abort,
     alloc: Global,
-    subj: Contours<'_>,
-    clip: Contours<'_>,
+    subj: &IntShape<I, Global>,
+    clip: &IntShape<I, Global>,
     rule: FillRule,
 ) -> Result<Relations, Fail> {
-    let (subj, clip) = (shape::<I>(rt, alloc, subj)?, shape::<I>(rt, alloc, clip)?);
-    for contour in &subj {
+    for contour in subj {
         assert!(rt; in_range(contour));
     }
-    for contour in &clip {
+    for contour in clip {
         assert!(rt; in_range(contour));
     }
-    let predicates = ExactPredicates::from_subj_and_clip_custom(alloc, &subj, &clip, rule)?;
+    let predicates = ExactPredicates::from_subj_and_clip_custom(alloc, subj, clip, rule)?;
     let told = predicates.relations()?;
     assert!(rt; one_by_one(&predicates)? == told);
     if rule == FillRule::EvenOdd {
-        assert!(rt; subj.exact_relations(alloc, &clip)? == told);
-        assert!(rt; of_two(rt, alloc, &subj, &clip)? == told);
+        assert!(rt; subj.exact_relations(alloc, clip)? == told);
+        assert!(rt; of_two(rt, alloc, subj, clip)? == told);
     }
     Ok(told)
 }
@@ -184,27 +168,13 @@ fn exchanged(told: Relations) -> Relations {
     }
 }
 
-// Stops the test unless these are the relations, and those of the two exchanged.
-fn assert_both<I: ExactInt + From<i16>>(
+/// Stops the test unless these are the relations under EvenOdd, NonZero, Positive and Negative, and those of the two
+/// exchanged.
+pub(crate) fn assert_shapes<I: ExactInt>(
     rt: &impl Abort,
     alloc: Global,
-    subj: Contours<'_>,
-    clip: Contours<'_>,
-    rule: FillRule,
-    wanted: Relations,
-) -> Result<(), Fail> {
-    assert!(rt; relations::<I>(rt, alloc, subj, clip, rule)? == wanted);
-    assert!(rt; relations::<I>(rt, alloc, clip, subj, rule)? == exchanged(wanted));
-    Ok(())
-}
-
-/// Stops the test unless these are the relations under EvenOdd, NonZero, Positive and Negative, at each coordinate
-/// type.
-pub(crate) fn assert_told(
-    rt: &impl Abort,
-    alloc: Global,
-    subj: Contours<'_>,
-    clip: Contours<'_>,
+    subj: &IntShape<I, Global>,
+    clip: &IntShape<I, Global>,
     wanted: [Relations; 4],
 ) -> Result<(), Fail> {
     let rules = [
@@ -214,9 +184,33 @@ pub(crate) fn assert_told(
         FillRule::Negative,
     ];
     for k in 0..4 {
-        assert_both::<i16>(rt, alloc, subj, clip, rules[k], wanted[k])?;
-        assert_both::<i32>(rt, alloc, subj, clip, rules[k], wanted[k])?;
-        assert_both::<i64>(rt, alloc, subj, clip, rules[k], wanted[k])?;
+        assert!(rt; relations(rt, alloc, subj, clip, rules[k])? == wanted[k]);
+        assert!(rt; relations(rt, alloc, clip, subj, rules[k])? == exchanged(wanted[k]));
     }
     Ok(())
+}
+
+// Stops the test unless these are the relations at the coordinate type.
+fn assert_at<I: ExactInt + From<i16>>(
+    rt: &impl Abort,
+    alloc: Global,
+    subj: Contours<'_>,
+    clip: Contours<'_>,
+    wanted: [Relations; 4],
+) -> Result<(), Fail> {
+    let (subj, clip) = (shape::<I>(rt, alloc, subj)?, shape::<I>(rt, alloc, clip)?);
+    assert_shapes(rt, alloc, &subj, &clip, wanted)
+}
+
+/// Stops the test unless these are the relations under each rule, at each coordinate type.
+pub(crate) fn assert_told(
+    rt: &impl Abort,
+    alloc: Global,
+    subj: Contours<'_>,
+    clip: Contours<'_>,
+    wanted: [Relations; 4],
+) -> Result<(), Fail> {
+    assert_at::<i16>(rt, alloc, subj, clip, wanted)?;
+    assert_at::<i32>(rt, alloc, subj, clip, wanted)?;
+    assert_at::<i64>(rt, alloc, subj, clip, wanted)
 }

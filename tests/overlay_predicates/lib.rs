@@ -2,5 +2,7 @@
 
 mod asked;
 mod built;
+mod ends;
+mod fractions;
 mod refused;
 mod rows;
