@@ -75,6 +75,11 @@ pub(crate) const COVERING: Contacts = Contacts {
     ..BESIDE
 };
 
+/// The contacts under each rule of shapes that run counter-clockwise: Negative fills nothing of them.
+pub(crate) fn counter_clockwise(told: Contacts) -> [Contacts; 4] {
+    [told, told, told, APART]
+}
+
 // The contacts told of the edges, whose interiors are told alike by themselves.
 fn told<I: ExactInt + From<i16>, A: Allocator + Clone>(
     rt: &impl Abort,

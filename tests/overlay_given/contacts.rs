@@ -1,6 +1,6 @@
 //! How two shapes meet, asked of merged edges, under each rule.
 
-use crate::asked::{APART, BESIDE, COVERING, IN_POINTS, assert_told};
+use crate::asked::{APART, BESIDE, COVERING, IN_POINTS, assert_told, counter_clockwise};
 use std::test::Fail;
 
 // Two bow ties that each cross themselves in (4 / 3, 4 / 3). Each has a lobe of each direction.
@@ -58,12 +58,7 @@ fn a_corner_on_an_edge(rt: HostRuntime) -> Result<(), Fail> {
         (7, 3, 9, 0, 0, -1),
         (8, 0, 9, 0, 0, 1),
     ];
-    assert_told(
-        &rt,
-        rt.alloc(),
-        &rows,
-        [IN_POINTS, IN_POINTS, IN_POINTS, APART],
-    )
+    assert_told(&rt, rt.alloc(), &rows, counter_clockwise(IN_POINTS))
 }
 
 // An edge of the subject ends in (7, 3), and one of the clip leads on from there along its line.
@@ -77,12 +72,7 @@ fn edges_of_one_line_that_share_an_end(rt: HostRuntime) -> Result<(), Fail> {
         (7, 3, 14, 6, 0, -1),
         (14, 0, 14, 6, 0, 1),
     ];
-    assert_told(
-        &rt,
-        rt.alloc(),
-        &rows,
-        [IN_POINTS, IN_POINTS, IN_POINTS, APART],
-    )
+    assert_told(&rt, rt.alloc(), &rows, counter_clockwise(IN_POINTS))
 }
 
 // The clip lies in the subject, and its corner (7, 3) on the subject's border.
@@ -96,10 +86,5 @@ fn a_corner_on_the_border_from_inside(rt: HostRuntime) -> Result<(), Fail> {
         (5, 5, 7, 3, 0, 1),
         (6, 5, 7, 3, 0, -1),
     ];
-    assert_told(
-        &rt,
-        rt.alloc(),
-        &rows,
-        [COVERING, COVERING, COVERING, APART],
-    )
+    assert_told(&rt, rt.alloc(), &rows, counter_clockwise(COVERING))
 }

@@ -1,6 +1,6 @@
 //! Relations of interiors, asked of merged edges, under each rule.
 
-use crate::asked::{APART, CROSSING, WITHIN, assert_told};
+use crate::asked::{APART, CROSSING, WITHIN, assert_told, counter_clockwise};
 use std::test::Fail;
 
 // The clip (0, 0), (4, 5), (5, 6) runs clockwise, so positive filling fills nothing of it.
@@ -29,12 +29,7 @@ fn crossings_at_thirds(rt: HostRuntime) -> Result<(), Fail> {
         (3, 0, 3, 1, 0, 1),
         (3, 1, 3, 2, 1, 0),
     ];
-    assert_told(
-        &rt,
-        rt.alloc(),
-        &rows,
-        [CROSSING, CROSSING, CROSSING, APART],
-    )
+    assert_told(&rt, rt.alloc(), &rows, counter_clockwise(CROSSING))
 }
 
 // Three edges meet in (10 / 3, 0). The subject runs clockwise; of the clip one triangle runs clockwise.
@@ -71,7 +66,7 @@ fn a_sliver_within_a_sliver(rt: HostRuntime) -> Result<(), Fail> {
         (7, 4, 14, 6, -1, 0),
         (7, 4, 21, 9, 0, -1),
     ];
-    assert_told(&rt, rt.alloc(), &rows, [WITHIN, WITHIN, WITHIN, APART])
+    assert_told(&rt, rt.alloc(), &rows, counter_clockwise(WITHIN))
 }
 
 // Two squares with a common corner.
@@ -87,5 +82,5 @@ fn a_square_in_the_corner_of_another(rt: HostRuntime) -> Result<(), Fail> {
         (4, 0, 4, 4, 1, 0),
         (8, 0, 8, 8, 0, 1),
     ];
-    assert_told(&rt, rt.alloc(), &rows, [WITHIN, WITHIN, WITHIN, APART])
+    assert_told(&rt, rt.alloc(), &rows, counter_clockwise(WITHIN))
 }
