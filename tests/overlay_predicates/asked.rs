@@ -66,6 +66,11 @@ pub(crate) const IN_POINTS: Relations = Relations {
     ..TOUCHING
 };
 
+/// The relations under each rule of shapes that run counter-clockwise: Negative fills nothing of them.
+pub(crate) fn counter_clockwise(told: Relations) -> [Relations; 4] {
+    [told, told, told, APART]
+}
+
 /// Returns the points, in range.
 pub(crate) fn points<I: ExactInt + From<i16>>(
     rt: &impl Abort,

@@ -1,6 +1,6 @@
 //! Relations of contours that reach the ends of the coordinate range, at each coordinate type.
 
-use crate::asked::{APART, CROSSING, IN_POINTS, TOUCHING, WITHIN, assert_shapes};
+use crate::asked::{CROSSING, IN_POINTS, TOUCHING, WITHIN, assert_shapes, counter_clockwise};
 use overlay_exact::exact_int::ExactInt;
 use overlay_geom::path::IntShape;
 use overlay_geom::point::{IntPoint, in_range};
@@ -67,10 +67,10 @@ fn check<I: Wide>(rt: &impl Abort, alloc: Global) -> Result<(), Fail> {
     ];
     for (clip, wanted) in asked {
         let clip = shape_near(rt, alloc, &clip)?;
-        assert_shapes(rt, alloc, &half, &clip, [wanted, wanted, wanted, APART])?;
+        assert_shapes(rt, alloc, &half, &clip, counter_clockwise(wanted))?;
     }
     let whole = shape_near(rt, alloc, &[(-1, -1, 0), (1, -1, 0), (1, 1, 0), (-1, 1, 0)])?;
-    assert_shapes(rt, alloc, &half, &whole, [WITHIN, WITHIN, WITHIN, APART])
+    assert_shapes(rt, alloc, &half, &whole, counter_clockwise(WITHIN))
 }
 
 #[test]

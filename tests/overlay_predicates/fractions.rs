@@ -1,6 +1,6 @@
 //! Relations of worked rows whose edges meet in sevenths and thirds.
 
-use crate::asked::{APART, COVERING, CROSSING, IN_POINTS, assert_told};
+use crate::asked::{APART, COVERING, CROSSING, IN_POINTS, assert_told, counter_clockwise};
 use std::test::Fail;
 
 // The border y = 3x of the subject and the border y = 2 - 4x of the clip cross in (2/7, 6/7). Their common part is the
@@ -9,7 +9,7 @@ use std::test::Fail;
 fn crossings_at_sevenths(rt: HostRuntime) -> Result<(), Fail> {
     let subj = [[0, 0], [1, 3], [0, 3]];
     let clip = [[0, 2], [0, -2], [1, -2]];
-    let wanted = [CROSSING, CROSSING, CROSSING, APART];
+    let wanted = counter_clockwise(CROSSING);
     assert_told(&rt, rt.alloc(), &[&subj], &[&clip], wanted)
 }
 
@@ -42,7 +42,7 @@ fn three_edges_through_a_third(rt: HostRuntime) -> Result<(), Fail> {
 fn slivers_that_cross(rt: HostRuntime) -> Result<(), Fail> {
     let subj = [[0, 0], [2, 1], [1, 1]];
     let clip = [[1, 0], [2, 2], [1, 1]];
-    let wanted = [CROSSING, CROSSING, CROSSING, APART];
+    let wanted = counter_clockwise(CROSSING);
     assert_told(&rt, rt.alloc(), &[&subj], &[&clip], wanted)
 }
 
@@ -58,7 +58,7 @@ fn slivers_at_a_band(rt: HostRuntime) -> Result<(), Fail> {
         ([[6, 8], [6, 9], [5, 8]], APART),
     ];
     for (clip, wanted) in asked {
-        let wanted = [wanted, wanted, wanted, APART];
+        let wanted = counter_clockwise(wanted);
         assert_told(&rt, alloc, &[&band], &[&clip], wanted)?;
     }
     Ok(())

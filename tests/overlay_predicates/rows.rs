@@ -1,6 +1,8 @@
 //! Relations of worked rows. Where edges meet in points that are not whole, snap rounding tells otherwise of some.
 
-use crate::asked::{ALIKE, APART, CROSSING, IN_POINTS, TOUCHING, WITHIN, assert_told};
+use crate::asked::{
+    ALIKE, APART, CROSSING, IN_POINTS, TOUCHING, WITHIN, assert_told, counter_clockwise,
+};
 use std::test::Fail;
 
 const SQUARE: [[i16; 2]; 4] = [[0, 0], [4, 0], [4, 4], [0, 4]];
@@ -19,7 +21,7 @@ fn squares(rt: HostRuntime) -> Result<(), Fail> {
         (SQUARE, ALIKE),
     ];
     for (clip, wanted) in asked {
-        let wanted = [wanted, wanted, wanted, APART];
+        let wanted = counter_clockwise(wanted);
         assert_told(&rt, alloc, &[&SQUARE], &[&clip], wanted)?;
     }
     Ok(())
@@ -41,7 +43,7 @@ fn a_sliver_that_runs_clockwise(rt: HostRuntime) -> Result<(), Fail> {
 fn crossings_at_thirds(rt: HostRuntime) -> Result<(), Fail> {
     let subj = [[0, 0], [1, 2], [0, 2]];
     let clip = [[0, 1], [1, 0], [1, 1]];
-    let wanted = [CROSSING, CROSSING, CROSSING, APART];
+    let wanted = counter_clockwise(CROSSING);
     assert_told(&rt, rt.alloc(), &[&subj], &[&clip], wanted)
 }
 
@@ -61,7 +63,7 @@ fn bows_that_meet_in_a_third(rt: HostRuntime) -> Result<(), Fail> {
 fn slivers_on_both_sides_of_a_border(rt: HostRuntime) -> Result<(), Fail> {
     let subj = [[0, 0], [3, 1], [5, 2]];
     let clip = [[0, 0], [5, 2], [2, 1]];
-    let wanted = [TOUCHING, TOUCHING, TOUCHING, APART];
+    let wanted = counter_clockwise(TOUCHING);
     assert_told(&rt, rt.alloc(), &[&subj], &[&clip], wanted)
 }
 
@@ -70,7 +72,7 @@ fn slivers_on_both_sides_of_a_border(rt: HostRuntime) -> Result<(), Fail> {
 fn a_sliver_within_a_triangle(rt: HostRuntime) -> Result<(), Fail> {
     let subj = [[0, 0], [3, 1], [5, 2]];
     let clip = [[0, 0], [5, 0], [5, 2]];
-    let wanted = [WITHIN, WITHIN, WITHIN, APART];
+    let wanted = counter_clockwise(WITHIN);
     assert_told(&rt, rt.alloc(), &[&subj], &[&clip], wanted)
 }
 
@@ -80,10 +82,10 @@ fn gaps_within_half_a_unit(rt: HostRuntime) -> Result<(), Fail> {
     let alloc = rt.alloc();
     let subj = [[0, 0], [7, -5], [7, 3]];
     let apart = [[2, 1], [2, 5], [0, 5]];
-    let wanted = [APART, APART, APART, APART];
+    let wanted = [APART; 4];
     assert_told(&rt, alloc, &[&subj], &[&apart], wanted)?;
     let dipping = [[3, 1], [2, 5], [0, 5]];
-    let wanted = [CROSSING, CROSSING, CROSSING, APART];
+    let wanted = counter_clockwise(CROSSING);
     assert_told(&rt, alloc, &[&subj], &[&dipping], wanted)
 }
 
@@ -108,7 +110,7 @@ fn holes(rt: HostRuntime) -> Result<(), Fail> {
         ([[4, 4], [7, 4], [7, 5], [4, 5]], CROSSING),
     ];
     for (clip, wanted) in asked {
-        let wanted = [wanted, wanted, wanted, APART];
+        let wanted = counter_clockwise(wanted);
         assert_told(&rt, alloc, &[&outline, &hole], &[&clip], wanted)?;
     }
     Ok(())
