@@ -2,18 +2,19 @@
 the library is made of the proved module."""
 
 from .arrangement import Arrangement
-from .calls import backend, built, clip, edges, hierarchy, is_resolved, locate, overlay, relate, simplify, tiles
+from .calls import backend, built, clip, edges, hierarchy, is_resolved, locate, overlay, simplify, tiles
 from .calls import slice  # pylint: disable=redefined-builtin
 from .errors import BadInput, LibraryMissing, NotResolved, NotSettled, OutOfMemory, PolyoverError, ProgramMissing
 from .errors import PolyoverWarning, TooManyEdges
 from .flat import Flat, FlatFloats, FlatShapes
 from .prepared import Prepared
 from .reading import contours_of, lines_of
+from .relations import relate
 from .rules import covers, difference, disjoint, interiors_intersect, intersection, intersects, point_intersects
 from .rules import symmetric_difference, touches, union, union_all, within
 from .scaled import Scaled
 from .shapes import Paths, Shapes
-from .text import LOCATIONS, Fill, Rule, Solver
+from .text import LOCATIONS, Fill, RelationSolver, Rule, Solver
 
 __version__ = "0.2.0"
 
@@ -34,6 +35,7 @@ __all__ = [
     "PolyoverWarning",
     "Prepared",
     "ProgramMissing",
+    "RelationSolver",
     "Rule",
     "Scaled",
     "Shapes",

@@ -21,7 +21,7 @@ from .picture import WIDTH
 from .program import program
 from .running import run
 from .streams import told, write_all
-from .text import FILLS, RULES, SNAPPED, SOLVERS
+from .text import FILLS, RELATION_SOLVERS, RULES, SNAPPED, SOLVERS
 
 LEAST_WIDTH = 400
 # (objects between two collections)
@@ -102,7 +102,10 @@ def add_files(command: argparse.ArgumentParser, name: str) -> None:
     command.add_argument("--digits", type=digits_in, default=7, metavar="N", help=digits)
     fills = "which windings of rings count, as they run; else polygons cover what is in their outline and in no hole"
     command.add_argument("--fill", choices=list(FILLS), help=fills)
-    if name != "locate":
+    if name == "relate":
+        tells = "exact tells relations of the rings as they are, by the library (its default); others of an arrangement"
+        command.add_argument("--solver", choices=RELATION_SOLVERS, help=tells)
+    elif name != "locate":
         splits = "how edges are split: by snap rounding, which the library alone has, or in rounds (snapped)"
         command.add_argument("--solver", choices=SOLVERS, default=SNAPPED, help=splits)
     skips = "leave out, and count, rings of less than three points and lines of less than two"

@@ -12,7 +12,7 @@ from .flat import Flat, FlatShapes, address_of, parted
 from .grid import grid_lines
 from .library import ClipOptions, Held, HeldGraph, HeldShape, Library, Options, SliceOptions, Status, check
 from .library import library as found_library
-from .text import FILLS, RELATIONS, RULES, SOLVERS
+from .text import FILLS, RELATION_BITS, RULES, SOLVERS
 
 NAME, BUILT = "library", "polyover_built"
 RULE_NUMBERS = {name: number for number, name in enumerate(RULES)}
@@ -23,7 +23,7 @@ RESULTS = ("overlay", "hierarchy", "simplify", "edges", "clip", "slice")
 # the function of the library that each call takes
 TAKES = {
     **{name: f"polyover_{name}_result" for name in RESULTS},
-    **{name: f"polyover_{name}" for name in ("relate", "relate_one", "locate", "prepare", "arrange")},
+    **{name: f"polyover_{name}" for name in ("relate", "relate_one", "relate_exact", "locate", "prepare", "arrange")},
     "tiles": "polyover_slice_result",
     "slice_custom": "polyover_slice_custom_result",
     "is_resolved": "polyover_resolved",
@@ -131,19 +131,32 @@ def edges(subject: Any, clip: Any, fill: str, solver: str) -> list[Any]:
     return edges_in(asked.answer("polyover_edges_result", FILL_NUMBERS[fill], SOLVER_NUMBERS[solver], *both))
 
 
+def truths_of(bits: int) -> dict[str, bool]:
+    """The truth of each relation, which has a bit."""
+    return {name: bool(bits & bit) for name, bit in RELATION_BITS.items()}
+
+
 def relate(subject: Any, clip: Any, fill: str, solver: str) -> dict[str, bool]:
     """The truth of each relation."""
     asked, relations = library(), c_uint32()
     both = asked.contours(subject), asked.contours(clip)
     check(asked.call("polyover_relate", FILL_NUMBERS[fill], SOLVER_NUMBERS[solver], *both, relations))
-    return {name: bool(relations.value >> at & 1) for at, name in enumerate(RELATIONS)}
+    return truths_of(relations.value)
+
+
+def relate_exact(subject: Any, clip: Any, fill: str) -> dict[str, bool]:
+    """The truth of each relation of the contours as they are given."""
+    asked, relations = library(), c_uint32()
+    both = asked.contours(subject), asked.contours(clip)
+    check(asked.call("polyover_relate_exact", FILL_NUMBERS[fill], *both, relations))
+    return truths_of(relations.value)
 
 
 def relate_one(relation: str, subject: Any, clip: Any, fill: str, solver: str) -> bool:
     """Whether the relation with the name holds."""
     asked, holds = library(), c_uint32()
     both = asked.contours(subject), asked.contours(clip)
-    numbers = 1 << RELATIONS.index(relation), FILL_NUMBERS[fill], SOLVER_NUMBERS[solver]
+    numbers = RELATION_BITS[relation], FILL_NUMBERS[fill], SOLVER_NUMBERS[solver]
     check(asked.call("polyover_relate_one", *numbers, *both, holds))
     return holds.value == 1
 

@@ -2,14 +2,11 @@
 
 from __future__ import annotations
 
-import warnings
-from functools import partial
 from operator import index
-from typing import Any, Callable, Literal, NamedTuple, overload
+from typing import Any, Literal, NamedTuple, overload
 
 from . import by_library, by_program
-from .contour import WholePath, room_of, shifted
-from .errors import BadInput, LibraryMissing, NotSettled, PolyoverWarning
+from .errors import BadInput, LibraryMissing
 from .flat import Flat, FlatFloats, FlatShapes, whole_path
 from .geojson import is_geometry, points_of
 from .shapes import Paths, Shapes
@@ -17,8 +14,6 @@ from .text import FILLS, LOCATIONS, RULES, SNAPPED, SOLVERS, Fill, Rule, Solver,
 from .told import Told, counted
 
 AREA_LIMIT = 2**127 - 1
-# (by how many powers of two relations are told coarser where rounds do not settle)
-COARSER = 8
 NO_OPTIONS = (
     "no library whose slices have a direction and a minimum area, and the program has neither: "
     "the library of this version is in a release's wheel, or scripts/build or make -C c builds it"
@@ -277,56 +272,6 @@ def edges(
     solver = solver_of(solver)
     with placed(subject=subject, clip=clip):
         return list(asked("edges").edges(subject, clip, fill, solver))
-
-
-def whole_path_of(path: Any) -> WholePath:
-    """The points of a path as ints, in the range."""
-    return [(coordinate(x), coordinate(y)) for x, y in items_of(path)]
-
-
-def relations_as_given(subject: list[Any], clip: list[Any], fill: str, solver: str) -> dict[str, bool]:
-    """Returns which relations hold of the arrangement of the contours as they are."""
-    return dict(asked("relate").relate(subject, clip, fill, solver))
-
-
-def relation_as_given(relation: str, subject: list[Any], clip: list[Any], fill: str, solver: str) -> bool:
-    """Returns whether one relation holds of that arrangement."""
-    return bool(asked("relate_one").relate_one(relation, subject, clip, fill, solver))
-
-
-def relate(subject: Any, clip: Any, fill: Fill = "nonzero", *, solver: Solver = SNAPPED) -> dict[str, bool]:
-    """Returns which relations hold: a dictionary from the seven names to truths.
-
-    They hold of the arrangement of the coordinates times the greatest power of two that keeps them in the range. Its
-    chains stay within half a unit of that scale of their edges, for each round that moved a point. Where rounds do not
-    settle there, a smaller power is taken, with a warning; NotSettled comes where even 1 does not settle."""
-    return dict(told_finest(relations_as_given, subject, clip, fill, solver))
-
-
-def relate_one(relation: str, subject: Any, clip: Any, fill: Fill = "nonzero", *, solver: Solver = SNAPPED) -> bool:
-    """Returns whether the relation with the name holds, as `relate` tells it, in less time."""
-    return bool(told_finest(partial(relation_as_given, relation), subject, clip, fill, solver))
-
-
-def told_finest(told_as_given: Callable[..., Any], subject: Any, clip: Any, fill: Fill, solver: Solver) -> Any:
-    """Returns what is told of the contours at the finest scale in the range at which splitting settles."""
-    fill, subject, clip = known(FILLS, fill, "fill rule"), listed("subject", subject), listed("clip", clip)
-    solver = solver_of(solver)
-    with placed(subject=subject, clip=clip):
-        whole_points = [[whole_path_of(path) for path in paths] for paths in (subject, clip)]
-    finest = power = room_of([path for paths in whole_points for path in paths])
-    while True:
-        try:
-            told = told_as_given(shifted(whole_points[0], power), shifted(whole_points[1], power), fill, solver)
-        except NotSettled:
-            if power == 0:
-                raise
-            power = max(0, power - COARSER)
-            continue
-        if power < finest:
-            how = f"of coordinates times 2^{power}, since splitting did not settle at 2^{finest}"
-            warnings.warn(f"relations are those of the arrangement {how}", PolyoverWarning, stacklevel=3)
-        return told
 
 
 def clip(

@@ -16,6 +16,10 @@ ERROR = 2.0**-50
 LEAST = 1e-290
 
 
+# (of two widths how far from 0 numbers may be, and how near to a half, for floats to tell the nearest whole one surely)
+WIDTHS = ((4, 2.0**30 - 2, 0.5 - 2.0**-19), (8, 2.0**40, 0.5 - 2.0**-9))
+
+
 def numpy_for(count: int) -> Any:
     """NumPy, where it is there and pays for `count` points."""
     if count < FEW or "numpy" not in sys.modules and count < MANY:
@@ -115,3 +119,42 @@ def whole_row(axes: Sequence[Any], numbers: Sequence[float]) -> list[int]:
     row = [0] * len(numbers)
     row[0::2], row[1::2] = xs, ys
     return row
+
+
+class Columns:
+    """Floats in an array that are written as whole numbers, of 32 or 64 bits, to a place in an array of words."""
+
+    def __init__(self, floats: array[float], words: array[int], place: int) -> None:
+        self.numpy: Any = sys.modules["numpy"]
+        numpy = self.numpy
+        self.multiply, self.nearest, self.subtract = numpy.multiply, numpy.rint, numpy.subtract
+        whole = (numpy.frombuffer(words, kind, offset=8 * place) for kind in (numpy.int32, numpy.int64))
+        self.rows = (numpy.frombuffer(floats, numpy.float64), *numpy.empty((3, len(floats))), *whole)
+        # (of some counts the beginnings of the rows)
+        self.begun: dict[int, Any] = {}
+
+    def beginnings(self, count: int) -> Any:
+        """The first numbers of each row."""
+        if len(self.begun) > 255:
+            self.begun.clear()
+        found = self.begun[count] = tuple(row[:count] for row in self.rows)
+        return found
+
+    def write(self, axis: Any, count: int) -> int:
+        """Writes that many floats as an axis takes them; how many bytes each has, or 0 where floats do not tell surely,
+        and nothing is written."""
+        scale = axis.scale
+        if not scale or axis.start or not count:
+            return 0
+        given, found, near, lost, narrow, wide = self.begun.get(count) or self.beginnings(count)
+        low, high = scale * given.item(given.argmin()), scale * given.item(given.argmax())
+        for size, far, sure in WIDTHS:
+            if -far < low and high < far:
+                self.multiply(given, scale, found)
+                self.nearest(found, near)
+                self.subtract(found, near, lost)
+                if not (-sure < lost.item(lost.argmin()) and lost.item(lost.argmax()) < sure):
+                    return 0
+                (narrow if size == 4 else wide)[:] = near
+                return size
+        return 0

@@ -7,6 +7,7 @@ from typing import Any, Callable
 
 from . import calls
 from .program import BadLine
+from .relations import relations_as_given
 from .text import FILLS, LIMIT, ROUNDS, RULES, points_in, printed_path, printed_shapes
 
 KINDS = ("subject", "clip", "line", "point")
@@ -97,7 +98,7 @@ def printed_edges(figures: Figures, words: list[str]) -> str:
 
 def printed_relations(figures: Figures, words: list[str]) -> str:
     """The seven relations."""
-    told = calls.relations_as_given(figures["subject"], figures["clip"], NAMES[words[0]], ROUNDS)
+    told = relations_as_given(figures["subject"], figures["clip"], NAMES[words[0]], ROUNDS)
     return "".join(f"{name} {str(holds).lower()}\n" for name, holds in told.items())
 
 

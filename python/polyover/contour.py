@@ -72,19 +72,7 @@ def surplus_of(contours: Sequence[WholePath]) -> int:
 
 def room_of(contours: Sequence[WholePath]) -> int:
     """The greatest power of two by which coordinates in the range can be multiplied and stay in it; 0 for no points."""
-    return room_round(extent_of(contours))
-
-
-def room_in(row: Sequence[int]) -> int:
-    """The same of coordinates in a row. Raises ValueError where one is out of the range."""
-    extent = max(max(row), -min(row)) if row else 0
-    if extent > LIMIT:
-        raise ValueError
-    return room_round(extent)
-
-
-def room_round(extent: int) -> int:
-    """The same of coordinates that are that far from 0 at most."""
+    extent = extent_of(contours)
     return (LIMIT // extent).bit_length() - 1 if extent else 0
 
 

@@ -204,6 +204,7 @@ FUNCTIONS = {
     "polyover_free": (RESULT,),
     "polyover_relate": (*TWO, POINTER(c_uint32)),
     "polyover_relate_one": (c_uint32, *TWO, POINTER(c_uint32)),
+    "polyover_relate_exact": (c_uint32, CONTOURS, CONTOURS, POINTER(c_uint32)),
     "polyover_resolved": (CONTOURS,),
     "polyover_locate": (CONTOURS, *ARRAY, *ARRAY, POINTER(c_size_t)),
     "polyover_prepare": (c_uint32, c_uint32, CONTOURS, PREPARED),
@@ -216,8 +217,12 @@ FUNCTIONS = {
     "polyover_graph_free": (GRAPH,),
 }
 FREES = {"polyover_free", "polyover_prepared_free", "polyover_graph_free"}
-# (of small calls)
-FRAMED = ("polyover_resolved", "polyover_overlay", "polyover_relate", "polyover_relate_one")
+# (of small calls, which take the addresses of structs and arrays)
+FRAMED = {
+    "polyover_resolved": (c_void_p,),
+    "polyover_overlay": (c_uint32, c_uint32, *(c_void_p,) * 3, *(c_void_p, c_size_t) * 3, c_void_p),
+    "polyover_relate_exact": (c_uint32, *(c_void_p,) * 3),
+}
 
 
 def coordinates_of(points: Any) -> list[Any]:
@@ -257,7 +262,17 @@ class Library:
             function.argtypes, function.restype = FUNCTIONS[name], None if name in FREES else c_uint32
         # arrays of small calls that are not at work, and whether such calls can be asked
         self.frames: list[Any] = []
-        self.has_frames = SIZES == "Q" and all(hasattr(self.functions, name) for name in FRAMED)
+        names = [f"{name}{width}" for name in FRAMED for width in ("", "_32")]
+        self.has_frames = SIZES == "Q" and all(hasattr(self.functions, name) for name in names)
+
+    def framed(self, width: str) -> list[Any]:
+        """The functions of small calls at a width."""
+        found = []
+        for name, takes in FRAMED.items():
+            function = self.functions[name + width]
+            function.argtypes, function.restype = takes, c_uint32
+            found.append(function)
+        return found
 
     def numbers(self, given: list[Any]) -> Any:
         """An array of coordinates, which are whole numbers."""

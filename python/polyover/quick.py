@@ -5,7 +5,7 @@ from __future__ import annotations
 
 import sys
 from array import array
-from ctypes import addressof, c_size_t, c_void_p, string_at
+from ctypes import addressof, c_byte, c_int, c_size_t, c_void_p, string_at
 from functools import lru_cache
 from itertools import chain
 from operator import attrgetter, mul
@@ -32,6 +32,12 @@ WRITERS: list[Writer] = []
 def is_of_shapely(kind: Any) -> bool:
     """Whether a type is one of shapely's polygons."""
     return kind.__module__.startswith("shapely.") and kind.__name__ in ("Polygon", "MultiPolygon")
+
+
+@lru_cache(maxsize=256)
+def is_polygon(kind: Any) -> bool:
+    """Whether a type is that of shapely's polygons."""
+    return is_of_shapely(kind) and kind.__name__ == "Polygon"
 
 
 def new_writer() -> Writer:
@@ -73,6 +79,56 @@ def bytes_of(thing: Any) -> bytes:
     found = write(thing)
     WRITERS.append(write)
     return found
+
+
+# ---- rings of shapely 1.8, by GEOS itself
+
+# what writes the coordinates of a ring, once it is looked for
+COPIERS: list[Callable[[Any, int, int], int]] = []
+
+
+def no_copier(*_: Any) -> int:
+    """Writes nothing: there is no shapely 1.8, or its GEOS is older than 3.10."""
+    return 0
+
+
+def new_copier() -> Callable[[Any, int, int], int]:
+    """What writes the coordinates of the ring of a polygon of shapely 1.8 to an address."""
+    geos: Any = sys.modules.get("shapely.geos")
+    local: Any = getattr(geos, "lgeos", None)
+    loaded: Any = getattr(local, "_lgeos", None)
+    if not hasattr(loaded, "GEOSCoordSeq_copyToBuffer_r"):
+        return no_copier
+
+    def function(name: str, answers: Any, *more: Any) -> Any:
+        found = loaded[f"{name}_r"]
+        found.argtypes, found.restype = (c_void_p, c_void_p, *more), answers
+        return found
+
+    outline, sequence = function("GEOSGetExteriorRing", c_void_p), function("GEOSGeom_getCoordSeq", c_void_p)
+    count, holes = function("GEOSGetNumCoordinates", c_int), function("GEOSGetNumInteriorRings", c_int)
+    is_high, copy = function("GEOSHasZ", c_byte), function("GEOSCoordSeq_copyToBuffer", c_int, c_void_p, c_int, c_int)
+
+    def copied(thing: Any, place: int, room: int) -> int:
+        # (the handle is one of this thread)
+        handle, asked = local.geos_handle, thing._geom
+        points: int = count(handle, asked) if asked else 0
+        if not 3 < points <= room or holes(handle, asked) or is_high(handle, asked):
+            return 0
+        return points - 1 if copy(handle, sequence(handle, outline(handle, asked)), place, 0, 0) else 0
+
+    return copied
+
+
+def ring_into(thing: Any, place: int, room: int) -> int:
+    """Writes the coordinates of a polygon of one ring of shapely 1.8, x before y, to an address, where there is room
+    for some points; how many points there are without the first one again at the end, or 0 where it is not taken."""
+    kind: Any = type(thing)
+    if not is_polygon(kind):
+        return 0
+    if not COPIERS:
+        COPIERS.append(new_copier())
+    return COPIERS[0](thing, place, room)
 
 
 # ---- rings

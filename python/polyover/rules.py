@@ -5,10 +5,11 @@ from __future__ import annotations
 
 from typing import Any, Iterable
 
-from .calls import overlay, relate_one
+from .calls import overlay
 from .geojson import is_geometry
 from .progress import faults_of
-from .text import SNAPPED, Fill, Solver
+from .relations import relate_one
+from .text import SNAPPED, Fill, RelationSolver, Solver
 
 # ---- overlays
 
@@ -91,36 +92,38 @@ def listed_groups(groups: Any) -> list[Any]:
 # ---- relations
 
 
-def intersects(subject: Any, clip: Any, fill: Fill = "nonzero", *, solver: Solver = SNAPPED) -> bool:
+def intersects(subject: Any, clip: Any, fill: Fill = "nonzero", *, solver: RelationSolver | None = None) -> bool:
     """Returns whether some point is in both closed regions."""
     return relate_one("intersects", subject, clip, fill, solver=solver)
 
 
-def interiors_intersect(subject: Any, clip: Any, fill: Fill = "nonzero", *, solver: Solver = SNAPPED) -> bool:
+def interiors_intersect(
+    subject: Any, clip: Any, fill: Fill = "nonzero", *, solver: RelationSolver | None = None
+) -> bool:
     """Returns whether some point off the edges is filled by both."""
     return relate_one("interiors_intersect", subject, clip, fill, solver=solver)
 
 
-def touches(subject: Any, clip: Any, fill: Fill = "nonzero", *, solver: Solver = SNAPPED) -> bool:
+def touches(subject: Any, clip: Any, fill: Fill = "nonzero", *, solver: RelationSolver | None = None) -> bool:
     """Returns whether they intersect, and no point off the edges is filled by both."""
     return relate_one("touches", subject, clip, fill, solver=solver)
 
 
-def point_intersects(subject: Any, clip: Any, fill: Fill = "nonzero", *, solver: Solver = SNAPPED) -> bool:
+def point_intersects(subject: Any, clip: Any, fill: Fill = "nonzero", *, solver: RelationSolver | None = None) -> bool:
     """Returns whether they meet in single points alone."""
     return relate_one("point_intersects", subject, clip, fill, solver=solver)
 
 
-def within(subject: Any, clip: Any, fill: Fill = "nonzero", *, solver: Solver = SNAPPED) -> bool:
+def within(subject: Any, clip: Any, fill: Fill = "nonzero", *, solver: RelationSolver | None = None) -> bool:
     """Returns whether the subject fills some point off the edges, and the clip fills each such point."""
     return relate_one("within", subject, clip, fill, solver=solver)
 
 
-def disjoint(subject: Any, clip: Any, fill: Fill = "nonzero", *, solver: Solver = SNAPPED) -> bool:
+def disjoint(subject: Any, clip: Any, fill: Fill = "nonzero", *, solver: RelationSolver | None = None) -> bool:
     """Returns whether they do not intersect."""
     return relate_one("disjoint", subject, clip, fill, solver=solver)
 
 
-def covers(subject: Any, clip: Any, fill: Fill = "nonzero", *, solver: Solver = SNAPPED) -> bool:
+def covers(subject: Any, clip: Any, fill: Fill = "nonzero", *, solver: RelationSolver | None = None) -> bool:
     """Returns whether the clip lies within the subject."""
     return relate_one("covers", subject, clip, fill, solver=solver)

@@ -4,7 +4,7 @@ from __future__ import annotations
 
 from typing import Any
 
-from .text import SNAPPED, Fill, Rule, Solver
+from .text import SNAPPED, Fill, RelationSolver, Rule, Solver
 
 Group = Any
 
@@ -26,7 +26,9 @@ class RulesAtScale:
         """As `polyover.overlay`."""
         raise NotImplementedError
 
-    def _relate_one(self, relation: str, subject: Group, clip: Group, fill: Fill, solver: Solver) -> bool:
+    def _relate_one(
+        self, relation: str, subject: Group, clip: Group, fill: Fill, solver: RelationSolver | None
+    ) -> bool:
         """Returns whether the relation with the name holds, as `relate` tells it."""
         raise NotImplementedError
 
@@ -82,34 +84,44 @@ class RulesAtScale:
         """Returns the shapes round what exactly one of them fills: `overlay` with the rule xor."""
         return self.overlay(subject, clip, "xor", fill, minimum_area=minimum_area, solver=solver, **look)
 
-    def intersects(self, subject: Group, clip: Group, fill: Fill = "nonzero", *, solver: Solver = SNAPPED) -> bool:
+    def intersects(
+        self, subject: Group, clip: Group, fill: Fill = "nonzero", *, solver: RelationSolver | None = None
+    ) -> bool:
         """Returns whether some point is in both closed regions."""
         return self._relate_one("intersects", subject, clip, fill, solver)
 
     def interiors_intersect(
-        self, subject: Group, clip: Group, fill: Fill = "nonzero", *, solver: Solver = SNAPPED
+        self, subject: Group, clip: Group, fill: Fill = "nonzero", *, solver: RelationSolver | None = None
     ) -> bool:
         """Returns whether some point off the edges is filled by both."""
         return self._relate_one("interiors_intersect", subject, clip, fill, solver)
 
-    def touches(self, subject: Group, clip: Group, fill: Fill = "nonzero", *, solver: Solver = SNAPPED) -> bool:
+    def touches(
+        self, subject: Group, clip: Group, fill: Fill = "nonzero", *, solver: RelationSolver | None = None
+    ) -> bool:
         """Returns whether they intersect, and no point off the edges is filled by both."""
         return self._relate_one("touches", subject, clip, fill, solver)
 
     def point_intersects(
-        self, subject: Group, clip: Group, fill: Fill = "nonzero", *, solver: Solver = SNAPPED
+        self, subject: Group, clip: Group, fill: Fill = "nonzero", *, solver: RelationSolver | None = None
     ) -> bool:
         """Returns whether they meet in single points alone."""
         return self._relate_one("point_intersects", subject, clip, fill, solver)
 
-    def within(self, subject: Group, clip: Group, fill: Fill = "nonzero", *, solver: Solver = SNAPPED) -> bool:
+    def within(
+        self, subject: Group, clip: Group, fill: Fill = "nonzero", *, solver: RelationSolver | None = None
+    ) -> bool:
         """Returns whether the subject fills some point off the edges, and the clip fills each such point."""
         return self._relate_one("within", subject, clip, fill, solver)
 
-    def disjoint(self, subject: Group, clip: Group, fill: Fill = "nonzero", *, solver: Solver = SNAPPED) -> bool:
+    def disjoint(
+        self, subject: Group, clip: Group, fill: Fill = "nonzero", *, solver: RelationSolver | None = None
+    ) -> bool:
         """Returns whether they do not intersect."""
         return self._relate_one("disjoint", subject, clip, fill, solver)
 
-    def covers(self, subject: Group, clip: Group, fill: Fill = "nonzero", *, solver: Solver = SNAPPED) -> bool:
+    def covers(
+        self, subject: Group, clip: Group, fill: Fill = "nonzero", *, solver: RelationSolver | None = None
+    ) -> bool:
         """Returns whether the clip lies within the subject."""
         return self._relate_one("covers", subject, clip, fill, solver)

@@ -9,7 +9,7 @@ from math import ceil
 from operator import sub
 from typing import Any, Callable, Iterable, Sequence
 
-from . import calls, quick, small
+from . import calls, quick, relations, small
 from .columns import ERROR, EXACT, LEAST, row_of_points, whole_points
 from .contour import Row, WholePath, WholePoint, points_in, row_of
 from .errors import BadInput
@@ -23,7 +23,7 @@ from .reading import Lines, Polygons, lines_in, polygons_in
 from .rules import listed_groups
 from .rules_at_scale import Group, RulesAtScale
 from .shapes import Paths, Shapes
-from .text import SNAPPED, Fill, Rule, Solver, items_of
+from .text import AS_GIVEN, FILLS, RELATION_BITS, SNAPPED, Fill, RelationSolver, Rule, Solver, items_of, known
 from .told import Told
 
 # (ties go to the even number)
@@ -284,7 +284,7 @@ class Scaled(RulesAtScale):
     ) -> Any:
         """As `polyover.overlay`; the minimum area is in squares of the floats' unit."""
         if type(minimum_area) is int and not (minimum_area or arrays or look) and solver == SNAPPED:
-            found = small.overlay(library(), self.axes, (subject, clip), rule, fill)
+            found = small.overlay(library(), self.axes, subject, clip, rule, fill)
             if found is not None:
                 return found
         both, area = self._both(subject, clip, fill, solver), self.area(minimum_area)
@@ -346,20 +346,33 @@ class Scaled(RulesAtScale):
         return self.filled(calls.edges(*self._both(subject, clip, fill, solver, True), fill, solver=solver))
 
     def relate(
-        self, subject: Group, clip: Group, fill: Fill = "nonzero", *, solver: Solver = SNAPPED
+        self, subject: Group, clip: Group, fill: Fill = "nonzero", *, solver: RelationSolver | None = None
     ) -> dict[str, bool]:
         """As `polyover.relate`, of the coordinates as they are taken at this scale."""
-        found = small.relate(library(), self.axes, (subject, clip), fill) if solver == SNAPPED else None
-        if found is not None:
-            return found  # type: ignore[no-any-return]
-        return calls.relate(*self._both(subject, clip, fill, solver), fill, solver=solver)
+        if solver is None or solver == AS_GIVEN:
+            found = small.relations(library(), self.axes, subject, clip, fill)
+            if found is not None:
+                return {name: bool(found & bit) for name, bit in RELATION_BITS.items()}
+        return relations.relate(*self._related(subject, clip, fill, solver), solver=solver)
 
-    def _relate_one(self, relation: str, subject: Group, clip: Group, fill: Fill, solver: Solver) -> bool:
-        given = library(), self.axes, (subject, clip), fill
-        found = small.relate_one(relation, *given) if solver == SNAPPED else None
-        if found is not None:
-            return found  # type: ignore[no-any-return]
-        return calls.relate_one(relation, *self._both(subject, clip, fill, solver), fill, solver=solver)
+    def _relate_one(
+        self, relation: str, subject: Group, clip: Group, fill: Fill, solver: RelationSolver | None
+    ) -> bool:
+        if solver is None or solver == AS_GIVEN:
+            found = small.relations(library(), self.axes, subject, clip, fill)
+            if found is not None:
+                return bool(found & RELATION_BITS[relation])
+        return relations.relate_one(relation, *self._related(subject, clip, fill, solver), solver=solver)
+
+    def _related(
+        self, subject: Group, clip: Group, fill: Fill, solver: RelationSolver | None
+    ) -> tuple[Any, Any, Fill]:
+        """The contours of two groups, and the fill rule under which their relations are told. Where nothing is rounded,
+        and both are geometries, that is nonzero: it fills what these cover without joining their polygons."""
+        fill = known(FILLS, fill, "fill rule")
+        if relations.is_exact(solver) and covers(subject) and covers(clip):
+            fill = "nonzero"
+        return *self._both(subject, clip, fill, relations.splitting(solver)), fill
 
     def clip(
         self, shape: Group, lines: Group, fill: Fill = "nonzero", *, solver: Solver = SNAPPED, **options: bool
@@ -445,11 +458,21 @@ def fraction_of(value: Any, what: str) -> Fraction:
         raise BadInput(f"{what} {value!r} is no finite number") from None
 
 
+def covers(group: Group) -> bool:
+    """Whether what was given for contours means what polygons cover, whatever the fill rule."""
+    return not group.is_raw if isinstance(group, Polygons) else is_of_geometry(group)
+
+
+def is_of_geometry(group: Group) -> bool:
+    """Whether what was given for paths is a geometry, and no answer of a call."""
+    return is_geometry(group) and not isinstance(group, (Paths, Flat))
+
+
 def taken(name: str, group: Group) -> Group:
     """What was given for a group of paths: polygons or lines that are read, or lists of points of two numbers."""
     if isinstance(group, (Polygons, Lines, FlatFloats)):
         return group
-    if is_geometry(group) and not isinstance(group, (Paths, Flat)):
+    if is_of_geometry(group):
         return lines_in(group) if name == "lines" else polygons_in(group)
     told = Told()
     paths = calls.listed(name, group, told)

@@ -6,22 +6,20 @@ call does not end well, there is no answer here: then it is asked as all others 
 
 from __future__ import annotations
 
+import sys
 from array import array
-from ctypes import c_size_t, c_uint32, c_void_p
 from functools import lru_cache
 from itertools import chain
 from struct import Struct
 from struct import error as StructError
-from typing import Any, Callable, Sequence
+from typing import Any, Sequence
 
-from .columns import whole_row
-from .contour import room_in
+from .columns import Columns, whole_row
 from .flat import parted
 from .geojson import LISTS, NUMBERS
 from .library import Library
-from .quick import ring_of
+from .quick import ring_into, ring_of
 from .shapes import Paths, Shapes
-from .text import RELATIONS
 
 WORD = 8
 # (how many numbers there is room for, given and answered, and how many contours)
@@ -37,84 +35,158 @@ HEAD = Struct("12q")
 RULES = {"subject": 0, "clip": 1, "intersect": 2, "union": 3, "difference": 4, "inverse_difference": 5, "xor": 6}
 # (a ring fills the same by these, whichever way it runs)
 FILLS = {"evenodd": 0, "nonzero": 1}
-SNAPPED = 0
-TAKES = {
-    "polyover_resolved": (c_void_p,),
-    "polyover_overlay": (c_uint32, c_uint32, *(c_void_p,) * 3, *(c_void_p, c_size_t) * 3, c_void_p),
-    "polyover_relate": (c_uint32, c_uint32, *(c_void_p,) * 3),
-    "polyover_relate_one": (*(c_uint32,) * 3, *(c_void_p,) * 3),
-}
-# a group: its coordinates in a row, how many points there are up to the end of each contour, whether it is a geometry
-Rows = tuple[Sequence[float], list[int], bool]
+# (how far from 0 coordinates of 32 bits are at most)
+NARROW = 2**30 - 1
 
 
 @lru_cache(maxsize=256)
-def words_of(count: int) -> Struct:
-    """That many whole numbers of 64 bits."""
-    return Struct(f"{count}q")
+def words_of(count: int, kind: str) -> Struct:
+    """That many whole numbers of a kind."""
+    return Struct(f"{count}{kind}")
+
+
+class Width:
+    """The calls of a library at 64 bits, or at 32, and the coordinates that they take and give."""
+
+    def __init__(self, asked: Library, words: memoryview, kind: str) -> None:
+        self.kind, self.size = kind, words.cast("B").cast(kind).itemsize
+        self.resolved, self.overlay, self.relate = asked.framed("" if kind == "q" else "_32")
+        self.numbers, self.start = words.cast("B").cast(kind), WORD * COORDINATES // self.size
+        self.answer = WORD * ANSWER // self.size
+
+
+# a group: how many numbers stand up to its end, and how many points up to the end of each of its contours; whether it is
+# a geometry; and its coordinates, where they do not stand in the array of floats yet
+Given = tuple[int, "list[int]", bool, "Sequence[float] | None"]
+
+
+def listed(group: Any, at: int) -> Given | None:
+    """A list of contours, if it is plain, whose coordinates are to begin at a place."""
+    row: list[float] = []
+    ends = []
+    for path in group:
+        if type(path) not in LISTS or set(map(len, path)) != {2}:
+            return None
+        row += chain.from_iterable(path)
+        ends.append(len(row) // 2)
+    return (at + len(row), ends, False, row) if set(map(type, row)) <= NUMBERS else None
 
 
 class Frame:
-    """The array, and the calls of a library that it is passed to."""
+    """The arrays, and the calls of a library that they are passed to."""
 
     def __init__(self, asked: Library) -> None:
-        self.words = array("q", bytes(WORD * WORDS))
-        self.base = self.words.buffer_info()[0]
-        self.coordinates, self.ends = self.at(COORDINATES), self.at(ENDS)
-        calls = []
-        for name, takes in TAKES.items():
-            call = asked.functions[name]
-            call.argtypes, call.restype = takes, c_uint32
-            calls.append(call)
-        self.resolved, self.overlay, self.relate, self.relate_one = calls
+        self.words, self.floats = array("q", bytes(WORD * WORDS)), array("d", bytes(WORD * GIVEN))
+        self.base, self.floats_at = self.words.buffer_info()[0], self.floats.buffer_info()[0]
+        self.wide, self.narrow = (Width(asked, memoryview(self.words), kind) for kind in "qi")
+        self.columns: Columns | None = None
+        # (of which groups the first words tell)
+        self.written: tuple[int, ...] = ()
         rooms = (ANSWER, ANSWERED), (CONTOUR_ENDS, CONTOURS), (SHAPE_ENDS, CONTOURS)
         answer = [number for place, room in rooms for number in (self.at(place), room)]
-        self.both, self.counts = (self.base, self.at(CLIP)), self.at(COUNTS)
+        self.clip, self.both, self.counts = map(self.at, (CLIP, BOTH, COUNTS))
         # (without options the default ones are taken)
-        self.passed = (None, *self.both, *answer, self.counts)
+        self.passed = (None, self.base, self.clip, *answer, self.counts)
 
     def at(self, word: int) -> int:
         """The address of a word."""
         return self.base + WORD * word
 
-    def are_given(self, row: list[int], subject: Rows, clip: Rows) -> bool:
-        """Writes two groups, whose coordinates are in a row; whether the rings of geometries are simple."""
-        words, coordinates, ends = self.words, self.coordinates, self.ends
-        given, count = len(subject[0]), len(subject[1])
-        clip_at, both_at = ends + WORD * count, ends + WORD * (count + len(clip[1]))
-        marks = [*subject[1], *clip[1], given // 2, len(row) // 2]
-        groups = given, ends, count, coordinates + WORD * given, len(clip[0]), clip_at, len(clip[1])
-        HEAD.pack_into(words, 0, coordinates, *groups, coordinates, len(row), both_at, 2)
-        words_of(len(marks)).pack_into(words, WORD * ENDS, *marks)
-        words_of(len(row)).pack_into(words, WORD * COORDINATES, *row)
-        if subject[2]:
-            return not self.resolved(self.at(BOTH) if clip[2] else self.base)
-        return not clip[2] or not self.resolved(self.at(CLIP))
+    # ---- what is given
 
-    def shapes(self, rule: int, fill: int, axes: Sequence[Any]) -> Shapes | None:
-        """The shapes of the overlay of what was written, if the call ends well."""
-        words = self.words
-        if self.overlay(rule, fill, *self.passed):
+    def group(self, group: Any, at: int) -> Given | None:
+        """A group as it is taken here, if it is; a ring of shapely's is read to its place in the array of floats."""
+        if type(group) in LISTS:
+            return listed(group, at)
+        points = ring_into(group, self.floats_at + WORD * at, (GIVEN - at) // 2)
+        if points:
+            return at + 2 * points, [points], True, None
+        ring = ring_of(group)
+        return None if ring is None else (at + len(ring), [len(ring) // 2], True, ring)
+
+    def whole(self, axes: Sequence[Any], one: Given, other: Given) -> Width:
+        """Writes the whole coordinates of two groups; at which width they stand."""
+        floats, start, end = self.floats, one[0], other[0]
+        if axes[0] is axes[1] and "numpy" in sys.modules:
+            if one[3]:
+                floats[:start] = array("d", one[3])
+            if other[3]:
+                floats[start:end] = array("d", other[3])
+            if self.columns is None:
+                self.columns = Columns(floats, self.words, COORDINATES)
+            size = self.columns.write(axes[0], end)
+            if size:
+                return self.narrow if size == 4 else self.wide
+        first = floats[:start] if one[3] is None else one[3]
+        second = floats[start:end] if other[3] is None else other[3]
+        row = whole_row(axes, [*first, *second])
+        width = self.narrow if not row or -NARROW <= min(row) <= max(row) <= NARROW else self.wide
+        words_of(len(row), width.kind).pack_into(self.words, WORD * COORDINATES, *row)
+        return width
+
+    def write_head(self, width: Width, one: Given, other: Given) -> None:
+        """Writes what the library is told of two groups: where they are, and their ends."""
+        size, start, end, first, second = width.size, one[0], other[0], len(one[1]), len(other[1])
+        written = (size, start, end) if first == second == 1 else ()
+        if written and written == self.written:
+            return
+        coordinates, ends = self.at(COORDINATES), self.at(ENDS)
+        clip_at, both_at = ends + WORD * first, ends + WORD * (first + second)
+        groups = start, ends, first, coordinates + size * start, end - start, clip_at, second
+        HEAD.pack_into(self.words, 0, coordinates, *groups, coordinates, end, both_at, 2)
+        marks = [*one[1], *other[1], start // 2, end // 2]
+        words_of(len(marks), "q").pack_into(self.words, WORD * ENDS, *marks)
+        self.written = written
+
+    def visits_once(self, width: Width, start: int, end: int) -> bool:
+        """Whether no point comes twice in a ring."""
+        if width.size == 4:
+            # (a point is a word)
+            points = self.words[COORDINATES + start // 2 : COORDINATES + end // 2]
+            return len(set(points)) == len(points)
+        numbers = iter(self.words[COORDINATES + start : COORDINATES + end])
+        return 2 * len(set(zip(numbers, numbers))) == end - start
+
+    def take(self, axes: Sequence[Any], subject: Any, clip: Any) -> Width | None:
+        """Writes two groups, if they are small and plain, and the rings of geometries simple; at which width."""
+        one = self.group(subject, 0)
+        if one is None or one[0] > GIVEN:
             return None
+        other = self.group(clip, one[0])
+        if other is None or other[0] > GIVEN or len(one[1]) + len(other[1]) + 2 > CONTOURS:
+            return None
+        width = self.whole(axes, one, other)
+        self.write_head(width, one, other)
+        if one[2] and not self.visits_once(width, 0, one[0]):
+            return None
+        if other[2] and not self.visits_once(width, one[0], other[0]):
+            return None
+        if one[2]:
+            return None if width.resolved(self.both if other[2] else self.base) else width
+        return None if other[2] and width.resolved(self.clip) else width
+
+    # ---- what is answered
+
+    def shapes(self, axes: Sequence[Any], subject: Any, clip: Any, rule: int, fill: int) -> Shapes | None:
+        """The shapes of an overlay, if the groups are taken and the call ends well."""
+        width = self.take(axes, subject, clip)
+        if width is None or width.overlay(rule, fill, *self.passed):
+            return None
+        words = self.words
         numbers, contours, shapes = words[COUNTS : COUNTS + 3]
-        points = points_of(words[ANSWER : ANSWER + numbers], axes)
+        points = points_of(width.numbers[width.answer : width.answer + numbers].tolist(), axes)
         if contours == 1:
             return Shapes([Paths([points])])
         parts = parted(points, words[CONTOUR_ENDS : CONTOUR_ENDS + contours].tolist())
         return Shapes(map(Paths, parted(parts, words[SHAPE_ENDS : SHAPE_ENDS + shapes].tolist())))
 
-    def relations(self, fill: int) -> dict[str, bool] | None:
-        """Which relations hold of what was written, if the call ends well."""
+    def relations(self, axes: Sequence[Any], subject: Any, clip: Any, fill: int) -> int | None:
+        """The bits of the relations that hold, if the groups are taken and the call ends well."""
+        width = self.take(axes, subject, clip)
         self.words[COUNTS] = 0
-        if self.relate(fill, SNAPPED, *self.both, self.counts):
+        if width is None or width.relate(fill, self.base, self.clip, self.counts):
             return None
-        found = self.words[COUNTS]
-        return {name: bool(found >> at & 1) for at, name in enumerate(RELATIONS)}
-
-    def relation(self, bit: int, fill: int) -> bool | None:
-        """Whether a relation holds of what was written, if the call ends well."""
-        self.words[COUNTS] = 0
-        return None if self.relate_one(bit, fill, SNAPPED, *self.both, self.counts) else self.words[COUNTS] == 1
+        return self.words[COUNTS]
 
 
 def points_of(whole: Sequence[int], axes: Sequence[Any]) -> list[tuple[float, float]]:
@@ -126,85 +198,33 @@ def points_of(whole: Sequence[int], axes: Sequence[Any]) -> list[tuple[float, fl
     return list(zip(across.numbers(whole[0::2]), up.numbers(whole[1::2])))
 
 
-def rows_of(group: Any) -> Rows | None:
-    """A group as it is taken here, if it is."""
-    if type(group) not in LISTS:
-        ring = ring_of(group)
-        return None if ring is None else (ring, [len(ring) // 2], True)
-    row: list[float] = []
-    ends = []
-    for path in group:
-        if type(path) not in LISTS or set(map(len, path)) != {2}:
-            return None
-        row += chain.from_iterable(path)
-        ends.append(len(row) // 2)
-    return (row, ends, False) if set(map(type, row)) <= NUMBERS else None
+# ---- the calls
+
+# (there is no such rule, or what is given is no number, out of range, or no list)
+UNFIT = (KeyError, TypeError, ValueError, OverflowError, StructError)
 
 
-def visits_once(row: Sequence[int]) -> bool:
-    """Whether no point comes twice in a row of coordinates."""
-    numbers = iter(row)
-    return 2 * len(set(zip(numbers, numbers))) == len(row)
-
-
-def with_frame(
-    asked: Library, axes: Sequence[Any], groups: tuple[Any, Any], ask: Callable[[Frame], Any], is_finest: bool
-) -> Any:
-    """What a frame answers with two groups in it, if they are small and plain; where the finest scale is wanted, their
-    coordinates are multiplied by the greatest power of two that keeps them in the range."""
-    one, other = rows_of(groups[0]), rows_of(groups[1])
-    if one is None or other is None:
+def overlay(asked: Library | None, axes: Sequence[Any], subject: Any, clip: Any, rule: Any, fill: Any) -> Any:
+    """The shapes of the overlay of two groups, if there is a library and they are small and plain."""
+    if asked is None or not asked.has_frames:
         return None
-    given = len(one[0])
-    if given + len(other[0]) > GIVEN or len(one[1]) + len(other[1]) + 2 > CONTOURS:
-        return None
-    row = whole_row(axes, [*one[0], *other[0]])
-    if one[2] and not visits_once(row[:given]) or other[2] and not visits_once(row[given:]):
-        return None
-    if is_finest:
-        power = room_in(row)
-        row = [value << power for value in row]
+    frame = asked.frames.pop() if asked.frames else Frame(asked)
     try:
-        frame = asked.frames.pop()
-    except IndexError:
-        frame = Frame(asked)
-    try:
-        return ask(frame) if frame.are_given(row, one, other) else None
+        return frame.shapes(axes, subject, clip, RULES[rule], FILLS[fill])
+    except UNFIT:
+        return None
     finally:
         asked.frames.append(frame)
 
 
-def answer(
-    asked: Library | None,
-    axes: Sequence[Any],
-    groups: tuple[Any, Any],
-    ask: Callable[[Frame], Any],
-    is_finest: bool = False,
-) -> Any:
-    """What a frame answers with two groups in it, if there is a library and they are small and plain."""
+def relations(asked: Library | None, axes: Sequence[Any], subject: Any, clip: Any, fill: Any) -> Any:
+    """The bits of the relations that hold of two groups as they are given, likewise."""
     if asked is None or not asked.has_frames:
         return None
+    frame = asked.frames.pop() if asked.frames else Frame(asked)
     try:
-        return with_frame(asked, axes, groups, ask, is_finest)
-    except (KeyError, TypeError, ValueError, OverflowError, StructError):
-        # (there is no such rule, or what is given is no number, out of range, or no list)
+        return frame.relations(axes, subject, clip, FILLS[fill])
+    except UNFIT:
         return None
-
-
-# ---- the calls
-
-
-def overlay(asked: Library | None, axes: Sequence[Any], groups: tuple[Any, Any], rule: Any, fill: Any) -> Any:
-    """The shapes of the overlay of two groups, if they are small and plain."""
-    return answer(asked, axes, groups, lambda frame: frame.shapes(RULES[rule], FILLS[fill], axes))
-
-
-def relate(asked: Library | None, axes: Sequence[Any], groups: tuple[Any, Any], fill: Any) -> Any:
-    """Which relations hold of two groups, if they are small and plain."""
-    return answer(asked, axes, groups, lambda frame: frame.relations(FILLS[fill]), True)
-
-
-def relate_one(relation: str, asked: Library | None, axes: Sequence[Any], groups: tuple[Any, Any], fill: Any) -> Any:
-    """Whether a relation holds of two groups, if they are small and plain."""
-    bit = 1 << RELATIONS.index(relation)
-    return answer(asked, axes, groups, lambda frame: frame.relation(bit, FILLS[fill]), True)
+    finally:
+        asked.frames.append(frame)

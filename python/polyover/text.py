@@ -12,6 +12,7 @@ Points = Iterable[Any]
 Rule = Literal["subject", "clip", "intersect", "union", "difference", "inverse_difference", "xor"]
 Fill = Literal["evenodd", "nonzero", "positive", "negative"]
 Solver = Literal["snapped", "rounds"]
+RelationSolver = Literal["exact", "snapped", "rounds"]
 Word = TypeVar("Word")
 
 LIMIT = 2**62 - 1
@@ -29,9 +30,13 @@ FILLS = {"evenodd": "EvenOdd", "nonzero": "NonZero", "positive": "Positive", "ne
 SNAPPED: Solver = "snapped"
 ROUNDS: Solver = "rounds"
 SOLVERS = (SNAPPED, ROUNDS)
+# (relations are told without a solver, of contours as they are given, or of an arrangement by one)
+AS_GIVEN: RelationSolver = "exact"
+RELATION_SOLVERS: tuple[RelationSolver, ...] = (AS_GIVEN, *SOLVERS)
 # (where a point lies, by the numbers of the library)
 LOCATIONS = ("outside", "inside", "boundary")
 RELATIONS = ("intersects", "interiors_intersect", "touches", "point_intersects", "within", "disjoint", "covers")
+RELATION_BITS = {name: 1 << at for at, name in enumerate(RELATIONS)}
 
 
 def known(words: Collection[str], name: Word, what: str) -> Word:

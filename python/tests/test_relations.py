@@ -1,4 +1,4 @@
-"""Relations: they are told of an arrangement, at the finest scale that the range allows."""
+"""Relations: of contours as they are given, and, with a solver or by the program, of an arrangement."""
 
 import random
 import unittest
@@ -6,7 +6,13 @@ import warnings
 from unittest import mock
 
 import polyover
-from polyover import calls
+from polyover import relations
+from polyover.by_library import can
+from polyover.text import RELATIONS
+
+from .features import feature, ran
+from .made_polygons import GRID, expected, made_pair
+from .there import ask_library_alone, ask_program_alone, with_library, with_program
 
 try:
     from shapely.geometry import Polygon
@@ -15,51 +21,103 @@ except ImportError:
 
 # the clip's corner (2, 1) is inside the subject, and both have the corner (3, 2)
 SUBJECT, CLIP = [(1, 2), (2, 0), (3, 2)], [(0, 0), (3, 2), (2, 1)]
+# the second runs clockwise, so that positive filling fills nothing of it
+SLIVER, TURNED = [(0, -1), (4, 5), (1, 2)], [(0, 0), (4, 5), (5, 6)]
+# both meet in (1/3, 2/3) alone, where the lines y = 2x, y = 5x - 1, y = 1 - x and y = 2 - 4x cross
+BOW, OTHER = [(0, 0), (1, 2), (1, 4), (0, -1)], [(0, 1), (1, 0), (1, -2), (0, 2)]
+# they have the border from (0, 0) to (5, 2), above (3, 1) and below (2, 1)
+BELOW, ABOVE, AROUND = [(0, 0), (3, 1), (5, 2)], [(0, 0), (5, 2), (2, 1)], [(0, 0), (5, 0), (5, 2)]
+OVERLAP, MEET = ["intersects", "interiors_intersect"], ["intersects", "touches"]
+BY_HAND = [
+    (SUBJECT, CLIP, "nonzero", OVERLAP),
+    (SLIVER, TURNED, "evenodd", OVERLAP),
+    (SLIVER, TURNED, "positive", ["disjoint"]),
+    (BOW, OTHER, "evenodd", [*MEET, "point_intersects"]),
+    (BELOW, ABOVE, "nonzero", MEET),
+    (BELOW, AROUND, "nonzero", [*OVERLAP, "within"]),
+    (AROUND, BELOW, "positive", [*OVERLAP, "covers"]),
+    (SUBJECT, SUBJECT[::-1], "nonzero", [*OVERLAP, "within", "covers"]),
+    (SUBJECT, [], "nonzero", ["disjoint"]),
+]
 FAR = 4611686018427387903
+with_exact = unittest.skipUnless(can("relate_exact"), "no library for C that tells relations exactly (make -C c)")
 
 
-def expected(a, b):
-    """The relations of two polygons by GEOS, which tells them exactly."""
-    common = a.intersects(b) and not a.relate_pattern(b, "T********") and not a.relate_pattern(b, "****1****")
-    return {
-        "intersects": a.intersects(b),
-        "interiors_intersect": a.relate_pattern(b, "T********"),
-        "touches": a.touches(b),
-        "point_intersects": common,
-        "within": a.within(b),
-        "disjoint": a.disjoint(b),
-        "covers": a.covers(b),
-    }
+def held(told):
+    """The names of the relations that hold."""
+    return [name for name, holds in told.items() if holds]
 
 
-class Finest(unittest.TestCase):
-    """The power of two by which coordinates are multiplied."""
+def polygon(contour):
+    """A polygon of GeoJSON, of floats."""
+    return {"type": "Polygon", "coordinates": [[[x / GRID, y / GRID] for x, y in [*contour, contour[0]]]]}
 
-    def test_corners_of_one_inside_the_other(self):
-        self.assertEqual(polyover.locate([SUBJECT], [(2, 1)]), ["inside"])
-        for told in (polyover.relate([SUBJECT], [CLIP]), polyover.Scaled(1).relate([SUBJECT], [CLIP])):
-            self.assertEqual([name for name, holds in told.items() if holds], ["intersects", "interiors_intersect"])
+
+@with_exact
+class AsGiven(unittest.TestCase):
+    """What the library tells of contours as they are: nothing is rounded, or multiplied."""
+
+    def setUp(self):
+        ask_library_alone(self)
+        fails = mock.patch.object(relations, "told_finest", side_effect=AssertionError("of an arrangement"))
+        fails.start()
+        self.addCleanup(fails.stop)
+
+    def test_by_hand(self):
+        for subject, clip, fill, names in BY_HAND:
+            for owner in (polyover, polyover.Scaled(1), polyover.Scaled(10**9)):
+                for options in ({}, {"solver": "exact"}):
+                    given = [subject], [clip], fill
+                    self.assertEqual(held(owner.relate(*given, **options)), names, given)
+                    one_by_one = [name for name in RELATIONS if getattr(owner, name)(*given, **options)]
+                    self.assertEqual(one_by_one, names, given)
 
     def test_at_the_ends_of_the_range(self):
         square = [(-FAR, -FAR), (FAR, -FAR), (FAR, FAR), (-FAR, FAR)]
         self.assertTrue(polyover.relate([SUBJECT], [square])["within"])
         self.assertTrue(polyover.relate([square], [square])["covers"])
         self.assertTrue(polyover.relate([[(0, 0)]], [])["disjoint"])
+        with self.assertRaisesRegex(polyover.BadInput, "clip: contour 1, point 2: .* is out of range"):
+            polyover.touches([square], [[(0, 0), (FAR + 1, 0), (0, 1)]])
 
-    def test_coarser_where_rounds_do_not_settle(self):
-        asked = []
+    def test_geometries(self):
+        scaled = polyover.Scaled(GRID)
+        for subject, clip, fill, names in BY_HAND:
+            if subject is BOW or not clip:
+                continue
+            # (a geometry means what it covers, whichever way its rings run)
+            names = OVERLAP if names == ["disjoint"] else names
+            one, other = polygon(subject), polygon(clip)
+            for given in ((one, other), (feature("Polygon", one["coordinates"]), other)):
+                self.assertEqual(held(scaled.relate(*given, fill)), names, given)
+            self.assertEqual(held(ran("relate", one, other, words=["--digits", "12"])[1]), names)
 
-        def refusing(subject, clip, fill, _):
-            asked.append(max(x for path in subject for x, _ in path))
-            if len(asked) < 3:
-                raise polyover.NotSettled("no")
-            return {"disjoint": True}
+    def test_polygons_that_overlap_are_not_joined(self):
+        # (their edges cross at (1/2, 1), (3/2, 1) and (8/5, 4/5))
+        both = {"type": "MultiPolygon", "coordinates": [[[[0, 0], [1, 2], [2, 0], [0, 0]]], [[[0, 1], [2, 1], [0, 0]]]]}
+        for fill in ("nonzero", "evenodd", "negative"):
+            for name in ("within", "covers"):
+                self.assertTrue(getattr(polyover.Scaled(1), name)(both, both, fill))
+            inner = {"type": "Polygon", "coordinates": [[[0, 0], [1, 0], [1, 2], [0, 0]]]}
+            self.assertEqual(held(polyover.Scaled(1).relate(inner, both, fill)), [*OVERLAP, "within"])
 
-        with mock.patch.object(calls, "relations_as_given", refusing), warnings.catch_warnings(record=True) as told:
-            warnings.simplefilter("always")
-            self.assertEqual(polyover.relate([[(1, 0), (0, 1), (0, 0)]], []), {"disjoint": True})
-        self.assertEqual(asked, [2**61, 2**53, 2**45])
-        self.assertIn("times 2^45, since splitting did not settle at 2^61", str(told[0].message))
+    def test_words(self):
+        for owner in (polyover, polyover.Scaled(1)):
+            for call in (owner.relate, owner.intersects):
+                with self.assertRaisesRegex(polyover.BadInput, "^unknown solver 'nope': one of exact, snapped"):
+                    call([SUBJECT], [CLIP], solver="nope")
+                with self.assertRaisesRegex(polyover.BadInput, "^unknown fill rule 'nope'"):
+                    call([SUBJECT], [CLIP], "nope")
+        with self.assertRaisesRegex(polyover.BadInput, "^unknown solver 'exact': one of snapped, rounds$"):
+            polyover.overlay([SUBJECT], solver="exact")
+
+    @unittest.skipIf(Polygon is None, "no python3 here has shapely (Debian's python3-shapely)")
+    def test_made_floats_beside_shapely(self):
+        chance, scaled = random.Random(8), polyover.Scaled(GRID)
+        for _ in range(300):
+            one, two = made_pair(chance, Polygon)
+            for given in ((one, two), ([list(each.exterior.coords)[:-1]] for each in (one, two))):
+                self.assertEqual(scaled.relate(*given), expected(one, two), (one.wkt, two.wkt))
 
     @unittest.skipIf(Polygon is None, "no python3 here has shapely (Debian's python3-shapely)")
     def test_tiny_coordinates(self):
@@ -71,6 +129,54 @@ class Finest(unittest.TestCase):
             if a.is_valid and b.is_valid:
                 count += 1
                 self.assertEqual(polyover.relate([one], [two]), expected(a, b), (one, two))
+
+
+class OfAnArrangement(unittest.TestCase):
+    """What is told of the arrangement at the finest scale that the range allows."""
+
+    def test_corners_of_one_inside_the_other(self):
+        self.assertEqual(polyover.locate([SUBJECT], [(2, 1)]), ["inside"])
+        for owner in (polyover, polyover.Scaled(1)):
+            for solver in ("snapped", "rounds"):
+                self.assertEqual(held(owner.relate([SUBJECT], [CLIP], solver=solver)), OVERLAP)
+
+    def test_at_the_ends_of_the_range(self):
+        square = [(-FAR, -FAR), (FAR, -FAR), (FAR, FAR), (-FAR, FAR)]
+        self.assertTrue(polyover.relate([SUBJECT], [square], solver="snapped")["within"])
+        self.assertTrue(polyover.covers([square], [square], solver="snapped"))
+
+    def test_coarser_where_rounds_do_not_settle(self):
+        asked = []
+
+        def refusing(subject, clip, fill, _):
+            asked.append(max(x for path in subject for x, _ in path))
+            if len(asked) < 3:
+                raise polyover.NotSettled("no")
+            return {"disjoint": True}
+
+        with mock.patch.object(relations, "relations_as_given", refusing), warnings.catch_warnings(record=True) as told:
+            warnings.simplefilter("always")
+            found = polyover.relate([[(1, 0), (0, 1), (0, 0)]], [], solver="rounds")
+        self.assertEqual(found, {"disjoint": True})
+        self.assertEqual(asked, [2**61, 2**53, 2**45])
+        self.assertIn("times 2^45, since splitting did not settle at 2^61", str(told[0].message))
+
+    @with_program
+    def test_by_the_program(self):
+        ask_program_alone(self)
+        for owner in (polyover, polyover.Scaled(1)):
+            self.assertEqual(held(owner.relate([SUBJECT], [CLIP])), OVERLAP)
+            for call in (owner.relate, owner.within):
+                with self.assertRaisesRegex(polyover.LibraryMissing, "no library that tells relations of contours as"):
+                    call([SUBJECT], [CLIP], solver="exact")
+
+    @with_library
+    def test_by_an_older_library(self):
+        ask_library_alone(self)
+        with mock.patch.object(relations.by_library, "TAKES", {**relations.by_library.TAKES, "relate_exact": "no"}):
+            self.assertEqual(held(polyover.relate([SUBJECT], [CLIP])), OVERLAP)
+            with self.assertRaisesRegex(polyover.LibraryMissing, "no library that tells"):
+                polyover.touches([SUBJECT], [CLIP], solver="exact")
 
 
 if __name__ == "__main__":

@@ -6,7 +6,7 @@ from concurrent.futures import ThreadPoolExecutor
 from unittest import mock
 
 import polyover
-from polyover import calls
+from polyover import calls, relations
 from polyover.library import library
 from polyover.text import RELATIONS
 
@@ -37,7 +37,7 @@ class Small(unittest.TestCase):
         one, other = square(0, 0, 4, 4)[:-1], square(2.5, 2, 6, 6)[:-1]
         expected = [[[(2.5, 4), (2.5, 2), (4, 2), (4, 4)]]]
         fails = mock.patch.object(calls, "overlay", side_effect=AssertionError("the longer way"))
-        with fails, mock.patch.object(calls, "relate_one", side_effect=AssertionError("the longer way")):
+        with fails, mock.patch.object(relations, "relate_one", side_effect=AssertionError("the longer way")):
             for groups in (([one], [other]), (ring(one), ring(other)), (ring(one[::-1]), [other])):
                 found = SCALED.overlay(*groups, "intersect")
                 self.assertEqual((found, type(found), type(found[0])), (expected, polyover.Shapes, polyover.Paths))
