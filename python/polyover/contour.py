@@ -42,10 +42,22 @@ def row_of(path: WholePath) -> Row:
     return list(chain.from_iterable(path))
 
 
-def points_in(row: Row) -> WholePath:
+def points_in(row: Sequence[Any]) -> list[Any]:
     """The points of coordinates in a row."""
     numbers = iter(row)
     return list(zip(numbers, numbers))
+
+
+def directed(row: list[int], is_outline: bool) -> list[int] | None:
+    """The coordinates of a ring in a row, in the direction that it is to have: outlines run counterclockwise. None
+    where it visits a point twice, or has no area."""
+    xs, ys = row[0::2], row[1::2]
+    area = sum(map(mul, xs, ys[1:])) - sum(map(mul, ys, xs[1:])) + xs[-1] * ys[0] - ys[-1] * xs[0]
+    if not area or len(set(zip(xs, ys))) < len(xs):
+        return None
+    if (area > 0) != is_outline:
+        row[0::2], row[1::2] = xs[::-1], ys[::-1]
+    return row
 
 
 def box_of(contour: Sequence[Any]) -> tuple[Any, Any, Any, Any]:

@@ -4,7 +4,8 @@ from __future__ import annotations
 
 from array import array
 from ctypes import addressof, c_char
-from itertools import islice
+from itertools import accumulate, chain, islice
+from struct import pack
 from typing import Any, Iterable, Iterator, Sequence
 
 from .errors import BadInput
@@ -140,6 +141,13 @@ class Flat:
     def wkb(self) -> bytes:
         """The paths as well-known binary, a MultiLineString, with coordinates as floats."""
         return paths_in_bytes(self)
+
+
+def flat_rows(rows: Sequence[Sequence[int]]) -> Flat:
+    """Contours, or paths, whose coordinates stand in rows, in arrays."""
+    numbers = list(chain.from_iterable(rows))
+    ends = [end // 2 for end in accumulate(map(len, rows))]
+    return Flat.of_arrays(array("q", pack(f"{len(numbers)}q", *numbers)), array("Q", ends))
 
 
 class FlatFloats(Flat):

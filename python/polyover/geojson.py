@@ -7,6 +7,7 @@ from itertools import chain
 from math import isfinite
 from typing import Any, Iterable, Iterator, NamedTuple, Sequence
 
+from .contour import points_in
 from .errors import BadInput
 from .numbers import is_finite
 from .shapes import ring
@@ -64,8 +65,19 @@ class PlainLine(Part):
     @property
     def paths(self) -> list[Path]:  # type: ignore[override]
         """Its one path, whose points are made where they are asked for."""
-        numbers = iter(self.row)
-        return [list(zip(numbers, numbers))]
+        return [points_in(self.row)]
+
+
+class PlainPolygon(Part):
+    """A polygon of rings of such points, without the first one again at the end, whose coordinates stand in rows."""
+
+    def __init__(self, place: Place, rows: list[list[Any]]) -> None:  # pylint: disable=super-init-not-called
+        self.place, self.rows = place, rows
+
+    @property
+    def paths(self) -> list[Path]:  # type: ignore[override]
+        """Its rings, whose points are made where they are asked for."""
+        return [points_in(row) for row in self.rows]
 
 
 @dataclass
@@ -204,8 +216,8 @@ class Reader:
             row = plain_numbers(coordinates)
             found = row and len(row) > 2 and PlainLine(place._replace(part="line 1"), row)
         elif kind == POLYGONS[0]:
-            paths = plain_rings(coordinates)
-            found = paths and Part(place._replace(part="polygon 1"), paths)
+            rows = plain_rings(coordinates)
+            found = rows and PlainPolygon(place._replace(part="polygon 1"), rows)
         if not found:
             return None
         self.finds_any = True
@@ -260,11 +272,8 @@ def checked_point(place: Place, number: int, point: object) -> Point:
 
 def plain_points(path: Any) -> list[Any] | None:
     """The points of a list, where each is a list of two numbers of Python's own, which are finite."""
-    numbers = plain_numbers(path)
-    if numbers is None:
-        return None
-    row = iter(numbers)
-    return list(zip(row, row))
+    row = plain_numbers(path)
+    return None if row is None else points_in(row)
 
 
 def plain_numbers(path: Any) -> list[Any] | None:
@@ -284,18 +293,19 @@ def plain_numbers(path: Any) -> list[Any] | None:
     return numbers
 
 
-def plain_rings(paths: Any) -> list[Path] | None:
-    """The points of rings, each as `plain_points` has them, without the first one again at the end; at least three."""
+def plain_rings(paths: Any) -> list[list[Any]] | None:
+    """The coordinates of rings in rows, each as `plain_numbers` has them, without the first point again at the end; of
+    at least three points."""
     if type(paths) not in LISTS:
         return None
     found = []
     for path in paths:
-        points = plain_points(path)
-        if points and len(points) > 1 and points[0] == points[-1]:
-            points.pop()
-        if points is None or len(points) < 3:
+        row = plain_numbers(path)
+        if row and len(row) > 2 and row[:2] == row[-2:]:
+            del row[-2:]
+        if row is None or len(row) < 6:
             return None
-        found.append(points)
+        found.append(row)
     return found
 
 

@@ -3,12 +3,13 @@ of each feature by itself."""
 
 from __future__ import annotations
 
+from itertools import chain
 from typing import Any, Callable, Iterator, NamedTuple, Sequence
 
 from . import calls, geojson, together
 from .answers import feature_of
 from .content import File
-from .contour import WholePath, row_of
+from .contour import Row, points_in, row_of
 from .errors import BadInput
 from .geojson import Feature
 from .nearby import Index, Nearby, Node, Region, box_round, regions_of_contours
@@ -16,7 +17,7 @@ from .progress import faults_of, long_work
 from .scaled import Scaled
 from .text import Rule
 from .together import Asked
-from .words import AT_ONCE, contours_of, fill_of, groups_of, look_of
+from .words import AT_ONCE, fill_of, groups_of, look_of, rows_of
 
 Step = Callable[[], Any]
 # the shapes of each pair that is asked, by the rule, where faults name the source
@@ -38,7 +39,7 @@ class Filled(NamedTuple):
     """A feature, the contours of what it fills, for the fill rule nonzero, and boxes that hold this."""
 
     feature: Feature
-    contours: list[WholePath]
+    contours: list[Row]
     nearby: Nearby
     boxes: Sequence[Region]
 
@@ -58,15 +59,16 @@ class Layer:
         self.file = file
         self.regions: list[Filled] = []
         for group in groups_of(file):
-            for each, contours in zip(group, contours_of(given, scaled, file, group)):
+            for each, contours in zip(group, rows_of(given, scaled, file, group)):
                 if given.fill:
+                    points = list(map(points_in, contours))
                     with faults_of(file.name, place=each.place):
-                        shapes = calls.overlay(contours, (), "subject", fill_of(given), solver=given.solver)
-                    contours = [contour for shape in shapes for contour in shape]
+                        shapes = calls.overlay(points, (), "subject", fill_of(given), solver=given.solver)
+                    contours = [row_of(contour) for shape in shapes for contour in shape]
                 if any(contours):
                     self.regions.append(Filled(each, contours, Nearby(contours), regions_of_contours(contours)))
         file.told.say()
-        boxes = [box_round([point for contour in each.contours for point in contour]) for each in self.regions]
+        boxes = [box_round(list(chain.from_iterable(each.contours))) for each in self.regions]
         self.index = Index([Node(box, []) for box in boxes])
         self.whole = Nearby(contour for each in self.regions for contour in each.contours)
 
@@ -100,10 +102,7 @@ def pieces_of_both(first: Layer, second: Layer, overlaid: Overlaid, step: Step) 
 def pieces_of_one(layer: Layer, other: Layer, overlaid: Overlaid, step: Step, is_first: bool) -> Iterator[Piece]:
     """The pieces of features that are in none of the other file."""
     for group in grouped(layer.regions):
-        rows = [list(map(row_of, each.contours)) for each in group]
-        asked = [
-            Asked(each.feature.place, its, other.whole.near(each.boxes)) for each, its in zip(group, rows)
-        ]
+        asked = [Asked(each.feature.place, each.contours, other.whole.near(each.boxes)) for each in group]
         for each, shapes in zip(group, overlaid(asked, layer.file.name, "difference")):
             if shapes:
                 yield Piece(shapes, *((each.feature, None) if is_first else (None, each.feature)))

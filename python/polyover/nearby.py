@@ -41,6 +41,11 @@ class Node:
         self.row, self.parts, self.place = row, parts, place
 
 
+    def become(self, tree: Node) -> None:
+        """Takes the nodes of a tree, whose box is the same."""
+        self.row, self.parts = tree.row, tree.parts
+
+
 class Side(NamedTuple):
     """A side of a region that is neither upright nor level: beyond it a x + b y is above c."""
 
@@ -76,9 +81,9 @@ class Region(NamedTuple):
 # ---- regions
 
 
-def box_round(points: WholePath) -> Box:
-    """The box of points: left, low, right, high."""
-    xs, ys = zip(*points)
+def box_round(row: Row) -> Box:
+    """The box of points in a row: left, low, right, high."""
+    xs, ys = row[0::2], row[1::2]
     return min(xs), min(ys), max(xs), max(ys)
 
 
@@ -114,11 +119,11 @@ def regions_of_runs(rows: Sequence[Row]) -> list[Region]:
     return [run_region(run) for run in runs]
 
 
-def regions_of_contours(contours: Sequence[WholePath]) -> list[Region]:
+def regions_of_contours(contours: Sequence[Row]) -> list[Region]:
     """Regions that hold all that contours wind round: boxes, each of one of them, or of some where they are many."""
     count = ceil(len(contours) / RUNS)
     groups = [contours[at : at + count] for at in range(0, len(contours), max(1, count))]
-    return [box_region([value for contour in group for point in contour for value in point]) for group in groups]
+    return [box_region(group[0] if len(group) == 1 else list(chain.from_iterable(group))) for group in groups]
 
 
 # ---- trees
@@ -147,11 +152,15 @@ def tree_of(nodes: list[Node]) -> Node:
     return nodes[0]
 
 
-def chains_of(contour: WholePath) -> list[Node]:
+def chains_of(contour: Row) -> list[Node]:
     """The chains of a contour, one behind the other."""
-    closed = [*contour, contour[0]]
-    starts = range(0, len(contour), CHAIN)
-    return [Node(box_round(closed[at : at + CHAIN + 1]), row_of(contour[at : at + CHAIN])) for at in starts]
+    closed, step = contour + contour[:2], 2 * CHAIN
+    return [Node(box_round(closed[at : at + step + 2]), contour[at : at + step]) for at in range(0, len(contour), step)]
+
+
+def whole_node(contour: Row) -> Node:
+    """The node of a contour, whose chains are made where they are asked for."""
+    return Node(box_round(contour), contour)
 
 
 def packed(nodes: Sequence[Node]) -> list[Node]:
@@ -230,13 +239,13 @@ class Nearby:
     """A shape that is asked again and again for its part near lines, or near other contours: for contours, the
     coordinates of each in a row."""
 
-    def __init__(self, contours: Iterable[WholePath]) -> None:
+    def __init__(self, contours: Iterable[Row]) -> None:
         self.contours = [contour for contour in contours if contour]
 
     @cached_property
     def index(self) -> Index:
-        """Their trees, which are made where they are asked for."""
-        return Index([tree_of(chains_of(contour)) for contour in self.contours])
+        """Their nodes, which are made where they are asked for."""
+        return Index(list(map(whole_node, self.contours)))
 
     def part(self, lines: Sequence[Row]) -> list[Row]:
         """Contours that wind near the lines, which are rows, as those of the shape do."""
@@ -246,7 +255,7 @@ class Nearby:
         found = self.near([box_region(lines[0] if len(lines) == 1 else list(chain.from_iterable(lines)))])
         return found if sum(map(len, found)) <= 2 * FEW else self.near(regions_of_runs(lines))
 
-    def part_within(self, contours: Sequence[WholePath]) -> list[Row]:
+    def part_within(self, contours: Sequence[Row]) -> list[Row]:
         """Contours that wind as those of the shape do wherever the given ones may fill."""
         return self.near(regions_of_contours([contour for contour in contours if contour]))
 
@@ -255,10 +264,12 @@ class Nearby:
         kept: list[Row] = []
         is_box = len(regions) == 1 and not regions[0].sides
         for root in self.index.near(regions):
-            if not root.parts:
+            if len(root.row) <= 2 * CHAIN and not root.parts:
                 # (a chain alone is near, as the index tells)
                 kept.append(root.row)
                 continue
+            if not root.parts:
+                root.become(tree_of(chains_of(root.row)))
             row: Row = []
             if is_box:
                 add_in_box(root, regions[0], row)
@@ -271,11 +282,11 @@ class Nearby:
 class LinesNearby:
     """Open paths that are asked again and again for those near contours."""
 
-    def __init__(self, lines: Iterable[WholePath]) -> None:
+    def __init__(self, lines: Iterable[Row]) -> None:
         self.lines = [line for line in lines if line]
         self.index = Index([Node(box_round(line), []) for line in self.lines])
 
-    def part(self, contours: Iterable[WholePath]) -> list[WholePath]:
+    def part(self, contours: Iterable[Row]) -> list[Row]:
         """The lines whose boxes come near what the contours may fill."""
         regions = regions_of_contours([contour for contour in contours if contour])
         return [self.lines[node.place] for node in self.index.near(regions)]

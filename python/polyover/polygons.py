@@ -11,7 +11,8 @@ from dataclasses import dataclass
 from typing import Any, Sequence
 
 from . import calls
-from .contour import WholePath, box_of, double_area, is_flat, shifted, surplus_of, visits_once, without_repeats
+from .contour import Row, WholePath, box_of, double_area, is_flat, shifted, surplus_of, visits_once, without_repeats
+from .flat import flat_rows
 from .told import Told, counted
 
 COLLAPSED = "# [{0} collapses to a line or a point, and is|{0}s collapse to lines or points, and are] left out"
@@ -89,6 +90,11 @@ def in_range(contours: Sequence[WholePath]) -> tuple[list[WholePath], int]:
 def are_resolved(contours: Sequence[WholePath]) -> bool:
     """Whether of each contour steps share points only where these are ends of both."""
     return calls.is_resolved(in_range(contours)[0])
+
+
+def are_resolved_rows(rows: Sequence[Row]) -> bool:
+    """The same of contours in range, whose coordinates stand in rows."""
+    return calls.is_resolved(flat_rows(rows))
 
 
 def mark_simple(rings: Polygon, told: Told) -> None:

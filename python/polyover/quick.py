@@ -8,12 +8,13 @@ from array import array
 from ctypes import addressof, c_byte, c_int, c_size_t, c_void_p, string_at
 from functools import lru_cache
 from itertools import chain
-from operator import attrgetter, mul
+from operator import attrgetter
 from struct import Struct, unpack_from
 from typing import Any, Callable, Sequence
 
 from . import calls
 from .columns import whole_row
+from .contour import directed
 from .flat import Flat
 from .geojson import LISTS, NUMBERS, plain_points
 
@@ -238,18 +239,6 @@ def polygons_of(thing: Any) -> list[Polygon] | None:
 
 
 # ---- contours
-
-
-def directed(row: list[int], is_outline: bool) -> list[int] | None:
-    """The coordinates of a ring in a row, in the direction that it is to have: outlines run counterclockwise. None
-    where it visits a point twice, or has no area."""
-    xs, ys = row[0::2], row[1::2]
-    area = sum(map(mul, xs, ys[1:])) - sum(map(mul, ys, xs[1:])) + xs[-1] * ys[0] - ys[-1] * xs[0]
-    if not area or len(set(zip(xs, ys))) < len(xs):
-        return None
-    if (area > 0) != is_outline:
-        row[0::2], row[1::2] = xs[::-1], ys[::-1]
-    return row
 
 
 def contours_of(polygons: Sequence[Polygon], axes: Sequence[Any]) -> Flat | None:

@@ -7,12 +7,12 @@ from itertools import accumulate, chain, islice
 from typing import Any, Callable, Iterable, Sequence
 
 from .columns import row_of_numbers
-from .contour import Row, WholePath, extent_of, points_in
+from .contour import Row, WholePath, directed, extent_of, points_in, row_of
 from .errors import BadInput
 from .flat import parted
-from .geojson import LINES, POLYGONS, Part, PlainLine, parts_of
+from .geojson import LINES, POLYGONS, Part, PlainLine, PlainPolygon, parts_of
 from .numbers import over_one_bottom
-from .polygons import Contour, Ring, contours_of_each
+from .polygons import Contour, Ring, are_resolved_rows, contours_of_each
 from .text import LIMIT
 from .told import Told, counted
 
@@ -56,6 +56,36 @@ class Polygons:
         if self.told is None:
             told.say()
         return contours
+
+
+    def rows_of_each(self, scaled: Any) -> list[list[Row]]:
+        """The coordinates of the contours of each polygon in rows, at a scale."""
+        found = None if self.is_raw else self.plain_rows(scaled)
+        if found is None:
+            each = self.contours_of_each(scaled.whole_path)
+            found = [[row_of(whole) for whole, _ in contours] for contours in each]
+        return found
+
+    def plain_rows(self, scaled: Any) -> list[list[Row]] | None:
+        """The same of polygons of simple rings, where one has more than one, or is not simple, read by itself; none
+        where simple ones are not told from others so."""
+        if not all(type(part) is PlainPolygon for part in self.parts):
+            return None
+        rows = [row for part in self.parts for row in part.rows]  # type: ignore[attr-defined]
+        whole = row_of_numbers(scaled.axes, list(chain.from_iterable(rows)))
+        if whole is None or whole and max(max(whole), -min(whole)) > LIMIT:
+            return None
+        wholes = iter(parted(whole, list(accumulate(map(len, rows)))))
+        found: list[Row | None] = []
+        for part in self.parts:
+            its = list(islice(wholes, len(part.rows)))  # type: ignore[attr-defined]
+            found.append(directed(its[0], True) if len(its) == 1 else None)
+        simple = [row for row in found if row is not None]
+        if not are_resolved_rows(simple):
+            return None
+        others = Polygons([part for part, row in zip(self.parts, found) if row is None], self.source, False, self.told)
+        rest = iter(others.contours_of_each(scaled.whole_path) if others.parts else ())
+        return [[row_of(it) for it, _ in next(rest)] if row is None else [row] for row in found]
 
 
 @dataclass

@@ -10,8 +10,9 @@ from typing import Any, Callable, Iterable, Iterator, Sequence
 from . import calls, files, geojson, leaving, together
 from .answers import feature_of, leave, null_feature, say
 from .content import File
-from .contour import Row, WholePath, points_in, row_of
+from .contour import Row, WholePath
 from .errors import BadInput
+from .flat import flat_rows
 from .formats import GEOJSON, format_of
 from .geojson import Feature
 from .inputs import picture_of
@@ -23,7 +24,7 @@ from .reading import Lines, Polygons, check_range
 from .scaled import Scaled
 from .systems import DEFAULT, DEGREES
 from .together import Asked, Pair, Points
-from .words import contours_of, fill_of, groups_of, look_of, paths_of, polygons_of, rings_of
+from .words import fill_of, groups_of, look_of, paths_of, polygons_of, rings_of, rows_of
 from .writing import json_text
 
 KEEPING = ("intersect", "difference")
@@ -96,7 +97,7 @@ def kept_pieces(given: Any, scaled: Scaled, first: File, second: File) -> Iterat
     look = look_of(given, scaled)
     what = f"overlay of {first.counted} by {rings_of(second)} rings"
     with faults_of(second.name):
-        clip = Nearby(scaled.whole(polygons_of(given, second)))
+        clip = Nearby(scaled.whole_rows(polygons_of(given, second)))
     with long_work(what, first.count, given.quiet) as step:
         for group in groups_of(first):
             for each, shapes in zip(group, kept(given, scaled, first, group, clip, look)):
@@ -110,10 +111,8 @@ def kept(
     given: Any, scaled: Scaled, first: File, group: Sequence[Feature], clip: Nearby, look: dict[str, Any]
 ) -> Iterator[Any]:
     """For each feature the shapes of its overlay by what is near it."""
-    found = contours_of(given, scaled, first, group)
-    asked = [
-        Asked(each.place, list(map(row_of, subject)), clip.part_within(subject)) for each, subject in zip(group, found)
-    ]
+    found = rows_of(given, scaled, first, group)
+    asked = [Asked(each.place, subject, clip.part_within(subject)) for each, subject in zip(group, found)]
     is_asked = [bool(each.second) or given.rule != "intersect" for each in asked]
 
     def one(pair: Points) -> Any:
@@ -161,7 +160,7 @@ def clips_of(given: Any, area: File, roads: File, picture: Picture) -> Iterator[
     """For each feature of lines one of its parts that are kept, which the picture shows too."""
     scaled = Scaled.of_digits(given.digits)
     with faults_of(area.name):
-        region = scaled.region("shape", polygons_of(given, area), fill_of(given), given.solver, is_joined=True)
+        region = scaled.joined_rows(polygons_of(given, area), fill_of(given), given.solver)
         shape = Nearby(region)
     with long_work(f"clip of {roads.counted} by {rings_of(area)} rings", roads.count, given.quiet) as step:
         for group in groups_with_lines(scaled, roads):
@@ -207,13 +206,13 @@ def run_slice(given: Any) -> None:
     """Slices the polygons of a file, feature by feature, along the lines of a second file"""
     walls = files.lines_of(given.other, given)
     scaled = Scaled.of_digits(given.digits)
-    rows = (row for group in groups_with_lines(scaled, walls) for _, its in group for row in its)
-    lines = LinesNearby(map(points_in, rows))
+    lines = LinesNearby(row for group in groups_with_lines(scaled, walls) for _, its in group for row in its)
     walls.told.say()
 
     def cut(polygons: Polygons) -> Any:
-        contours = scaled.region("shape", polygons, fill_of(given), given.solver, is_joined=True)
-        return scaled.shapes(calls.slice(contours, lines.part(contours), fill_of(given), solver=given.solver))
+        contours = scaled.joined_rows(polygons, fill_of(given), given.solver)
+        given_to = flat_rows(contours), flat_rows(lines.part(contours))
+        return scaled.answered(calls.slice(*given_to, fill_of(given), solver=given.solver, arrays=True), False)
 
     answer_features(given, "slices", cut, walls, is_parted=True)
 

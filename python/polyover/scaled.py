@@ -13,7 +13,7 @@ from . import calls, quick, relations, small
 from .columns import ERROR, EXACT, LEAST, row_of_points, whole_points
 from .contour import Row, WholePath, WholePoint, points_in, row_of
 from .errors import BadInput
-from .flat import Flat, FlatFloats, FlatShapes, copied, parted
+from .flat import Flat, FlatFloats, FlatShapes, copied, flat_rows, parted
 from .geojson import is_geometry, points_of
 from .library import library
 from .numbers import ratio_of
@@ -262,6 +262,18 @@ class Scaled(RulesAtScale):
             joined = calls.overlay(contours, (), "subject", solver=solver)
             contours = [contour for shape in joined for contour in shape]
         return [contour[::-1] for contour in contours] if fill == "negative" else contours
+
+    def whole_rows(self, polygons: Polygons) -> list[Row]:
+        """The contours of polygons that were read, by whole coordinates in rows."""
+        return [row for rows in polygons.rows_of_each(self) for row in rows]
+
+    def joined_rows(self, polygons: Polygons, fill: Fill, solver: Solver) -> list[Row]:
+        """The same of what polygons cover, joined where they are several; raw rings as they are."""
+        rows = self.whole_rows(polygons)
+        if polygons.is_raw or len(polygons.parts) < 2:
+            return rows
+        flat = calls.overlay(flat_rows(rows), (), "subject", solver=solver, arrays=True).contours
+        return parted(flat.numbers.tolist(), [2 * end for end in flat.counts.tolist()])
 
     def _both(
         self, subject: Group, clip: Group, fill: Fill, solver: Solver, is_joined: bool = False

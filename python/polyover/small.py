@@ -55,8 +55,8 @@ class Width:
         self.answer = WORD * ANSWER // self.size
 
 
-# a group: how many numbers stand up to its end, and how many points up to the end of each of its contours; whether it is
-# a geometry; and its coordinates, where they do not stand in the array of floats yet
+# a group: how many numbers stand up to its end, and how many points up to the end of each of its contours; whether it
+# is a geometry; and its coordinates, where they do not stand in the array of floats yet
 Given = tuple[int, "list[int]", bool, "Sequence[float] | None"]
 
 

@@ -6,7 +6,7 @@ from itertools import islice
 from typing import Any, Iterator, Sequence
 
 from .content import File
-from .contour import WholePath
+from .contour import Row
 from .geojson import Feature
 from .progress import faults_of
 from .reading import Polygons
@@ -43,13 +43,13 @@ def groups_of(file: File) -> Iterator[list[Feature]]:
         yield group
 
 
-def contours_of(given: Any, scaled: Scaled, file: File, group: Sequence[Feature]) -> list[list[WholePath]]:
-    """The contours of each feature of a group, by whole points."""
+def rows_of(given: Any, scaled: Scaled, file: File, group: Sequence[Feature]) -> list[list[Row]]:
+    """The contours of each feature of a group, by whole coordinates in rows."""
     with faults_of(file.name):
         polygons = polygons_of(given, file, [part for each in group for part in each.parts])
-        found = iter(polygons.contours_of_each(scaled.whole_path))
+        found = iter(polygons.rows_of_each(scaled))
         parts = [list(islice(found, len(each.parts))) for each in group]
-    return [[whole for contours in its for whole, _ in contours] for its in parts]
+    return [[row for rows in its for row in rows] for its in parts]
 
 
 def paths_of(file: File) -> list[Any]:

@@ -82,7 +82,7 @@ class Many(unittest.TestCase):
         chance = random.Random(9)
         scaled = polyover.Scaled.of_digits(7)
         shape = scaled.whole(polyover.contours_of({"type": "Polygon", "coordinates": [lake(1500, chance)]}))
-        near = Nearby(shape)
+        near = Nearby(map(row_of, shape))
         for each in roads(40, chance):
             lines = scaled.whole(polyover.lines_of(each))
             for options in ({}, {"invert": True}, {"boundary": True}):
@@ -97,7 +97,7 @@ class Many(unittest.TestCase):
         steps = [(x, chance.randint(0, 3000)) for x in range(0, 40000, 10)]
         upper = [point for (x, y), (u, _) in zip(steps, steps[1:]) for point in ((x, y), (u, y))]
         shape = [[*upper, (39990, -9000), (0, -9000)]]
-        near = Nearby(shape)
+        near = Nearby(map(row_of, shape))
         self.assertLess(sum(map(len, part_of(near, [[(5, 9000), (5, -9999)]]))), 500)
         for _ in range(60):
             x, y = chance.randint(-9, 40009), chance.randint(-9999, 3999)

@@ -36,7 +36,12 @@ def part(shape, lines):
 
 def part_within(shape, contours):
     """The part of a shape that may fill what contours do."""
-    return list(map(points_in, shape.part_within(contours)))
+    return list(map(points_in, shape.part_within(list(map(row_of, contours)))))
+
+
+def nearby(contours):
+    """A shape of contours of points, to be asked for its parts."""
+    return Nearby(map(row_of, contours))
 
 
 class Asked(unittest.TestCase):
@@ -98,7 +103,7 @@ class Asked(unittest.TestCase):
         self.assertEqual((len(found), counts), (len(GRID) + 50, [2] * 50 + [0] * (len(GRID) - 50)))
 
     def test_far_teeth_of_a_comb_are_few_points(self):
-        near = Nearby([comb(5000)])
+        near = nearby([comb(5000)])
         for lines in ([[(25_002, 10), (25_004, 20)]], [[(25_002, 10), (25_302, 20)]]):
             # (of 20,002; there are 4 a tooth within 556 at most)
             self.assertLess(sum(map(len, part(near, lines))), 300)
@@ -112,7 +117,7 @@ class SameAnswers(unittest.TestCase):
 
     def test_windings(self):
         chance, shape = random.Random(3), [comb(300), comb(200)[::-1], box(100, 100, 2900, 8000)]
-        near = Nearby(shape)
+        near = nearby(shape)
         for _ in range(200):
             x, y = chance.randint(-50, 3050), chance.randint(-500, 9500)
             line = [(x, y), (x + chance.randint(-50, 50), y + chance.randint(-50, 50)), (x + 1, y)]
@@ -123,7 +128,7 @@ class SameAnswers(unittest.TestCase):
 
     def test_within_what_a_contour_fills(self):
         # (the inner one is far from each edge of the outer one)
-        shape = Nearby([box(0, 0, 9000, 9000), box(4000, 4000, 4010, 4010), box(20_000, 0, 20_010, 10)])
+        shape = nearby([box(0, 0, 9000, 9000), box(4000, 4000, 4010, 4010), box(20_000, 0, 20_010, 10)])
         self.assertEqual(len(part_within(shape, [box(-5, -5, 9005, 9005)])), 2)
 
     def test_overlays(self):
@@ -131,7 +136,7 @@ class SameAnswers(unittest.TestCase):
         boxes = [box(x, y, x + chance.randint(1, 900), y + chance.randint(1, 900))
                  for x, y in ((chance.randint(0, 20_000), chance.randint(0, 20_000)) for _ in range(900))]
         shape = [*boxes, comb(400)]
-        near = Nearby(shape)
+        near = nearby(shape)
         for _ in range(40):
             x, y = chance.randint(0, 20_000), chance.randint(0, 20_000)
             subject = [box(x, y, x + chance.randint(1, 3000), y + chance.randint(1, 3000)), box(x, -9, x + 9, -5)]
@@ -144,19 +149,20 @@ class SameAnswers(unittest.TestCase):
         lines = [[(x, y), (x + chance.randint(1, 99), y), (x + chance.randint(1, 99), y + chance.randint(1, 99))]
                  for x, y in ((chance.randint(0, 5000), chance.randint(0, 5000)) for _ in range(400))]
         straight = [line[:2] for line in lines]
-        near = LinesNearby(straight)
+        near = LinesNearby(map(row_of, straight))
         for _ in range(40):
             x, y = chance.randint(0, 5000), chance.randint(0, 5000)
             shape = [box(x, y, x + chance.randint(1, 600), y + chance.randint(1, 600))]
-            self.assertEqual(polyover.slice(shape, near.part(shape)), polyover.slice(shape, straight))
+            lines = list(map(points_in, near.part(list(map(row_of, shape)))))
+            self.assertEqual(polyover.slice(shape, lines), polyover.slice(shape, straight))
 
     def test_in_order_and_without_points(self):
-        near = Nearby([[], *(box(x, 0, x + 1, 1) for x in range(0, 10_000, 5))])
+        near = nearby([[], *(box(x, 0, x + 1, 1) for x in range(0, 10_000, 5))])
         found = part(near, [[(4000, 0), (5000, 1)]])
         self.assertEqual(found, sorted(found))
         # (with the margin of 128 from 3875 to 5125)
         self.assertEqual((len(found), found[0][0], found[-1][0]), (251, (3875, 0), (5125, 0)))
-        for nothing in (part(near, []), part(near, [[]]), part(Nearby([]), [[(0, 0), (1, 1)]]), part_within(near, [])):
+        for nothing in (part(near, []), part(near, [[]]), part(nearby([]), [[(0, 0), (1, 1)]]), part_within(near, [])):
             self.assertEqual(nothing, [])
 
 
