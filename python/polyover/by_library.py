@@ -146,10 +146,15 @@ def relate(subject: Any, clip: Any, fill: str, solver: str) -> dict[str, bool]:
 
 def relate_exact(subject: Any, clip: Any, fill: str) -> dict[str, bool]:
     """The truth of each relation of the contours as they are given."""
+    return truths_of(exact_bits(subject, clip, fill))
+
+
+def exact_bits(subject: Any, clip: Any, fill: str) -> int:
+    """The sum of the bits of these relations."""
     asked, relations = library(), c_uint32()
     both = asked.contours(subject), asked.contours(clip)
     check(asked.call("polyover_relate_exact", FILL_NUMBERS[fill], *both, relations))
-    return truths_of(relations.value)
+    return relations.value
 
 
 def relate_one(relation: str, subject: Any, clip: Any, fill: str, solver: str) -> bool:

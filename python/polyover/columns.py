@@ -147,14 +147,19 @@ class Columns:
         if not scale or axis.start or not count:
             return 0
         given, found, near, lost, narrow, wide = self.begun.get(count) or self.beginnings(count)
-        low, high = scale * given.item(given.argmin()), scale * given.item(given.argmax())
         for size, far, sure in WIDTHS:
-            if -far < low and high < far:
+            # (the sum of squares is sooner told than the largest)
+            if given.dot(given) * scale * scale < far * far or is_within(given, far / scale):
                 self.multiply(given, scale, found)
                 self.nearest(found, near)
                 self.subtract(found, near, lost)
-                if not (-sure < lost.item(lost.argmin()) and lost.item(lost.argmax()) < sure):
+                if not is_within(lost, sure):
                     return 0
                 (narrow if size == 4 else wide)[:] = near
                 return size
         return 0
+
+
+def is_within(row: Any, far: float) -> bool:
+    """Whether all numbers of a row are less than that far from 0."""
+    return bool(-far < row.item(row.argmin()) and row.item(row.argmax()) < far)

@@ -55,6 +55,11 @@ class Part:
     place: Place
     paths: list[Path]
 
+    @property
+    def count(self) -> int:
+        """How many paths it has."""
+        return len(self.paths)
+
 
 class PlainLine(Part):
     """A line of points of two finite numbers of Python's own, whose coordinates stand in a row."""
@@ -67,6 +72,10 @@ class PlainLine(Part):
         """Its one path, whose points are made where they are asked for."""
         return [points_in(self.row)]
 
+    @property
+    def count(self) -> int:
+        return 1
+
 
 class PlainPolygon(Part):
     """A polygon of rings of such points, without the first one again at the end, whose coordinates stand in rows."""
@@ -78,6 +87,10 @@ class PlainPolygon(Part):
     def paths(self) -> list[Path]:  # type: ignore[override]
         """Its rings, whose points are made where they are asked for."""
         return [points_in(row) for row in self.rows]
+
+    @property
+    def count(self) -> int:
+        return len(self.rows)
 
 
 @dataclass
@@ -214,10 +227,10 @@ class Reader:
         found: Any = None
         if kind == LINES[0]:
             row = plain_numbers(coordinates)
-            found = row and len(row) > 2 and PlainLine(place._replace(part="line 1"), row)
+            found = row and len(row) > 2 and PlainLine(Place(place.feature, (), "line 1", 0, place.line), row)
         elif kind == POLYGONS[0]:
             rows = plain_rings(coordinates)
-            found = rows and PlainPolygon(place._replace(part="polygon 1"), rows)
+            found = rows and PlainPolygon(Place(place.feature, (), "polygon 1", 0, place.line), rows)
         if not found:
             return None
         self.finds_any = True

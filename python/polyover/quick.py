@@ -5,7 +5,7 @@ from __future__ import annotations
 
 import sys
 from array import array
-from ctypes import addressof, c_byte, c_int, c_size_t, c_void_p, string_at
+from ctypes import PyDLL, addressof, c_byte, c_int, c_size_t, c_void_p, string_at
 from functools import lru_cache
 from itertools import chain
 from operator import attrgetter
@@ -84,25 +84,28 @@ def bytes_of(thing: Any) -> bytes:
 
 # ---- rings of shapely 1.8, by GEOS itself
 
-# what writes the coordinates of a ring, once it is looked for
-COPIERS: list[Callable[[Any, int, int], int]] = []
+# what writes the coordinates of two rings, once it is looked for
+COPIERS: list[Callable[[Any, Any, int, int], tuple[int, int]]] = []
+NONE = 0, 0
 
 
-def no_copier(*_: Any) -> int:
+def no_copier(*_: Any) -> tuple[int, int]:
     """Writes nothing: there is no shapely 1.8, or its GEOS is older than 3.10."""
-    return 0
+    return NONE
 
 
-def new_copier() -> Callable[[Any, int, int], int]:
-    """What writes the coordinates of the ring of a polygon of shapely 1.8 to an address."""
+def new_copier() -> Callable[[Any, Any, int, int], tuple[int, int]]:
+    """What writes the coordinates of the rings of two polygons of shapely 1.8 to an address."""
     geos: Any = sys.modules.get("shapely.geos")
     local: Any = getattr(geos, "lgeos", None)
     loaded: Any = getattr(local, "_lgeos", None)
     if not hasattr(loaded, "GEOSCoordSeq_copyToBuffer_r"):
         return no_copier
+    # (calls that are over at once do not let other threads run)
+    held = PyDLL(loaded._name, handle=loaded._handle)
 
     def function(name: str, answers: Any, *more: Any) -> Any:
-        found = loaded[f"{name}_r"]
+        found = held[f"{name}_r"]
         found.argtypes, found.restype = (c_void_p, c_void_p, *more), answers
         return found
 
@@ -110,26 +113,35 @@ def new_copier() -> Callable[[Any, int, int], int]:
     count, holes = function("GEOSGetNumCoordinates", c_int), function("GEOSGetNumInteriorRings", c_int)
     is_high, copy = function("GEOSHasZ", c_byte), function("GEOSCoordSeq_copyToBuffer", c_int, c_void_p, c_int, c_int)
 
-    def copied(thing: Any, place: int, room: int) -> int:
+    def copied(one: Any, other: Any, place: int, room: int) -> tuple[int, int]:
         # (the handle is one of this thread)
-        handle, asked = local.geos_handle, thing._geom
-        points: int = count(handle, asked) if asked else 0
-        if not 3 < points <= room or holes(handle, asked) or is_high(handle, asked):
-            return 0
-        return points - 1 if copy(handle, sequence(handle, outline(handle, asked)), place, 0, 0) else 0
+        handle, first, second = local.geos_handle, one._geom, other._geom
+        points, more = first and count(handle, first), second and count(handle, second)
+        # (a ring has four points at least, with the first one again)
+        if not (points and more and points + more <= room):
+            return NONE
+        if holes(handle, first) or is_high(handle, first) or holes(handle, second) or is_high(handle, second):
+            return NONE
+        behind = place + 16 * (points - 1)
+        if not copy(handle, sequence(handle, outline(handle, first)), place, 0, 0):
+            return NONE
+        if not copy(handle, sequence(handle, outline(handle, second)), behind, 0, 0):
+            return NONE
+        return points - 1, more - 1
 
     return copied
 
 
-def ring_into(thing: Any, place: int, room: int) -> int:
-    """Writes the coordinates of a polygon of one ring of shapely 1.8, x before y, to an address, where there is room
-    for some points; how many points there are without the first one again at the end, or 0 where it is not taken."""
-    kind: Any = type(thing)
-    if not is_polygon(kind):
-        return 0
+def rings_into(one: Any, other: Any, place: int, room: int) -> tuple[int, int]:
+    """Writes the coordinates of two polygons of one ring of shapely 1.8, x before y, to an address, where there is room
+    for some points; how many points each has without the first one again at the end, or 0 where they are not taken."""
+    first: Any = type(one)
+    second: Any = type(other)
+    if not is_polygon(first) or not is_polygon(second):
+        return NONE
     if not COPIERS:
         COPIERS.append(new_copier())
-    return COPIERS[0](thing, place, room)
+    return COPIERS[0](one, other, place, room)
 
 
 # ---- rings

@@ -4,12 +4,13 @@ from __future__ import annotations
 
 import warnings
 from functools import partial
-from typing import Any, Callable
+from typing import Any, Callable, Sequence
 
 from . import by_library
 from .calls import asked, listed, placed
-from .contour import WholePath, room_of, shifted
+from .contour import Row, WholePath, room_of, shifted
 from .errors import LibraryMissing, NotSettled, PolyoverWarning
+from .flat import flat_rows
 from .text import AS_GIVEN, FILLS, RELATION_SOLVERS, SNAPPED, Fill, RelationSolver, Solver, coordinate, items_of, known
 
 # (by how many powers of two relations are told coarser where rounds do not settle)
@@ -70,6 +71,11 @@ def told_exactly(subject: Any, clip: Any, fill: Fill) -> dict[str, bool]:
     subject, clip = listed("subject", subject), listed("clip", clip)
     with placed(subject=subject, clip=clip):
         return by_library.relate_exact(subject, clip, fill)
+
+
+def bits_of_rows(subject: Sequence[Row], clip: Sequence[Row]) -> int:
+    """Returns the sum of the bits of the relations of contours in rows, for the fill rule nonzero."""
+    return by_library.exact_bits(flat_rows(subject), flat_rows(clip), "nonzero")
 
 
 # ---- of an arrangement

@@ -278,14 +278,16 @@ def run_locate(given: Any) -> None:
     places = files.points_of(given.other, given)
     tell_other_crs(area, places)
     scaled = Scaled.of_digits(given.digits)
-    picture = Picture("points, located")
-    picture.add_contours("subject", paths_of(area))
     with work_on_two(given, f"places of {places.count} features in {rings_of(area)} rings", area, places):
-        shapes = calls.overlay(scaled.whole(polygons_of(given, area)), (), "subject", fill_of(given))
+        contours = flat_rows(scaled.whole_rows(polygons_of(given, area)))
+        shapes = calls.overlay(contours, (), "subject", fill_of(given), arrays=True)
         points = [point[:2] for path in paths_of(places) for point in path]
-        told = calls.locate([contour for shape in shapes for contour in shape], whole_points_of(scaled, places, points))
-    for name in ("inside", "boundary", "outside"):
-        picture.add_points(name, [point for point, place in zip(points, told) if place == name])
+        told = calls.locate(shapes.contours, whole_points_of(scaled, places, points))
+    picture = Picture("points, located")
+    if given.svg:
+        picture.add_contours("subject", paths_of(area))
+        for name in ("inside", "boundary", "outside"):
+            picture.add_points(name, [point for point, place in zip(points, told) if place == name])
     found, moved = iter(told), name_for_own(places)
     features = [located(each, found, moved) for each in places.features]
     leave(given, features, picture, places)

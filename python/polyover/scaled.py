@@ -9,7 +9,7 @@ from math import ceil
 from operator import sub
 from typing import Any, Callable, Iterable, Sequence
 
-from . import calls, quick, relations, small
+from . import calls, piecewise, quick, relations, small
 from .columns import ERROR, EXACT, LEAST, row_of_points, whole_points
 from .contour import Row, WholePath, WholePoint, points_in, row_of
 from .errors import BadInput
@@ -26,6 +26,7 @@ from .shapes import Paths, Shapes
 from .text import AS_GIVEN, FILLS, RELATION_BITS, SNAPPED, Fill, RelationSolver, Rule, Solver, items_of, known
 from .told import Told
 
+COLLECTIONS = ("FeatureCollection", "GeometryCollection")
 # (ties go to the even number)
 NEAREST: Callable[[float], int] = round
 
@@ -365,6 +366,9 @@ class Scaled(RulesAtScale):
             found = small.relations(library(), self.axes, subject, clip, fill)
             if found is not None:
                 return {name: bool(found & bit) for name, bit in RELATION_BITS.items()}
+            layers = self._layers(subject, clip, fill, solver)
+            if layers:
+                return piecewise.relations(*layers, relations.bits_of_rows)
         return relations.relate(*self._related(subject, clip, fill, solver), solver=solver)
 
     def _relate_one(
@@ -374,7 +378,21 @@ class Scaled(RulesAtScale):
             found = small.relations(library(), self.axes, subject, clip, fill)
             if found is not None:
                 return bool(found & RELATION_BITS[relation])
+            layers = self._layers(subject, clip, fill, solver)
+            if layers:
+                return piecewise.relations(*layers, relations.bits_of_rows)[relation]
         return relations.relate_one(relation, *self._related(subject, clip, fill, solver), solver=solver)
+
+    def _layers(
+        self, subject: Group, clip: Group, fill: Fill, solver: RelationSolver | None
+    ) -> tuple[list[list[Row]], list[list[Row]]] | None:
+        """The contours of the polygons of two groups, if these are geometries whose relations are told as they are
+        given, and one is of many features."""
+        if not (are_many(subject) or are_many(clip)) or not (covers(subject) and covers(clip)):
+            return None
+        if not known(FILLS, fill, "fill rule") or not relations.is_exact(solver):
+            return None
+        return taken("subject", subject).rows_of_each(self), taken("clip", clip).rows_of_each(self)
 
     def _related(
         self, subject: Group, clip: Group, fill: Fill, solver: RelationSolver | None
@@ -473,6 +491,11 @@ def fraction_of(value: Any, what: str) -> Fraction:
 def covers(group: Group) -> bool:
     """Whether what was given for contours means what polygons cover, whatever the fill rule."""
     return not group.is_raw if isinstance(group, Polygons) else is_of_geometry(group)
+
+
+def are_many(group: Group) -> bool:
+    """Whether what was given is the polygons of a file, or a collection."""
+    return isinstance(group, Polygons) or isinstance(group, dict) and group.get("type") in COLLECTIONS
 
 
 def is_of_geometry(group: Group) -> bool:

@@ -18,7 +18,7 @@ from .columns import Columns, whole_row
 from .flat import parted
 from .geojson import LISTS, NUMBERS
 from .library import Library
-from .quick import ring_into, ring_of
+from .quick import ring_of, rings_into
 from .shapes import Paths, Shapes
 
 WORD = 8
@@ -35,6 +35,7 @@ HEAD = Struct("12q")
 RULES = {"subject": 0, "clip": 1, "intersect": 2, "union": 3, "difference": 4, "inverse_difference": 5, "xor": 6}
 # (a ring fills the same by these, whichever way it runs)
 FILLS = {"evenodd": 0, "nonzero": 1}
+NONZERO = FILLS["nonzero"]
 # (how far from 0 coordinates of 32 bits are at most)
 NARROW = 2**30 - 1
 
@@ -95,12 +96,9 @@ class Frame:
     # ---- what is given
 
     def group(self, group: Any, at: int) -> Given | None:
-        """A group as it is taken here, if it is; a ring of shapely's is read to its place in the array of floats."""
+        """A group as it is taken here, if it is."""
         if type(group) in LISTS:
             return listed(group, at)
-        points = ring_into(group, self.floats_at + WORD * at, (GIVEN - at) // 2)
-        if points:
-            return at + 2 * points, [points], True, None
         ring = ring_of(group)
         return None if ring is None else (at + len(ring), [len(ring) // 2], True, ring)
 
@@ -147,14 +145,8 @@ class Frame:
         numbers = iter(self.words[COORDINATES + start : COORDINATES + end])
         return 2 * len(set(zip(numbers, numbers))) == end - start
 
-    def take(self, axes: Sequence[Any], subject: Any, clip: Any) -> Width | None:
-        """Writes two groups, if they are small and plain, and the rings of geometries simple; at which width."""
-        one = self.group(subject, 0)
-        if one is None or one[0] > GIVEN:
-            return None
-        other = self.group(clip, one[0])
-        if other is None or other[0] > GIVEN or len(one[1]) + len(other[1]) + 2 > CONTOURS:
-            return None
+    def taken(self, axes: Sequence[Any], one: Given, other: Given) -> Width | None:
+        """Writes two groups, if the rings of geometries are simple; at which width."""
         width = self.whole(axes, one, other)
         self.write_head(width, one, other)
         if one[2] and not self.visits_once(width, 0, one[0]):
@@ -164,6 +156,20 @@ class Frame:
         if one[2]:
             return None if width.resolved(self.both if other[2] else self.base) else width
         return None if other[2] and width.resolved(self.clip) else width
+
+    def take(self, axes: Sequence[Any], subject: Any, clip: Any) -> Width | None:
+        """The same of what is given, if it is small and plain."""
+        first, second = rings_into(subject, clip, self.floats_at, GIVEN // 2)
+        if first:
+            start, end = 2 * first, 2 * (first + second)
+            return self.taken(axes, (start, [first], True, None), (end, [second], True, None))
+        one = self.group(subject, 0)
+        if one is None or one[0] > GIVEN:
+            return None
+        other = self.group(clip, one[0])
+        if other is None or other[0] > GIVEN or len(one[1]) + len(other[1]) + 2 > CONTOURS:
+            return None
+        return self.taken(axes, one, other)
 
     # ---- what is answered
 
@@ -182,11 +188,36 @@ class Frame:
 
     def relations(self, axes: Sequence[Any], subject: Any, clip: Any, fill: int) -> int | None:
         """The bits of the relations that hold, if the groups are taken and the call ends well."""
-        width = self.take(axes, subject, clip)
-        self.words[COUNTS] = 0
-        if width is None or width.relate(fill, self.base, self.clip, self.counts):
+        words, width = self.words, self.take_rings(axes, subject, clip)
+        if width:
+            # (it fills what rings cover, those too that visit a point twice)
+            fill = NONZERO
+        else:
+            width = self.take(axes, subject, clip)
+        words[COUNTS] = 0
+        if not width or width.relate(fill, self.base, self.clip, self.counts):
             return None
-        return self.words[COUNTS]
+        return words[COUNTS]
+
+    def take_rings(self, axes: Sequence[Any], subject: Any, clip: Any) -> Width | None:
+        """Writes two rings of shapely's, if no steps of one meet but in ends, and floats tell their whole numbers; at
+        which width. (This is `take`, straight on.)"""
+        columns, axis = self.columns, axes[0]
+        if columns is None or axis is not axes[1]:
+            return None
+        first, second = rings_into(subject, clip, self.floats_at, GIVEN // 2)
+        start, end = 2 * first, 2 * (first + second)
+        size = first and columns.write(axis, end)
+        if not size:
+            return None
+        width = self.narrow if size == 4 else self.wide
+        if self.written != (size, start, end):
+            self.write_head(width, (start, [first], True, None), (end, [second], True, None))
+        # (of rings whose steps do not meet so, but which have no inside, all points are one)
+        words, behind = self.words, COORDINATES + first * size // 4
+        if words[COORDINATES] == words[COORDINATES + size // 4] or words[behind] == words[behind + size // 4]:
+            return None
+        return None if width.resolved(self.both) else width
 
 
 def points_of(whole: Sequence[int], axes: Sequence[Any]) -> list[tuple[float, float]]:

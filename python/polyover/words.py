@@ -59,4 +59,4 @@ def paths_of(file: File) -> list[Any]:
 
 def rings_of(file: File) -> int:
     """How many rings a file has."""
-    return len(paths_of(file))
+    return sum(part.count for each in file.features for part in each.parts)

@@ -10,7 +10,7 @@ from polyover import relations
 from polyover.by_library import can
 from polyover.text import RELATIONS
 
-from .features import feature, ran
+from .features import collection, feature, ran
 from .made_polygons import GRID, expected, made_pair
 from .there import ask_library_alone, ask_program_alone, with_library, with_program
 
@@ -46,6 +46,17 @@ with_exact = unittest.skipUnless(can("relate_exact"), "no library for C that tel
 def held(told):
     """The names of the relations that hold."""
     return [name for name, holds in told.items() if holds]
+
+
+def made_layer(chance, side):
+    """Rings of a layer: triangles and rectangles, which may overlap, or lie in one another."""
+    rings = []
+    for _ in range(chance.randint(1, 6)):
+        (x, y), far = (chance.randint(0, side) for _ in range(2)), chance.choice((1, side // 3 + 1, side))
+        u, v = chance.randint(1, far), chance.randint(1, far)
+        corners = [(x, y), (x + u, y), (x + u, y + v), (x, y + v)]
+        rings.append(chance.choice((corners, corners[:3], [(x, y), (x + u, y + v), (x - v, y + u)])))
+    return [[list(point) for point in [*ring, ring[0]]] for ring in rings]
 
 
 def polygon(contour):
@@ -100,6 +111,21 @@ class AsGiven(unittest.TestCase):
                 self.assertTrue(getattr(polyover.Scaled(1), name)(both, both, fill))
             inner = {"type": "Polygon", "coordinates": [[[0, 0], [1, 0], [1, 2], [0, 0]]]}
             self.assertEqual(held(polyover.Scaled(1).relate(inner, both, fill)), [*OVERLAP, "within"])
+
+    def test_layers_polygon_by_polygon(self):
+        chance, scaled, told = random.Random(13), polyover.Scaled(1), set()
+        for _ in range(400):
+            side = chance.choice((3, 8, 400, 4000))
+            layers = [made_layer(chance, side), made_layer(chance, side)]
+            whole = [{"type": "MultiPolygon", "coordinates": [[ring] for ring in each]} for each in layers]
+            apart = [collection(*(feature("Polygon", [ring]) for ring in each)) for each in layers]
+            expected = scaled.relate(*whole)
+            told.add(tuple(held(expected)))
+            for given in (apart, (whole[0], apart[1]), (apart[0], whole[1])):
+                self.assertEqual(scaled.relate(*given, "evenodd"), expected, layers)
+            name = chance.choice(RELATIONS)
+            self.assertEqual(getattr(scaled, name)(*apart), expected[name])
+        self.assertGreater(len(told), 5)
 
     def test_words(self):
         for owner in (polyover, polyover.Scaled(1)):

@@ -1,0 +1,54 @@
+"""Relations of what many polygons cover, exactly: each polygon is asked with what is near it, until all is told. That
+takes less than one call of all polygons, whose edges the library compares with one another too."""
+
+from __future__ import annotations
+
+from typing import Callable, Sequence
+
+from .contour import Row
+from .nearby import Nearby
+from .text import RELATION_BITS
+
+# the bits of the relations of two lists of contours, for the fill rule nonzero
+Told = Callable[[Sequence[Row], Sequence[Row]], int]
+Polygons = Sequence[Sequence[Row]]
+INTERSECTS, INTERIORS = RELATION_BITS["intersects"], RELATION_BITS["interiors_intersect"]
+POINTS, WITHIN = RELATION_BITS["point_intersects"], RELATION_BITS["within"]
+
+
+def of_one_side(polygons: Polygons, others: Polygons, told: Told) -> tuple[bool, bool, bool, bool]:
+    """Whether any polygon meets others, and any does so in its interior; whether all that meet them do so in single
+    points alone; and whether all lie in what the others cover."""
+    near = Nearby(row for rows in others for row in rows)
+    meets, overlaps, in_points, are_within = False, False, True, any(map(any, polygons))
+    for rows in polygons:
+        if not any(rows):
+            continue
+        part = near.part_within(rows)
+        bits = told(rows, part) if part else 0
+        meets, overlaps = meets or bool(bits & INTERSECTS), overlaps or bool(bits & INTERIORS)
+        in_points = in_points and bool(not bits & INTERSECTS or bits & POINTS)
+        are_within = are_within and bool(bits & WITHIN)
+        if overlaps and not are_within:
+            break
+    return meets, overlaps, meets and in_points and not overlaps, are_within
+
+
+def relations(subject: Polygons, clip: Polygons, told: Told) -> dict[str, bool]:
+    """Which relations hold of what two lists of polygons cover, each by its contours."""
+    meets, overlaps, in_points, are_within = of_one_side(subject, clip, told)
+    return {
+        "intersects": meets,
+        "interiors_intersect": overlaps,
+        "touches": meets and not overlaps,
+        "point_intersects": in_points,
+        "within": are_within,
+        "disjoint": not meets,
+        "covers": overlaps and are_all_within(clip, subject, told),
+    }
+
+
+def are_all_within(polygons: Polygons, others: Polygons, told: Told) -> bool:
+    """Whether all polygons lie in what the others cover."""
+    near = Nearby(row for rows in others for row in rows)
+    return all(told(rows, near.part_within(rows)) & WITHIN for rows in polygons if any(rows))
