@@ -1,11 +1,12 @@
 #!/usr/bin/env python3
-"""Times small overlays of Python beside shapely, and prints a table in Markdown: microseconds of processor time a call.
+"""Times small calls of Python beside shapely, and prints tables in Markdown: microseconds of processor time a call.
 
     /usr/bin/python3 benches/small.py [--points 4 8 32 128]     by Debian's shapely and the library in out/
 
-Each call is the intersection of two stars with that many corners, in turn far and near, moved a little. The columns are
-`Scaled.overlay` of shapely's polygons, with an answer that is made shapely's again, of GeoJSON and of lists of points.
-Each figure is the least of `--times` rounds, and the rounds of all columns come in turn.
+Each call is the intersection of two stars with that many corners, in turn far and near, moved a little, or whether they
+intersect. The columns are `Scaled.overlay`, or `Scaled.intersects`, of shapely's polygons, with an answer that is made
+shapely's again, of GeoJSON and of lists of points. Each figure is the least of `--times` rounds, and the rounds of all
+columns come in turn.
 """
 
 import argparse
@@ -38,19 +39,27 @@ def star(points, x, y):
 
 
 def calls_of(points):
-    """The calls that are timed, by their names."""
+    """The calls that are timed, by their names, of an overlay and of a relation."""
     rings = star(points, 0, 0), star(points, 0.31, 0.17)
     one, other = map(Polygon, rings)
     geojson = [{**mapping(each), "coordinates": [list(map(list, mapping(each)["coordinates"][0]))]} for each in
                (one, other)]
-    overlay = SCALED.overlay
-    return {
+    lists = [rings[0]], [rings[1]]
+    overlay, intersects = SCALED.overlay, SCALED.intersects
+    overlays = {
         "shapely": lambda: one.intersection(other),
         "of shapely's polygons": lambda: overlay(one, other, "intersect"),
         "shapely's again": lambda: wkb.loads(overlay(one, other, "intersect").wkb),
         "of GeoJSON": lambda: overlay(*geojson, "intersect"),
-        "of lists": lambda: overlay([rings[0]], [rings[1]], "intersect"),
+        "of lists": lambda: overlay(*lists, "intersect"),
     }
+    relations = {
+        "shapely": lambda: one.intersects(other),
+        "of shapely's polygons": lambda: intersects(one, other),
+        "of GeoJSON": lambda: intersects(*geojson),
+        "of lists": lambda: intersects(*lists),
+    }
+    return {"overlay": overlays, "intersects": relations}
 
 
 def seconds_of(call, count):
@@ -72,16 +81,18 @@ def least(calls, times):
 
 
 def main():
-    """Prints the table."""
+    """Prints the tables."""
     parser = argparse.ArgumentParser(description=__doc__, formatter_class=argparse.RawDescriptionHelpFormatter)
     parser.add_argument("--points", type=int, nargs="*", default=[4, 8, 32, 128])
     parser.add_argument("--times", type=int, default=100, help="rounds, each of a hundredth of a second (100)")
     given = parser.parse_args()
-    for at, points in enumerate(given.points):
-        found = least(calls_of(points), given.times)
-        if at == 0:
-            print(table_row(["Points", *found]), table_row("---" for _ in range(1 + len(found))), sep="\n")
-        print(table_row([points, *(f"{1e6 * seconds:.3g}" for seconds in found.values())]), flush=True)
+    for name in ("overlay", "intersects"):
+        for at, points in enumerate(given.points):
+            found = least(calls_of(points)[name], given.times)
+            if at == 0:
+                print(table_row([f"Points, {name}", *found]), table_row("---" for _ in range(1 + len(found))), sep="\n")
+            print(table_row([points, *(f"{1e6 * seconds:.3g}" for seconds in found.values())]), flush=True)
+        print()
 
 
 if __name__ == "__main__":

@@ -32,13 +32,16 @@ def made_ring(chance, size):
 
 
 def made_pair(chance, polygon):
-    """Two valid polygons of one size; some have points of the first in common, or lie in one another."""
+    """Two valid polygons of one size; some second ones have a corner of the first, or corners of it alone."""
     size, found = chance.choice(SIZES), []
     while len(found) < 2:
         ring = made_ring(chance, size)
         if found and chance.random() < 0.3:
             (x, y), (u, v) = chance.choice(found[0].exterior.coords), ring[0]
             ring = [(a - u + x, b - v + y) for a, b in ring]
+        elif found and chance.random() < 0.2:
+            corners = found[0].exterior.coords[:-1]
+            ring = [corners[at] for at in sorted(chance.sample(range(len(corners)), chance.randint(3, len(corners))))]
         made = polygon(ring)
         if made.is_valid and made.area:
             found.append(made)
