@@ -114,6 +114,8 @@ def whole_row(axes: Sequence[Any], numbers: Sequence[float]) -> list[int]:
         xs, ys = across.column(numbers[0::2]), up.column(numbers[1::2])
     else:
         floats = numpy.array(numbers, numpy.float64)
+        if across is up:
+            return whole_column(numpy, across, floats, numbers)
         xs = whole_column(numpy, across, floats[0::2], numbers[0::2])
         ys = whole_column(numpy, up, floats[1::2], numbers[1::2])
     row = [0] * len(numbers)

@@ -60,6 +60,13 @@ def directed(row: list[int], is_outline: bool) -> list[int] | None:
     return row
 
 
+def directed_rings(rows: Sequence[Row]) -> list[Row]:
+    """The coordinates of the rings of a polygon in their directions, the outline first; nothing where one visits a point
+    twice, or has no area."""
+    found = [directed(row, at == 0) for at, row in enumerate(rows)]
+    return [row for row in found if row is not None] if None not in found else []
+
+
 def box_of(contour: Sequence[Any]) -> tuple[Any, Any, Any, Any]:
     """The least x and y, and the greatest x and y."""
     xs, ys = [point[0] for point in contour], [point[1] for point in contour]

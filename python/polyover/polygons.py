@@ -147,6 +147,11 @@ def laid_apart(polygons: Sequence[Polygon]) -> tuple[list[WholePath], list[int]]
     return laid, starts
 
 
+def has_bad_holes(rows: Sequence[Row]) -> bool:
+    """Whether the same is so of one polygon, whose rings stand in rows, in their directions."""
+    return len(calls.overlay(flat_rows(rows), (), "subject", "negative", ogc=False, arrays=True)) > 0
+
+
 # ---- polygons of any kind
 
 

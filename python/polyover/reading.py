@@ -7,12 +7,12 @@ from itertools import accumulate, chain, islice
 from typing import Any, Callable, Iterable, Sequence
 
 from .columns import row_of_numbers
-from .contour import Row, WholePath, directed, extent_of, points_in, row_of
+from .contour import Row, WholePath, directed_rings, extent_of, points_in, row_of
 from .errors import BadInput
 from .flat import parted
 from .geojson import LINES, POLYGONS, Part, PlainLine, PlainPolygon, parts_of
 from .numbers import over_one_bottom
-from .polygons import Contour, Ring, are_resolved_rows, contours_of_each
+from .polygons import Contour, Ring, are_resolved_rows, contours_of_each, has_bad_holes
 from .text import LIMIT
 from .told import Told, counted
 
@@ -67,8 +67,8 @@ class Polygons:
         return found
 
     def plain_rows(self, scaled: Any) -> list[list[Row]] | None:
-        """The same of polygons of simple rings, where one has more than one, or is not simple, read by itself; none
-        where simple ones are not told from others so."""
+        """The same of polygons of plain rings, where those that are not simple, or have holes that overlap or lie
+        outside, are read by themselves; none where plain rings cross themselves, or are out of range."""
         if not all(type(part) is PlainPolygon for part in self.parts):
             return None
         rows = [row for part in self.parts for row in part.rows]  # type: ignore[attr-defined]
@@ -76,16 +76,13 @@ class Polygons:
         if whole is None or whole and max(max(whole), -min(whole)) > LIMIT:
             return None
         wholes = iter(parted(whole, list(accumulate(map(len, rows)))))
-        found: list[Row | None] = []
-        for part in self.parts:
-            its = list(islice(wholes, len(part.rows)))  # type: ignore[attr-defined]
-            found.append(directed(its[0], True) if len(its) == 1 else None)
-        simple = [row for row in found if row is not None]
-        if not are_resolved_rows(simple):
+        found = [directed_rings(list(islice(wholes, part.count))) for part in self.parts]
+        if not are_resolved_rows([row for its in found for row in its]):
             return None
-        others = Polygons([part for part, row in zip(self.parts, found) if row is None], self.source, False, self.told)
+        found = [[] if len(its) > 1 and has_bad_holes(its) else its for its in found]
+        others = Polygons([part for part, its in zip(self.parts, found) if not its], self.source, False, self.told)
         rest = iter(others.contours_of_each(scaled.whole_path) if others.parts else ())
-        return [[row_of(it) for it, _ in next(rest)] if row is None else [row] for row in found]
+        return [its or [row_of(whole) for whole, _ in next(rest)] for its in found]
 
 
 @dataclass
