@@ -214,8 +214,11 @@ class Frame:
         if self.written != (size, start, end):
             self.write_head(width, (start, [first], True, None), (end, [second], True, None))
         # (of rings whose steps do not meet so, but which have no inside, all points are one)
-        words, behind = self.words, COORDINATES + first * size // 4
-        if words[COORDINATES] == words[COORDINATES + size // 4] or words[behind] == words[behind + size // 4]:
+        if size == 4:
+            words, behind = self.words, COORDINATES + first
+            if words[COORDINATES] == words[COORDINATES + 1] or words[behind] == words[behind + 1]:
+                return None
+        elif not (self.visits_once(width, 0, start) and self.visits_once(width, start, end)):
             return None
         return None if width.resolved(self.both) else width
 

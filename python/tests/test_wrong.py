@@ -21,13 +21,17 @@ class Wrong(unittest.TestCase):
             polyover.overlay([SQUARE], fill="odd")
 
     def test_unknown_solvers(self):
-        of_two = ("overlay", "hierarchy", "edges", "relate", "clip", "slice")
+        of_two = ("overlay", "hierarchy", "edges", "clip", "slice")
         asked = {**dict.fromkeys(of_two, ([SQUARE], [SQUARE])), "simplify": ([SQUARE],), "tiles": ([SQUARE], 1, 1)}
         for name, given in asked.items():
             for owner in (polyover, polyover.Scaled(1)):
                 for solver in ("snap", "Rounds", None, 0):
                     with self.assertRaisesRegex(ValueError, f"unknown solver {solver!r}: one of snapped, rounds"):
                         getattr(owner, name)(*given, solver=solver)
+        for call in (polyover.relate, polyover.within, polyover.Scaled(1).relate, polyover.Scaled(1).touches):
+            for solver in ("snap", "Rounds", 0):
+                with self.assertRaisesRegex(ValueError, f"unknown solver {solver!r}: one of exact, snapped, rounds"):
+                    call([SQUARE], [SQUARE], solver=solver)
 
     def test_coordinates(self):
         with self.assertRaisesRegex(polyover.BadInput, "no whole number"):
