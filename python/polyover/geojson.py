@@ -60,6 +60,11 @@ class Part:
         """How many paths it has."""
         return len(self.paths)
 
+    @property
+    def size(self) -> int:
+        """How many points they have."""
+        return sum(map(len, self.paths))
+
 
 class PlainLine(Part):
     """A line of points of two finite numbers of Python's own, whose coordinates stand in a row."""
@@ -76,6 +81,10 @@ class PlainLine(Part):
     def count(self) -> int:
         return 1
 
+    @property
+    def size(self) -> int:
+        return len(self.row) // 2
+
 
 class PlainPolygon(Part):
     """A polygon of rings of such points, without the first one again at the end, whose coordinates stand in rows."""
@@ -91,6 +100,10 @@ class PlainPolygon(Part):
     @property
     def count(self) -> int:
         return len(self.rows)
+
+    @property
+    def size(self) -> int:
+        return sum(map(len, self.rows)) // 2
 
 
 @dataclass

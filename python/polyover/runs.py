@@ -9,6 +9,7 @@ from typing import Any, Callable, Iterable, Iterator, Sequence
 
 from . import calls, files, geojson, leaving, together
 from .answers import feature_of, leave, null_feature, say
+from .columns import numpy_for
 from .content import File
 from .contour import Row, WholePath
 from .errors import BadInput
@@ -177,6 +178,9 @@ def clips_of(given: Any, area: File, roads: File, picture: Picture) -> Iterator[
 
 def groups_with_lines(scaled: Scaled, roads: File) -> Iterator[list[tuple[Feature, list[Row]]]]:
     """Features, each with its lines by whole coordinates: many at a time where they are all there."""
+    if roads.count:
+        # (where it pays for all of them NumPy is loaded, and then taken for parts too)
+        numpy_for(sum(part.size for each in roads.features for part in each.parts))
     for group in groups_of(roads):
         parts = [part for each in group for part in each.parts]
         lines = iter(Lines(parts, roads.name, roads.told).rows(scaled))
