@@ -61,8 +61,8 @@ def directed(row: list[int], is_outline: bool) -> list[int] | None:
 
 
 def directed_rings(rows: Sequence[Row]) -> list[Row]:
-    """The coordinates of the rings of a polygon in their directions, the outline first; nothing where one visits a point
-    twice, or has no area."""
+    """The coordinates of the rings of a polygon in their directions, the outline first; nothing where one of them
+    visits a point twice, or has no area."""
     found = [directed(row, at == 0) for at, row in enumerate(rows)]
     return [row for row in found if row is not None] if None not in found else []
 
