@@ -14,6 +14,11 @@ from .features import square
 from .test_quick import geometry, star, told
 from .there import ask_program_alone, with_both, with_library
 
+try:
+    from shapely.geometry import Polygon
+except ImportError:
+    Polygon = None
+
 SCALED = polyover.Scaled.of_digits(7)
 RULES = ("subject", "clip", "intersect", "union", "difference", "inverse_difference", "xor")
 
@@ -61,6 +66,25 @@ class Small(unittest.TestCase):
                 ):
                     self.assertEqual(told(lambda c=call, a=one, b=other: c(a, b)),
                                      longer(lambda c=call, a=one, b=other: c(a, b)))
+
+    @unittest.skipIf(Polygon is None, "no python3 here has shapely (Debian's python3-shapely)")
+    def test_polygons_of_shapely(self):
+        chance, hole = random.Random(14), [square(1, 1, 2, 2)]
+        for _ in range(60):
+            x, y = (chance.uniform(0, 2) for _ in range(2))
+            rings = [(0, 0, 1), (1, 0, 2), (1, 1, 3)], [(0, 0), (4, 4), (4, 0), (0, 4)], [(0, 0), (0, y), (1, 1)], [
+                (1e-9, 0), (0, 1e-9), (0, 0)], [(0, 0), (2, 2), (4, 0), (4, 4), (2, 2), (0, 4)]
+            others = Polygon(square(0, 0, 4, 4), hole), Polygon(), *map(Polygon, rings)
+            one = Polygon(star(x, y, chance.randint(2, 40), 2, chance.uniform(0.3, 1.9)))
+            other = chance.choice((Polygon(star(y, x, chance.randint(2, 9))), chance.choice(others)))
+            scaled = chance.choice((SCALED, polyover.Scaled(3, (0.1, 0)), polyover.Scaled(10**12), polyover.Scaled(1)))
+            rule, fill = chance.choice(RULES), chance.choice(("nonzero", "evenodd"))
+            for given in ((one, other), (other, one)):
+                for call in (
+                    lambda a, b, s=scaled, r=rule, f=fill: s.overlay(a, b, r, f),
+                    lambda a, b, s=scaled, f=fill: s.relate(a, b, f),
+                ):
+                    self.assertEqual(told(lambda c=call, g=given: c(*g)), longer(lambda c=call, g=given: c(*g)))
 
     def test_what_is_not_taken(self):
         bow, thin, far = [(0, 0), (4, 4), (4, 0), (0, 4)], [(0, 0), (1e-9, 0), (0, 1e-9)], [(0, 0), (1e300, 0), (1, 1)]
