@@ -27,6 +27,8 @@ from .text import AS_GIVEN, FILLS, RELATION_BITS, SNAPPED, Fill, RelationSolver,
 from .told import Told
 
 COLLECTIONS = ("FeatureCollection", "GeometryCollection")
+# (how many polygons of a geometry are asked together, for their relations)
+MANY = 16
 # (ties go to the even number)
 NEAREST: Callable[[float], int] = round
 
@@ -494,8 +496,14 @@ def covers(group: Group) -> bool:
 
 
 def are_many(group: Group) -> bool:
-    """Whether what was given is the polygons of a file, or a collection."""
-    return isinstance(group, Polygons) or isinstance(group, dict) and group.get("type") in COLLECTIONS
+    """Whether what was given is the polygons of a file, a collection, or a geometry of many polygons."""
+    if isinstance(group, dict):
+        parts = group.get("coordinates")
+        return group.get("type") in COLLECTIONS or isinstance(parts, (list, tuple)) and len(parts) > MANY
+    if isinstance(group, Polygons):
+        return True
+    kind: Any = type(group)
+    return quick.is_of_shapely(kind) and len(getattr(group, "geoms", ())) > MANY
 
 
 def is_of_geometry(group: Group) -> bool:

@@ -123,6 +123,8 @@ class AsGiven(unittest.TestCase):
             told.add(tuple(held(expected)))
             for given in (apart, (whole[0], apart[1]), (apart[0], whole[1])):
                 self.assertEqual(scaled.relate(*given, "evenodd"), expected, layers)
+            with mock.patch("polyover.scaled.MANY", 0):
+                self.assertEqual(scaled.relate(*whole), expected, layers)
             name = chance.choice(RELATIONS)
             self.assertEqual(getattr(scaled, name)(*apart), expected[name])
         self.assertGreater(len(told), 5)
