@@ -331,12 +331,22 @@ export class Library {
     return this.answer("polyover_edges_result", asked, () => [fill, solver]);
   }
 
-  /** The bits of the relations that hold, of coordinates of 64 bits times 2 to the power. */
-  relate({ groups, grid }, fill, solver, power) {
+  /** The bits of the relations that hold of the contours as they are given: nothing is rounded. */
+  relate(asked, fill) {
+    return this.bits(asked, 0, suffixed("polyover_relate_exact", asked.kind), [fill]);
+  }
+
+  /** The bits of those that hold of the arrangement, of coordinates of 64 bits times 2 to the power. */
+  relateArranged(asked, fill, solver, power) {
+    return this.bits(asked, power, "polyover_relate", [fill, solver]);
+  }
+
+  /** The bits of relations that a call tells; its first arguments are given. */
+  bits({ groups, grid }, power, name, given) {
     return this.hold((held) => {
       const both = groups.map((group) => this.contours(held, group, grid, power));
       const found = new Row(held, Uint32Array, 1);
-      check(this.calls.polyover_relate(fill, solver, ...both, BigInt(found.at)));
+      check(this.calls[name](...given, ...both, BigInt(found.at)));
       return found.view()[0];
     });
   }

@@ -6,7 +6,7 @@ import { Arrangement } from "./arrangement.js";
 import { BadInput } from "./errors.js";
 import { misfit, sideOf } from "./cells.js";
 import { isGeometry, partsOf } from "./geojson.js";
-import { alike, askedOf, chosen, grouped, listed, pointsOf } from "./given.js";
+import { EXACT, alike, askedOf, chosen, chosenToRelate, grouped, listed, pointsOf } from "./given.js";
 import { Prepared } from "./prepared.js";
 import { shown } from "./shown.js";
 
@@ -84,14 +84,17 @@ export class Polyover {
     );
   }
 
-  /** Which relations hold: an object from the seven names to truths, told at the finest scale in the range. */
+  /**
+   * Which relations hold of the contours as they are given, nothing rounded: an object from the seven names to truths.
+   * With another solver than "exact" they are those of an arrangement, told at the finest scale in the range.
+   */
   relate(subject, clip, options = {}) {
-    const { fill, solver } = chosen(options, ["fill", "solver"]);
-    return this.#filled({ subject, clip }, { fill, solver }, "lists", (asked) => {
-      const whole = { ...asked, groups: alike(asked.groups, Float64Array, asked.grid) };
-      const extent = this.#library.extent(whole);
-      const power = extent === 0n || extent > LIMIT ? 0 : (LIMIT / extent).toString(2).length - 1;
-      const bits = this.#library.relate(whole, fill, solver, power);
+    const { fill, solver } = chosenToRelate(options);
+    const isExact = solver === EXACT;
+    // (the regions of two geometries are the same under each rule: no polygons need be joined)
+    const rule = isExact && [subject, clip].every(isGeometry) ? NONZERO : fill;
+    return this.#filled({ subject, clip }, { fill: rule, solver: isExact ? SNAPPED : solver }, "lists", (asked) => {
+      const bits = isExact ? this.#library.relate(asked, rule) : this.#arrangedBits(asked, fill, solver);
       return Object.fromEntries(RELATIONS.map((name, at) => [name, ((bits >> at) & 1) === 1]));
     });
   }
@@ -166,6 +169,14 @@ export class Polyover {
   /** Whether `locate` takes the contours: whether two steps of one share points only where they are ends of both. */
   isResolved(shape) {
     return this.#asked([this.#contours("shape", shape)], "lists", (asked) => this.#library.isResolved(asked));
+  }
+
+  /** The bits of the relations of an arrangement, of coordinates times the greatest power of two in the range. */
+  #arrangedBits(asked, fill, solver) {
+    const whole = { ...asked, groups: alike(asked.groups, Float64Array, asked.grid) };
+    const extent = this.#library.extent(whole);
+    const power = extent === 0n || extent > LIMIT ? 0 : (LIMIT / extent).toString(2).length - 1;
+    return this.#library.relateArranged(whole, fill, solver, power);
   }
 
   // ---- what is given

@@ -35,11 +35,20 @@ const OPTIONS = {
   answer: [undefined, (value) => (value === undefined ? value : ANSWERS[placeIn(ANSWERS, "answer")(value)])],
 };
 
+/** The number of the solver "exact", which relations have beside the others: it makes no arrangement. */
+export const EXACT = SOLVERS.length;
+const RELATING = { ...OPTIONS, solver: ["exact", placeIn([...SOLVERS, "exact"], "solver")] };
+
 /** The options of a call, each of which has one of these names, with the defaults of those not given. */
-export function chosen(options, names, grid) {
+export function chosen(options, names, grid, table = OPTIONS) {
   checkNames(options, names);
-  const values = names.map((name) => [name, options[name] ?? OPTIONS[name][0]]);
-  return Object.fromEntries(values.map(([name, value]) => [name, OPTIONS[name][1](value, grid)]));
+  const values = names.map((name) => [name, options[name] ?? table[name][0]]);
+  return Object.fromEntries(values.map(([name, value]) => [name, table[name][1](value, grid)]));
+}
+
+/** The options of a call for relations. */
+export function chosenToRelate(options) {
+  return chosen(options, ["fill", "solver"], undefined, RELATING);
 }
 
 // ---- groups

@@ -39,6 +39,8 @@ export type Rule = "subject" | "clip" | "intersect" | "union" | "difference" | "
 export type Fill = "evenodd" | "nonzero" | "positive" | "negative";
 /** How edges that cross are split: by snap rounding, or in rounds, which needles may refuse with `NotSettled`. */
 export type Solver = "snapped" | "rounds";
+/** How relations are told: of the contours as they are given, or of an arrangement by a solver. */
+export type RelationSolver = "exact" | Solver;
 /** The form of an answer; that of the first group where none is named. */
 export type Form = "lists" | "arrays" | "geojson";
 export type Location = "outside" | "inside" | "boundary";
@@ -52,6 +54,12 @@ export interface SolverOptions {
 export interface FillOptions extends SolverOptions {
   /** "nonzero" if it is not given. A geometry is its region under each rule. */
   fill?: Fill;
+}
+export interface RelateOptions {
+  /** "nonzero" if it is not given. A geometry is its region under each rule. */
+  fill?: Fill;
+  /** "exact" if it is not given; with another one relations are those of an arrangement, at the finest scale. */
+  solver?: RelationSolver;
 }
 export interface AnswerOptions<F extends Form> {
   answer?: F;
@@ -199,8 +207,8 @@ export class Polyover {
     subject: P,
     options?: LookOptions & AnswerOptions<F>,
   ): ShapesAs<NumberOf<P>>[F];
-  /** Which relations hold, told at the finest scale in the range. */
-  relate(subject: Paths, clip: Paths, options?: FillOptions): Relations;
+  /** Which relations hold of the contours as they are given: nothing is rounded. */
+  relate(subject: Paths, clip: Paths, options?: RelateOptions): Relations;
   /** The parts of open paths inside the shape, or as the options say. */
   clip<P extends Paths, Q extends Paths, F extends Form = FormOf<P>>(
     shape: P,
@@ -324,7 +332,7 @@ export class RemotePolyover {
     subject: P,
     options?: LookOptions & AnswerOptions<F>,
   ): Promise<ShapesAs<NumberOf<P>>[F]>;
-  relate(subject: Paths, clip: Paths, options?: FillOptions): Promise<Relations>;
+  relate(subject: Paths, clip: Paths, options?: RelateOptions): Promise<Relations>;
   clip<P extends Paths, Q extends Paths, F extends Form = FormOf<P>>(
     shape: P,
     lines: Q,

@@ -15,7 +15,7 @@ from typing import Any
 
 sys.path.insert(0, str(Path(__file__).resolve().parents[2] / "python"))
 import polyover  # noqa: E402
-from polyover.text import FILLS, RULES, SOLVERS  # noqa: E402
+from polyover.text import FILLS, RULES, SNAPPED, SOLVERS  # noqa: E402
 
 REACH = 24
 
@@ -57,7 +57,7 @@ def made(random: Random) -> dict[str, Any]:
         "overlay": scaled.overlay(subject, clip, rule, minimum_area=area, **split),
         "hierarchy": {"shapes": shapes, "links": links},
         "simplify": scaled.simplify(subject, minimum_area=area, **split),
-        "relate": list(scaled.relate(subject, clip, fill).values()),
+        "relate": list(scaled.relate(subject, clip, fill, solver=SNAPPED).values()),
         "clip": scaled.clip(subject, [line], **split),
         "slice": scaled.slice(subject, [line], **split),
         "edges": scaled.edges(subject, clip, **split),

@@ -24,7 +24,7 @@ function answersTo({ subject, clip, line, points, scale, rule, fill, solver, min
     overlay: scaled.overlay(subject, clip, { ...lists, rule, minimumArea }),
     hierarchy: scaled.hierarchy(subject, clip, { ...lists, rule, minimumArea }),
     simplify: scaled.simplify(subject, { ...lists, minimumArea }),
-    relate: Object.values(scaled.relate(subject, clip, { fill })),
+    relate: Object.values(scaled.relate(subject, clip, { fill, solver: "snapped" })),
     clip: scaled.clip(subject, [line], lists),
     slice: scaled.slice(subject, [line], lists),
     edges: scaled.edges(subject, clip, lists),

@@ -17,7 +17,7 @@ from typing import Any
 
 sys.path.insert(0, str(Path(__file__).resolve().parents[2] / "python"))
 import polyover  # noqa: E402
-from polyover.text import FILLS, LIMIT, RULES, SOLVERS  # noqa: E402
+from polyover.text import FILLS, LIMIT, RULES, SNAPPED, SOLVERS  # noqa: E402
 
 CALLS = ("overlay", "hierarchy", "simplify", "relate", "clip", "slice", "locate", "edges", "is_resolved", "prepare")
 SMALL, WIDE = 2**30 - 1, 2**50
@@ -65,8 +65,9 @@ def made(random: Random) -> tuple[str, list[Any], dict[str, Any], int]:
     if call == "locate":
         return call, [[box(random, reach) for _ in first], path(random, reach)], {}, reach
     if call == "relate":
-        # (by rounds Python goes on where they do not settle)
-        return call, [first, contours(random, reach)], {"fill": random.choice(list(FILLS))}, reach
+        # (of the arrangement; by rounds Python goes on where they do not settle)
+        options = {"fill": random.choice(list(FILLS)), "solver": SNAPPED}
+        return call, [first, contours(random, reach)], options, reach
     options = filled(random)
     if call == "prepare":
         return call, [first, path(random, reach)], options, reach

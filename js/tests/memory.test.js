@@ -20,6 +20,7 @@ const CALLS = {
   hierarchy: (it) => it.hierarchy(NESTED, [], { rule: "subject", fill: "evenodd" }),
   simplify: (it) => it.simplify([SQUARE, OTHER]),
   relate: (it) => it.relate([SQUARE], [OTHER]),
+  relateArranged: (it) => it.relate([SQUARE], [OTHER], { solver: "snapped" }),
   clip: (it) => it.clip(HALL, WALLS),
   slice: (it) => it.slice(HALL, WALLS, { fill: "evenodd" }),
   tiles: (it) => it.tiles([SQUARE, OTHER], 1, 3),

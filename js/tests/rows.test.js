@@ -100,11 +100,6 @@ test("relations", () => {
   assert.deepEqual(names, ["intersects", "touches", "pointIntersects"]);
 });
 
-test("relations are told at the finest scale", () => {
-  const told = polyover.relate([[[1, 2], [2, 0], [3, 2]]], [[[0, 0], [3, 2], [2, 1]]]);
-  assert.equal(told.disjoint, false);
-});
-
 test("clip", () => {
   const shape = [[[-10, -10], [-10, 10], [10, 10], [10, -10]]];
   const line = [[[0, -15], [0, 15]]];

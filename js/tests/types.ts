@@ -23,6 +23,8 @@ export async function asked(): Promise<unknown[]> {
   const other: Other = polyover.scaled(100).overlay(geometry as Other);
   const found: { shapes: Shapes; links: Link[] } = polyover.hierarchy([square]);
   const relations: Relations = polyover.relate([square], arrays.contours);
+  const exact: Relations = polyover.relate([square], [square], { solver: "exact" });
+  const arranged: Relations = polyover.relate([square], [square], { fill: "evenodd", solver: "rounds" });
   const places: Location[] = polyover.locate([square], [[1, 1]]);
   const numbers: Uint8Array = polyover.locate([square], new Float64Array(2));
   const big: Shapes<bigint> = polyover.overlay([[[0n, 0n], [4n, 0n], [4n, 4n]]]);
@@ -56,6 +58,8 @@ export async function asked(): Promise<unknown[]> {
 
   // @ts-expect-error: there is no such rule
   polyover.overlay([square], [], { rule: "join" });
+  // @ts-expect-error: nor is an overlay told without a solver
+  polyover.overlay([square], [], { solver: "exact" });
   // @ts-expect-error: and no such option
   polyover.simplify([square], { ogc: true });
   // @ts-expect-error: nor is a geometry one without a type
@@ -77,7 +81,7 @@ export async function asked(): Promise<unknown[]> {
 
   return [
     ...[asked, inside, truths, answered, lists, named, other, found, relations, places, numbers, edges, parts, is],
-    ...[shared, linked, between, halves, farShapes],
+    ...[exact, arranged, shared, linked, between, halves, farShapes],
     ...[tiles, later, big, built, kind, bytes, there, multiPolygon(lists)],
   ];
 }
