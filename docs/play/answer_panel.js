@@ -56,8 +56,10 @@ const edgeLine = ([a, b, fill], /** @type {number} */ at) => [
 /** The rest of an answer, by its kind. */
 function detailsOf(state, answer) {
   switch (answer.kind) {
-    case "relations":
-      return element("ul", { class: "pieces" }, ...RELATIONS.map((name) => relationLine(name, answer.relations[name])));
+    case "relations": {
+      const lines = RELATIONS.map((name) => relationLine(name, answer.relations[name]));
+      return element("ul", { class: "pieces relations" }, ...lines);
+    }
     case "locations": {
       const points = answer.drawing.figures.point;
       const mark = (at) => [element("i", { class: `mark ${answer.locations[at]}`, mark: answer.locations[at] })];

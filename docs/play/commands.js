@@ -11,6 +11,7 @@
  * @property {string} rule  a key of RULES
  * @property {string} fill  a key of FILLS
  * @property {"snapped" | "rounds"} solver
+ * @property {"contours" | "arrangement"} of  whose relations are told: of the contours as drawn no solver is asked
  * @property {boolean} valid  no contour visits a point twice
  * @property {boolean} clockwise
  * @property {boolean} keep
@@ -44,7 +45,12 @@ export const COMMANDS = {
     LOOK,
     "The shapes round what the subject fills; one simple contour stays as it is.",
   ),
-  relate: command(REGIONS, "relations", FILLED, "How subject and clip lie to each other."),
+  relate: command(
+    REGIONS,
+    "relations",
+    ["of", ...FILLED],
+    "How subject and clip lie to each other, as they are drawn: nothing is rounded.",
+  ),
   clip: command(LINES, "paths", [...FILLED, "invert", "boundary"], "The parts of the lines inside the subject."),
   slice: command(LINES, "shapes", FILLED, "The shapes into which the lines cut the subject."),
   tiles: command(
@@ -110,6 +116,7 @@ export const DEFAULTS = {
   rule: "union",
   fill: "nonzero",
   solver: "snapped",
+  of: "contours",
   valid: true,
   clockwise: false,
   keep: false,
@@ -120,10 +127,23 @@ export const DEFAULTS = {
   height: 10,
 };
 
-/** Whether a command has an option. Points in contours that are joined by exclusive or are located without a solver. */
-export function isOption(/** @type {Asked} */ { command, fill }, /** @type {string} */ name) {
-  const isExact = command === "locate" && fill === "evenodd";
+/** Whose relations are told. */
+export const OF = { contours: { label: "Contours" }, arrangement: { label: "Arrangement" } };
+const ARRANGED =
+  "How they lie to each other in the arrangement, whose points are rounded, at the finest scale in the range.";
+
+/**
+ * Whether a command has an option. No solver is asked for relations of contours as drawn, nor where points lie in
+ * contours that are joined by exclusive or.
+ */
+export function isOption(/** @type {Asked} */ { command, fill, of }, /** @type {string} */ name) {
+  const isExact = command === "relate" ? of === "contours" : command === "locate" && fill === "evenodd";
   return COMMANDS[command].options.includes(name) && !(isExact && name === "solver");
+}
+
+/** What a command answers, in words. */
+export function saysOf(/** @type {Asked} */ { command, of }) {
+  return command === "relate" && of === "arrangement" ? ARRANGED : COMMANDS[command].says;
 }
 
 /** @returns {Asked} the same question to the other solver */

@@ -1,11 +1,11 @@
 /** The controls: tools, what is asked for and what is shown. */
 
-import { COMMANDS, FILLS, RULES, isOption } from "./commands.js";
+import { COMMANDS, FILLS, OF, RULES, isOption, saysOf } from "./commands.js";
 import { noFigures, scaleFigures } from "./drawing.js";
 import { byId, fillSelect } from "./page.js";
 
 const CHECKS = ["valid", "clockwise", "keep", "invert", "boundary"];
-const PICKS = ["command", "rule", "fill", "solver"];
+const PICKS = ["command", "rule", "of", "fill", "solver"];
 /** Fields of whole numbers, and the least of each. */
 const NUMBERS = { minimumArea: 0, width: 1, height: 1 };
 const LOOKS = ["beside", "solvers", "nodes", "sides", "lens"];
@@ -16,8 +16,9 @@ export function beginControls(/** @type {import("./state.js").State} */ state, b
   const field = (/** @type {string} */ name) => /** @type {HTMLInputElement} */ (form.elements.namedItem(name));
   const names = Object.keys(COMMANDS);
   fillSelect(field("command"), names.map((name) => [name, name[0].toUpperCase() + name.slice(1)]));
-  fillSelect(field("rule"), Object.entries(RULES).map(([name, { label }]) => [name, label]));
-  fillSelect(field("fill"), Object.entries(FILLS).map(([name, { label }]) => [name, label]));
+  for (const [name, table] of Object.entries({ rule: RULES, of: OF, fill: FILLS })) {
+    fillSelect(field(name), Object.entries(table).map(([value, { label }]) => [value, label]));
+  }
   form.addEventListener("submit", (event) => event.preventDefault());
 
   for (const name of PICKS) field(name).addEventListener("change", () => state.ask({ [name]: field(name).value }));
@@ -38,7 +39,7 @@ export function beginControls(/** @type {import("./state.js").State} */ state, b
     for (const name of CHECKS) field(name).checked = asked[name];
     for (const name of Object.keys(NUMBERS)) field(name).value = String(asked[name]);
     field("digits").value = String(digits);
-    byId("says").textContent = COMMANDS[asked.command].says;
+    byId("says").textContent = saysOf(asked);
     for (const part of /** @type {NodeListOf<HTMLElement>} */ (form.querySelectorAll("[data-option]"))) {
       part.hidden = !isOption(asked, part.dataset.option ?? "");
     }

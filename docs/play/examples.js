@@ -153,7 +153,7 @@ export const EXAMPLES = [
     name: "relate",
     label: "How two shapes lie to each other",
     text: "subject 0 0 8 0 8 8 0 8\nclip 8 2 13 2 13 6 8 6\nrun relate NonZero",
-    says: "Two squares that share a part of an edge: they touch.",
+    says: "A square and a box that share a part of an edge: they touch.",
     tries: "drag the clip into the subject: it touches, then the interiors intersect, then the subject covers it.",
   },
   {

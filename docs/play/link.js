@@ -12,16 +12,17 @@ const NAMES = [...KINDS, "run", "solver", "fill", "digits"];
 
 /**
  * What is asked for: the words of the program behind `run`, and what it has no words for, as far as that is not the
- * default.
+ * default. Relations with a solver are those of the arrangement, and else of the contours.
  *
  * @returns {Record<string, string>}
  */
 export function questionOf(/** @type {import("./commands.js").Asked} */ asked) {
-  const run = [asked.command, ...commandWords(asked).slice(asked.command === "simplify" ? 2 : 1)].join(" ");
+  const { command, solver } = asked;
+  const run = [command, ...commandWords(asked).slice(command === "simplify" ? 2 : 1)].join(" ");
   return {
     run,
-    ...(isOption(asked, "solver") && asked.solver !== "snapped" ? { solver: asked.solver } : {}),
-    ...(asked.command === "locate" && asked.fill !== "evenodd" ? { fill: asked.fill } : {}),
+    ...(isOption(asked, "solver") && (asked.solver !== "snapped" || command === "relate") ? { solver } : {}),
+    ...(command === "locate" && asked.fill !== "evenodd" ? { fill: asked.fill } : {}),
   };
 }
 
@@ -33,6 +34,7 @@ export function questionOf(/** @type {import("./commands.js").Asked} */ asked) {
 export function askedOf(/** @type {{run: string, solver?: string | null, fill?: string | null}} */ question) {
   const asked = askedIn(question.run.split(" "));
   asked.solver = /** @type {any} */ (oneOf(SOLVERS, question.solver ?? "snapped", "solver"));
+  if (asked.command === "relate" && question.solver) asked.of = "arrangement";
   if (question.fill) asked.fill = oneOf(asked.command === "locate" ? FILLS : [], question.fill, "fill rule");
   return asked;
 }

@@ -19,6 +19,8 @@ const TICK = 6;
 const DOT = 3.2;
 /** How far from the top, in pixels, labels stand: the buttons are above. */
 const BELOW = 130;
+/** Over panes of fewer pixels the buttons and the legend leave no room for a title. */
+const NARROW = 280;
 
 /** The number of points in some paths. */
 const countOf = (paths) => paths.reduce((sum, path) => sum + path.length, 0);
@@ -248,7 +250,7 @@ function paintLabels(context, view, colours, xs, ys) {
   context.restore();
 }
 
-/** Paints the title of a pane, in its middle at the top. */
+/** Paints the title of a pane, in its middle: at the top, or in a narrow pane above what lies at the foot. */
 export function paintTitle(context, /** @type {View} */ view, colours, /** @type {string} */ title) {
   context.save();
   context.font = "600 13px system-ui, sans-serif";
@@ -257,7 +259,8 @@ export function paintTitle(context, /** @type {View} */ view, colours, /** @type
   context.lineJoin = "round";
   context.strokeStyle = colours.ground;
   context.fillStyle = colours.label;
-  context.strokeText(title, view.paneWidth / 2, 22);
-  context.fillText(title, view.paneWidth / 2, 22);
+  const down = view.paneWidth < NARROW ? view.height - 64 : 22;
+  context.strokeText(title, view.paneWidth / 2, down);
+  context.fillText(title, view.paneWidth / 2, down);
   context.restore();
 }

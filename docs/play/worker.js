@@ -3,7 +3,7 @@
  */
 
 import { Flat, load } from "./engine/polyover.js";
-import { otherSolver } from "./commands.js";
+import { isOption, otherSolver } from "./commands.js";
 import { mended } from "./mended.js";
 
 /** The names of the relations, as the page and the program have them. */
@@ -17,7 +17,7 @@ function optionsOf(asked) {
     keep: asked.keep,
     minimumArea: BigInt(asked.minimumArea),
   };
-  const filled = { fill: asked.fill, solver: asked.solver };
+  const filled = { fill: asked.fill, ...(isOption(asked, "solver") ? { solver: asked.solver } : {}) };
   return {
     overlay: { ...filled, ...look, rule: asked.rule },
     hierarchy: { ...filled, ...look, rule: asked.rule },

@@ -1,5 +1,5 @@
 """Answers of the page: of each example, and of each command with its options, they are those of the program, which
-splits in rounds; snapped ones are compared with Python's in test_files.py."""
+splits in rounds, and tells relations of the arrangement; snapped ones are compared with Python's in test_files.py."""
 
 import unittest
 
@@ -22,8 +22,9 @@ OPTIONS = {
     "locate": [{"fill": "evenodd"}],
     "edges": [{"fill": "positive"}],
 }
-# (the program has rounds alone)
+# (the program has rounds alone, and relations of the arrangement)
 BEFORE = {
+    "of": "arrangement",
     "solver": "rounds",
     "fill": "nonzero",
     "valid": True,
@@ -119,6 +120,7 @@ class Answers(unittest.TestCase):
         for name in EXAMPLES:
             with self.subTest(name):
                 self.page.example(name)
+                self.page.choose("of", "arrangement")
                 self.page.choose("solver", "rounds")
                 answer, text = self.page.answer(), self.called()
                 if name in ("refused", "needles"):
@@ -146,9 +148,55 @@ class Answers(unittest.TestCase):
                         self.page.choose(name, value)
                     self.assertEqual(text_of(self.page.answer()), printed(self.called()))
 
+    def holding(self):
+        """The relations that hold."""
+        return {name for name, holds in self.page.answer()["relations"].items() if holds}
+
+    def test_relations_of_the_contours_as_drawn(self):
+        """Subject and clip overlap; the clip runs clockwise. The others meet in (1/3, 2/3) alone."""
+        overlap = {"intersects", "interiors_intersect"}
+        self.page.open("#subject=0+-1+4+5+1+2&clip=0+0+4+5+5+6&run=relate+NonZero")
+        self.assertEqual(self.holding(), overlap)
+        self.assertIn("nothing is rounded", self.page.text("says"))
+        shown = "return document.querySelector('label[data-option=solver]').getBoundingClientRect().width > 0"
+        self.assertFalse(self.page.run(shown))
+        for fill, told in (("evenodd", overlap), ("positive", {"disjoint"}), ("negative", {"disjoint"})):
+            self.page.choose("fill", fill)
+            self.assertEqual(self.holding(), told)
+        self.page.open("#subject=0+0+1+2+1+4+0+-1&clip=0+1+1+0+1+-2+0+2&run=relate+EvenOdd")
+        self.assertEqual(self.holding(), {"intersects", "touches", "point_intersects"})
+        self.page.choose("of", "arrangement")
+        self.assertTrue(self.page.run(shown))
+        self.assertIn("points are rounded", self.page.text("says"))
+
+    def test_calls_of_relations_of_the_contours(self):
+        """They have the coordinates as drawn; the program, which tells relations of the arrangement, finer ones."""
+        self.page.open("#subject=1+2+2+0+3+2&clip=0+0+3+2+2+1&run=relate+NonZero")
+        for language, call in (
+            ("python", 'polyover.relate(subject, clip, "nonzero"))'),
+            ("c", "polyover_relate_exact(POLYOVER_NON_ZERO, &subject, &clip, &relations)"),
+            ("javascript", "polyover.relate(subject, clip))"),
+            ("rattle", "ExactPredicates::<i64, Global>::new(alloc, 16)"),
+        ):
+            self.page.press(f'[data-language="{language}"]')
+            self.assertIn(call, self.page.text("call"))
+            self.assertNotIn(str(2**60), self.page.text("call"))
+            self.assertEqual(self.page.text("call-note"), "")
+        self.assertIn(str(3 * 2**60), self.called())
+        self.assertIn("the program of the arrangement, which may differ", self.page.text("call-note"))
+        self.page.choose("of", "arrangement")
+        self.assertNotIn("which may differ", self.page.text("call-note"))
+        for solver in ("snapped", "rounds"):
+            self.page.choose("solver", solver)
+            self.page.press('[data-language="python"]')
+            self.assertIn(f'"nonzero", solver="{solver}"))', self.page.text("call"))
+            self.page.press('[data-language="javascript"]')
+            self.assertIn(f'relate(subject, clip, {{ solver: "{solver}" }}))', self.page.text("call"))
+
     def test_relations_of_the_program_are_those_of_the_page(self):
         """They are told at the finest scale: as they are, the second triangle becomes a line, and they are disjoint."""
         self.page.open("#subject=1+2+2+0+3+2&clip=0+0+3+2+2+1&run=relate+NonZero")
+        self.page.choose("of", "arrangement")
         for solver in ("snapped", "rounds"):
             self.page.choose("solver", solver)
             answer = self.page.answer()

@@ -121,6 +121,9 @@ class Files(unittest.TestCase):
             "run=clip+Positive+invert+boundary",
             "run=simplify+Negative",
             "run=tiles+NonZero+3+2&solver=rounds",
+            "run=relate+EvenOdd",
+            "run=relate+NonZero&solver=snapped",
+            "run=relate+Positive&solver=rounds",
         ):
             self.page.open(f"#subject=0+0+7+1+3+9&point=1+1&{question}")
             before = self.page.run("return [polyover.state.drawing, polyover.state.answer.kind]")

@@ -81,6 +81,10 @@ const located = (asked, /** @type {string} */ fill, /** @type {string} */ solver
         "    if (status != POLYOVER_OK) return 1;",
       ];
 
+/** The begin of a call that tells relations. */
+const related = (asked, /** @type {string} */ fill, /** @type {string} */ solver) =>
+  asked.of === "contours" ? `polyover_relate_exact(${fill}` : `polyover_relate(${fill}, ${solver}`;
+
 /** The lines of a program in C. */
 export function cOf(/** @type {import("../state.js").Drawing} */ { figures, asked }) {
   const rule = RULES[asked.rule].c;
@@ -105,7 +109,7 @@ export function cOf(/** @type {import("../state.js").Drawing} */ { figures, aske
     relate: () => [
       ...both,
       "    polyover_relations relations;",
-      `    if (${of(`${fill}, ${solver}, &subject, &clip, &relations)`)} != POLYOVER_OK) return 1;`,
+      `    if (${related(asked, fill, solver)}, &subject, &clip, &relations) != POLYOVER_OK) return 1;`,
       '    printf("%u\\n", relations);',
     ],
     clip: () => [

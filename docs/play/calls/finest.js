@@ -1,4 +1,4 @@
-/** The finest scale in the range: at it Python, JavaScript and the page tell relations. */
+/** The finest scale in the range: at it Python, JavaScript and the page tell relations of the arrangement. */
 
 import { KINDS } from "../drawing.js";
 

@@ -1,15 +1,21 @@
 /** The call in JavaScript that gives an answer. */
 
+import { isOption } from "../commands.js";
+
 /** A list of paths. */
 const listed = (/** @type {number[][][]} */ paths) =>
   `[${paths.map((path) => `[${path.map(([x, y]) => `[${x}, ${y}]`).join(", ")}]`).join(",\n  ")}]`;
+
+/** Whether a solver is no default: of relations each is none, since these are told without a solver. */
+const isSolverNamed = (/** @type {import("../commands.js").Asked} */ asked) =>
+  isOption(asked, "solver") && (asked.solver !== "snapped" || asked.command === "relate");
 
 /** The options of a call that are not the defaults, as an object, or nothing. */
 function optionsOf(/** @type {import("../commands.js").Asked} */ asked, /** @type {string[]} */ names) {
   const told = {
     rule: asked.rule !== "union" && JSON.stringify(asked.rule),
     fill: asked.fill !== "nonzero" && JSON.stringify(asked.fill),
-    solver: asked.solver !== "snapped" && JSON.stringify(asked.solver),
+    solver: isSolverNamed(asked) && JSON.stringify(asked.solver),
     touching: !asked.valid && "true",
     clockwise: asked.clockwise && "true",
     keep: asked.keep && "true",

@@ -1,5 +1,7 @@
 /** The call in Python that gives an answer. */
 
+import { isOption } from "../commands.js";
+
 /** A list of paths in Python. */
 const listed = (/** @type {number[][][]} */ paths) =>
   `[${paths.map((path) => `[${path.map(([x, y]) => `(${x}, ${y})`).join(", ")}]`).join(",\n    ")}]`;
@@ -14,7 +16,9 @@ function optionsOf(/** @type {import("../commands.js").Asked} */ asked) {
     ...(asked.keep ? ["keep=True"] : []),
     ...(asked.minimumArea ? [`minimum_area=${asked.minimumArea}`] : []),
   ];
-  const solver = asked.solver === "rounds" ? ['solver="rounds"'] : [];
+  // (relations are told without a solver if none is named)
+  const isNamed = isOption(asked, "solver") && (asked.solver !== "snapped" || asked.command === "relate");
+  const solver = isNamed ? [`solver="${asked.solver}"`] : [];
   return { look: [...look, ...solver], solver };
 }
 

@@ -7,6 +7,7 @@ const points = (/** @type {number[][]} */ path) =>
   `[${path.map(([x, y]) => `IntPoint::new(${x}, ${y})`).join(", ")}]`;
 
 const solverOf = (asked) => (asked.solver === "rounds" ? "Solver::ABSOLUTE" : "Solver::SNAPPED");
+const predicatesOf = (asked) => (asked.of === "contours" ? "ExactPredicates" : "PredicateOverlay");
 const fillOf = (asked) => `FillRule::${FILLS[asked.fill].program}`;
 const ruleOf = (asked) => `OverlayRule::${RULES[asked.rule].program}`;
 
@@ -98,9 +99,9 @@ const PARTS = {
   relate: (figures, asked) => ({
     answers: "Relations",
     lines: [
-      "let mut overlay = PredicateOverlay::<i64, Global>::new(alloc, 16)?;",
+      `let mut overlay = ${predicatesOf(asked)}::<i64, Global>::new(alloc, 16)?;`,
       `overlay.fill_rule = ${fillOf(asked)};`,
-      `overlay.solver = ${solverOf(asked)};`,
+      ...(asked.of === "contours" ? [] : [`overlay.solver = ${solverOf(asked)};`]),
       ...added(figures, ["subject", "clip"]),
       "overlay.relations()",
     ],
@@ -154,6 +155,7 @@ const PATHS = {
   ClipRule: "i_overlay::string::clip::ClipRule",
   ContourDirection: "i_overlay::overlay::ContourDirection",
   DataVectorEdge: "i_overlay::vector::edge::DataVectorEdge",
+  ExactPredicates: "overlay_predicates::exact_predicates::ExactPredicates",
   FillRule: "i_overlay::fill_rule::FillRule",
   FlatShapeHierarchy: "i_overlay::hierarchy::FlatShapeHierarchy",
   Grid: "i_overlay::tiles::Grid",
