@@ -185,6 +185,7 @@ class Answers(unittest.TestCase):
         self.assertIn(str(3 * 2**60), self.called())
         self.assertIn("the program of the arrangement, which may differ", self.page.text("call-note"))
         self.page.choose("of", "arrangement")
+        self.assertIn("run relate NonZero", self.called())
         self.assertNotIn("which may differ", self.page.text("call-note"))
         for solver in ("snapped", "rounds"):
             self.page.choose("solver", solver)
