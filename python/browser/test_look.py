@@ -147,6 +147,14 @@ class Look(unittest.TestCase):
                 self.page.load(part)
                 self.assertLessEqual(max(self.page.run(low)), height, (width, part))
 
+    def test_all_relations_are_seen(self):
+        hidden = "const { scrollHeight, clientHeight } = document.querySelector('.relations');"
+        for width, height in WIDTHS:
+            self.page.size(width, height)
+            self.page.load()
+            self.page.example("relate")
+            self.assertEqual(self.page.run(hidden + "return scrollHeight - clientHeight"), 0, width)
+
     def test_theme_is_switched_and_kept(self):
         for is_dark in (False, True):
             first, other = ("dark", "light") if is_dark else ("light", "dark")
