@@ -4,9 +4,9 @@ use crate::figures::{Width, point};
 use crate::refusals::{Answer, Memory, Trial};
 use overlay_exact::along::{push_met, sort_along};
 use overlay_exact::exact_int::ExactInt;
-use overlay_exact::meetings::find_meetings;
+use overlay_exact::meetings::{find_met_of, find_meetings};
 use overlay_exact::met::MetAlong;
-use overlay_exact::point_windings::windings_at_points;
+use overlay_exact::point_windings::{live_at_start, windings_at_points};
 use overlay_geom::edge::IntEdge;
 use overlay_order::count::ShapeCountBoolean;
 use overlay_order::edge::CountedEdge;
@@ -85,6 +85,17 @@ fn check_meetings<I: Width + ExactInt>(trial: &Trial<'_, impl Abort>) -> Result<
         find_meetings(memory, &edges)
     })?;
     assert!(trial.rt; found.met.len() == 6);
+    let of_one = trial.refuse_call("overlay_exact::find_met_of", || {
+        find_met_of(memory, &edges, 1)
+    })?;
+    assert!(trial.rt; of_one.len() == 2);
+    let begun = trial.refuse_each(
+        "overlay_exact::live_at_start",
+        || Ok(Vec::new(memory)),
+        |live| live_at_start(live, &edges, 0, 0),
+        |live| Ok(live.is_empty()),
+    )?;
+    assert!(trial.rt; begun == 2);
     let points = [point::<I>(1, 4), point(3, 2)];
     let wound = trial.refuse_call("overlay_exact::windings_at_points", || {
         windings_at_points(memory, &edges, &points)

@@ -24,7 +24,8 @@ use Rattle.overlay_pairs.proofs.SettledLists.{starts_no_further_left}
 use Rattle.overlay_plane.proofs.Tests.{ge_from_test, test_from_ge}
 use Rattle.overlay_plane.proofs.Totals.{total-same, total-zero, total-filter}
 use Rattle.overlay_plane.proofs.WholeOnEdges.{side_at, at_itself}
-use Rattle.overlay_exact.specs.PointWindings.{point_windings, AreLive}
+use Rattle.overlay_exact.specs.PointWindings.{point_windings, AreLive, TellWindings}
+use Rattle.overlay_exact.proofs.ToldMeetings.{less_at}
 
 -- ---- below a whole point
 
@@ -156,7 +157,7 @@ module _ (limit : ℕ) (es : List CountedEdge) (n : ℕ) (v : Point) (live : Lis
       omega linear)
       (eq-or-lt_of_le (let le : 0 ≤ k = omega arith in le))
 
-  winds_whole : (count : CountedEdge → ℤ) → winding_by count live (in_plane v) ≡ winding_by count es (in_plane v)
+  pub winds_whole : (count : CountedEdge → ℤ) → winding_by count live (in_plane v) ≡ winding_by count es (in_plane v)
   winds_whole count =
       so_far.alike count v (omega linear)
       ∙ sym (+ℤ_idr (winding_by count (take n es) (in_plane v)))
@@ -177,6 +178,16 @@ module _ (limit : ℕ) (es : List CountedEdge) (n : ℕ) (v : Point) (live : Lis
       let le = so_far.lighter in
       let part = sum_by-take-le (λ (e : CountedEdge). weight_of_counts e.counts) es n in
       omega (arith, light, le, part)
+
+-- at the start of an edge, and at that of the next
+module _ (limit : ℕ) (es : List CountedEdge) (i n : ℕ) (e : CountedEdge) (live : List CountedEdge)
+    (up : IsAscending es) (at : IsAt es i e) (so_far : AreLive limit es n e.a.x live) where
+  pub live_on : (f : CountedEdge) → IsAt es (i + 1) f → AreLive limit es n f.a.x live
+  live_on f at_f = live_later limit es n e.a.x f.a.x live
+      (starts_no_further_left (ends_of e) (ends_of f) (less_at es i e at up i (i + 1) e f (omega arith) at at_f)) so_far
+
+  pub live_at : ((f : CountedEdge) → IsAt es n f → e.a.x <ℤ f.a.x) → TellWindings limit es e.a live
+  live_at right = record { held = so_far.held; alike = winds_whole limit es n e.a live up right so_far }
 
 -- ---- of the program
 

@@ -10,6 +10,11 @@ use Rattle.overlay_exact.specs.declared.point_windings.PointWindings.{PointWindi
 abbrev pub point_windings : List CountedEdge → Point → PointWindings
 point_windings es v = record { subj = winding_by subj_of es (in_plane v); clip = winding_by clip_of es (in_plane v) }
 
+-- these edges may be held, and wind at v as those of the list
+pub record TellWindings (limit : ℕ) (es : List CountedEdge) (v : Point) (live : List CountedEdge) : Type 0 where
+  pub held : All (IsHeld limit) live
+  pub alike : (count : CountedEdge → ℤ) → winding_by count live (in_plane v) ≡ winding_by count es (in_plane v)
+
 -- no point lies left of one before it
 abbrev pub AreRightward : List Point → Type 0
 AreRightward vs = AllPairs (λ v w. v.x ≤ℤ w.x) vs

@@ -58,6 +58,32 @@ pub fn find_meetings<I: ExactInt, C: EdgeCount, A: Allocator + Clone>(
     Ok(Meetings { starts, met })
 }
 
+/// Finds where the edge at place i of an ascending list meets the others, in their order along it. It looks at all edges
+/// before it, and at those behind it that start up to its right end.
+pub fn find_met_of<I: ExactInt, C: EdgeCount, A: Allocator + Clone>(
+    alloc: A,
+    edges: &[CountedEdge<I, C>],
+    i: usize,
+) -> Result<Vec<MetAlong<I::Wide>, A>, AllocError>
+    requires held { All (IsHeld I.limit) (plain_edges I.whole C.counts edges.now) }
+    requires ascending { IsAscending (plain_edges I.whole C.counts edges.now) }
+    requires within { i < length edges.now }
+    ensures ok { IfOk result (λ met. (e : _) → IsAt (plain_edges I.whole C.counts edges.now) i e
+        → AreMetOf (plain_edges I.whole C.counts edges.now) i e (plain_mets I.Wide.whole met.items)) }
+{
+    let mut met = Vec::new(alloc.clone()?);
+    let mut passed = Vec::new(alloc);
+    for place in 0..i {
+        let edge = &edges[place];
+        passed.push(PassedEdge {
+            place,
+            right: edge.b.x,
+        })?;
+    }
+    find_met(&mut met, edges, &passed, i)?;
+    Ok(met)
+}
+
 // Finds where the edge at place i meets the others, in their order along it. `passed` has the earlier edges that do not
 // end left of it.
 fn find_met<I: ExactInt, C: EdgeCount, A: Allocator>(

@@ -1,13 +1,14 @@
 //! Windings at whole points: the sums of the counts of the edges strictly below them.
 
-ghost use Rattle.std.specs.Prelude.{◌≡◌, ◌&&◌, ◌≤◌, ◌^◌, ◌+ℤ◌, ◌<ℤ◌, int_lt, int_le, length, map, filter, All, IfOk};
+ghost use Rattle.std.specs.Prelude.{◌≡◌, ◌&&◌, ◌+◌, ◌<◌, ◌≤◌, ◌^◌, ◌+ℤ◌, ◌<ℤ◌, int_lt, int_le, length, map, filter, All};
+ghost use Rattle.std.specs.Prelude.{IfOk, OnOk};
 ghost use Rattle.overlay_geom.specs.Edges.{ends_of};
 ghost use Rattle.overlay_geom.specs.Numbers.{Within};
 ghost use Rattle.overlay_geom.specs.Plane.{in_plane, is_strictly_below};
 ghost use Rattle.overlay_geom.specs.Points.{plain_point, InRange};
 ghost use Rattle.overlay_order.specs.Content.{plain_edge, plain_edges, IsHeld, IsContent, IsAscending};
 ghost use Rattle.overlay_pairs.specs.Places.{IsAt};
-ghost use Rattle.overlay_exact.specs.PointWindings.{point_windings, AreLive, AreRightward};
+ghost use Rattle.overlay_exact.specs.PointWindings.{point_windings, AreLive, AreRightward, TellWindings};
 
 use overlay_geom::number::{IntNumber, WideIntNumber};
 use overlay_geom::point::IntPoint;
@@ -63,6 +64,35 @@ pub fn windings_at_points<I: IntNumber, C: EdgeCount, A: Allocator + Clone>(
         found.push(windings_at(&live, *v))?;
     }
     Ok(found)
+}
+
+/// Brings live edges on to the start of the edge at place i of an ascending list: they then tell the windings there.
+/// Edges before the place `begun` have begun before. Returns the place of the first edge that has not begun now.
+pub fn live_at_start<I: IntNumber, C: EdgeCount, A: Allocator>(
+    live: &mut Vec<CountedEdge<I, C>, A>,
+    edges: &[CountedEdge<I, C>],
+    begun: usize,
+    i: usize,
+) -> Result<usize, AllocError>
+    requires held { All (IsHeld I.limit) (plain_edges I.whole C.counts edges.now) }
+    requires ascending { IsAscending (plain_edges I.whole C.counts edges.now) }
+    requires within { begun ≤ length edges.now }
+    requires place { i < length edges.now }
+    requires live { (e : _) → IsAt (plain_edges I.whole C.counts edges.now) i e
+        → AreLive I.limit (plain_edges I.whole C.counts edges.now) begun e.a.x
+        (plain_edges I.whole C.counts live.old.items) }
+    ensures within { IfOk result (λ n. n ≤ length edges.now) }
+    ensures live { IfOk result (λ n. (e : _) → IsAt (plain_edges I.whole C.counts edges.now) (i + 1) e
+        → AreLive I.limit (plain_edges I.whole C.counts edges.now) n e.a.x
+        (plain_edges I.whole C.counts live.new.items)) }
+    ensures windings { OnOk result ((e : _) → IsAt (plain_edges I.whole C.counts edges.now) i e
+        → TellWindings I.limit (plain_edges I.whole C.counts edges.now) e.a
+        (plain_edges I.whole C.counts live.new.items)) }
+{
+    let e = &edges[i];
+    let next = push_begun(live, edges, begun, e.a.x)?;
+    drop_ended(live, e.a.x);
+    Ok(next)
 }
 
 // Adds the edges from the place `from` on that start up to x to the live ones. Returns the place of the next edge.

@@ -1,6 +1,7 @@
 pub mod AddedTimes
 pub mod AlikePieces
 pub mod BelowWhole
+pub mod Crossings
 pub mod FirstSteps
 pub mod LeftSteps
 pub mod MoreSides
@@ -16,6 +17,7 @@ pub mod StepBounds
 pub mod Sums
 pub mod ToldContacts
 pub mod ToldRelations
+pub mod UncrossedEdges
 pub mod WalkSteps
 pub mod Walked
 pub mod Winds

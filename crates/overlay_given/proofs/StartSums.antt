@@ -21,6 +21,17 @@ pub record WindTwice (es : List CountedEdge) (p : PlanePoint) (b : Beside) : Typ
   pub clip_below : b.clip_below ≡ winding_by clip_of es p
   pub clip_above : b.clip_above ≡ winding_by clip_of es p
 
+-- edges that wind alike at the start of an edge
+pub starts_alike : (ds es : List CountedEdge) (e : CountedEdge) (b : Beside) →
+    ((count : CountedEdge → ℤ) → winding_by count ds (in_plane e.a) ≡ winding_by count es (in_plane e.a)) →
+    WindsAtStart ds e b → WindsAtStart es e b
+starts_alike ds es e b alike winds = record {
+  subj_below = winds.subj_below ∙ alike subj_of;
+  subj_above = winds.subj_above ∙ ap (λ z. z +ℤ subj_of e) (alike subj_of);
+  clip_below = winds.clip_below ∙ alike clip_of;
+  clip_above = winds.clip_above ∙ ap (λ z. z +ℤ clip_of e) (alike clip_of);
+}
+
 -- the counts of an edge, taken so often
 pub record Counted (f : CountedEdge) (below above : ℤ) (b : Beside) : Type 0 where
   pub subj_below : b.subj_below ≡ subj_of f *ℤ below

@@ -1,7 +1,9 @@
 pub mod Beside
+pub mod Crossing
 pub mod Laws
 pub mod Places
 pub mod Relations
 pub mod Sides
 pub mod Steps
+pub mod Uncrossed
 pub mod Walk

@@ -1,5 +1,5 @@
 -- Relations of the contours as given, and the tests of filled sides from which they are answered.
-use Rattle.std.specs.Prelude.{◌≡◌, ◌↔◌, Bool, not, ◌&&◌, ℤ, List, IsTrue}
+use Rattle.std.specs.Prelude.{◌≡◌, ◌↔◌, Bool, true, false, not, ◌&&◌, ℤ, List, IsTrue}
 use Rattle.std.specs.List.{list_any}
 use Rattle.overlay_geom.specs.Edges.{CountedEdge}
 use Rattle.overlay_geom.specs.Merged.{IsMerged}
@@ -45,3 +45,18 @@ pub record AreContacts (filled : ℤ → Bool) (es : List CountedEdge) (c : Cont
   pub beside_piece : IsTrue c.beside_piece ↔ SomePlain (passes_at fill_both filled es) es
   pub in_points : IsTrue c.in_points ↔
       (HasSharedPlace filled es × (¬ (SomePlain (passes_at fill_both filled es) es)))
+
+-- the contacts of shapes of which each has interior points inside the other and outside it
+abbrev pub crossing_contacts : Contacts
+crossing_contacts = record {
+  interiors = record { interiors_intersect = true; within = false; covers = false };
+  beside_piece = true;
+  in_points = false;
+}
+
+-- both shapes fill one side of some piece, and each fills a side that the other does not fill. So c are their contacts
+pub record IsCrossing (f : Found) (c : Contacts) : Type 0 where
+  pub common : f.has_common_side ≡ true
+  pub subject : f.subject_pokes_out ≡ true
+  pub clip : f.clip_pokes_out ≡ true
+  pub contacts : c ≡ crossing_contacts

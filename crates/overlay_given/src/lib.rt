@@ -3,10 +3,12 @@
 #![tactic(auto)]
 
 pub mod beside;
+mod crossing;
 pub mod laws;
 pub mod relations;
 mod shared;
 pub mod sides;
 mod start;
 mod steps;
+pub mod uncrossed;
 pub mod walk;

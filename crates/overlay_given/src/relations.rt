@@ -1,12 +1,14 @@
 //! Relations of a subject and a clip as given, told by the filled sides of the pieces of their merged edges.
 
-ghost use Rattle.std.specs.Prelude.{◌≡◌, All, IfOk};
+ghost use Rattle.std.specs.Prelude.{◌≡◌, All, IfOk, IfSome};
 ghost use Rattle.overlay_geom.specs.Merged.{IsMerged};
 ghost use Rattle.overlay_geom.specs.Rules.{is_filled};
 ghost use Rattle.overlay_plane.specs.Balance.{HasBalancedCounts};
 ghost use Rattle.overlay_order.specs.Content.{plain_edges, IsHeld, IsAscending};
 ghost use Rattle.overlay_given.specs.Relations.{AreContacts, AreInteriorRelations, IsFoundOf, relations_by};
+ghost use Rattle.overlay_given.specs.Relations.{IsCrossing};
 
+use crate::crossing::crossing_contacts;
 use crate::shared::has_shared_place;
 use crate::sides::{FilledSides, SideTest, some_pass};
 use crate::walk::find_sides;
@@ -59,9 +61,26 @@ pub struct Contacts {
     pub in_points: bool,
 }
 
-/// Returns how subject and clip meet, told by their merged edges with balanced counts. Nothing is rounded. The error is
-/// that memory is refused.
+/// Returns how subject and clip meet, told by their merged edges with balanced counts. Nothing is rounded. Where an edge
+/// of one crosses an edge of the other, few edges are walked. The error is that memory is refused.
 pub fn find_contacts<I: ExactInt, C: EdgeCount, A: Allocator + Clone>(
+    alloc: A,
+    edges: &[CountedEdge<I, C>],
+    rule: FillRule,
+) -> Result<Contacts, AllocError>
+    requires held { All (IsHeld I.limit) (plain_edges I.whole C.counts edges.now) }
+    requires ascending { IsAscending (plain_edges I.whole C.counts edges.now) }
+    requires balanced { HasBalancedCounts (plain_edges I.whole C.counts edges.now) }
+    ensures ok { IfOk result (AreContacts (is_filled rule) (plain_edges I.whole C.counts edges.now)) }
+{
+    match crossing_contacts(alloc.clone()?, edges, rule)? {
+        Some(contacts) => Ok(contacts),
+        None => walked_contacts(alloc, edges, rule),
+    }
+}
+
+// Returns how subject and clip meet, told by the pieces of all edges.
+fn walked_contacts<I: ExactInt, C: EdgeCount, A: Allocator + Clone>(
     alloc: A,
     edges: &[CountedEdge<I, C>],
     rule: FillRule,
@@ -90,9 +109,9 @@ pub fn find_contacts<I: ExactInt, C: EdgeCount, A: Allocator + Clone>(
     })
 }
 
-// What is found of the filled sides of all pieces.
+// What is found of the filled sides of pieces.
 #[derive(Clone, Copy)]
-struct Found {
+pub(crate) struct Found {
     // Both shapes fill the same side of some piece.
     has_common_side: bool,
     // The subject fills a side of some piece.
@@ -116,10 +135,29 @@ impl Found {
             covers: self.has_clip && !self.clip_pokes_out,
         }
     }
+
+    // Returns how the shapes meet where their borders cross: both fill a side, and each fills one that the other does
+    // not.
+    pub(crate) fn crossing(self) -> Option<Contacts>
+        ensures { IfSome result (IsCrossing self) }
+    {
+        if !(self.has_common_side && self.subject_pokes_out && self.clip_pokes_out) {
+            return None;
+        }
+        Some(Contacts {
+            interiors: InteriorRelations {
+                interiors_intersect: true,
+                within: false,
+                covers: false,
+            },
+            beside_piece: true,
+            in_points: false,
+        })
+    }
 }
 
 // Tests the sides of the list.
-fn found_in(sides: &[FilledSides]) -> Found
+pub(crate) fn found_in(sides: &[FilledSides]) -> Found
     ensures { IsFoundOf sides.now result }
 {
     Found {

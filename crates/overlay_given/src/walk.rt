@@ -22,6 +22,7 @@ use overlay_exact::exact_int::ExactInt;
 use overlay_exact::group::group_end;
 use overlay_exact::meetings::Meetings;
 use overlay_exact::met::MetAlong;
+use overlay_exact::point_windings::live_at_start;
 use overlay_geom::fill_rule::FillRule;
 use overlay_geom::number::IntNumber;
 use overlay_order::count::EdgeCount;
@@ -55,20 +56,26 @@ pub fn find_sides<I: ExactInt, C: EdgeCount, A: Allocator + Clone>(
         (length edges.now) found.now.starts.items (plain_mets I.Wide.whole found.now.met.items) v.places.items) }
 {
     let mut pieces = Vec::new(alloc.clone()?);
-    let mut places = Vec::new(alloc);
+    let mut places = Vec::new(alloc.clone()?);
+    let mut live = Vec::new(alloc);
+    let mut begun = 0;
     for i in 0..edges.len() {
+        begun = live_at_start(&mut live, edges, begun, i)?;
+        let start = windings_at_start(&live, &edges[i]);
         let met = &found.met[found.starts[i]..found.starts[i + 1]];
-        push_sides(&mut pieces, &mut places, edges, i, met, rule)?;
+        push_sides(&mut pieces, &mut places, edges, i, start, met, rule)?;
     }
     Ok(PieceSides { pieces, places })
 }
 
 // Adds the filled sides of the pieces of the edge at place i, in their order along it, and those at its meeting points.
-fn push_sides<I: ExactInt, C: EdgeCount, A: Allocator>(
+// The windings at its start are given.
+pub(crate) fn push_sides<I: ExactInt, C: EdgeCount, A: Allocator>(
     pieces: &mut Vec<FilledSides, A>,
     places: &mut Vec<SidesAtPlace, A>,
     edges: &[CountedEdge<I, C>],
     i: usize,
+    start: Beside,
     met: &[MetAlong<I::Wide>],
     rule: FillRule,
 ) -> Result<(), AllocError>
@@ -76,6 +83,9 @@ fn push_sides<I: ExactInt, C: EdgeCount, A: Allocator>(
     requires ascending { IsAscending (plain_edges I.whole C.counts edges.now) }
     requires balanced { HasBalancedCounts (plain_edges I.whole C.counts edges.now) }
     requires within { i < length edges.now }
+    requires start { (e : _) → IsAt (plain_edges I.whole C.counts edges.now) i e
+        → WindsAtStart (plain_edges I.whole C.counts edges.now) e start }
+    requires near { IsNear (2 ^ 97) start }
     requires met { (e : _) → IsAt (plain_edges I.whole C.counts edges.now) i e
         → AreMetOf (plain_edges I.whole C.counts edges.now) i e (plain_mets I.Wide.whole met.now) }
     ensures pieces { OnOk result ((e : _) → IsAt (plain_edges I.whole C.counts edges.now) i e
@@ -85,7 +95,7 @@ fn push_sides<I: ExactInt, C: EdgeCount, A: Allocator>(
         places.old.items places.new.items) }
 {
     let mut from = first_end::<I>(met);
-    let mut beside = beside_first_piece(edges, &edges[i], &met[..from]);
+    let mut beside = beside_first_piece(edges, &edges[i], start, &met[..from]);
     let first = beside.filled(rule);
     pieces.push(first)?;
     push_places(places, from, first, first)?;
@@ -133,19 +143,21 @@ fn first_end<I: ExactInt>(met: &[MetAlong<I::Wide>]) -> usize
     }
 }
 
-// Returns the windings beside the first piece of the edge. Those met at its start are given.
+// Returns the windings beside the first piece of the edge. Those at its start are given, and the points met there.
 fn beside_first_piece<I: IntNumber, C: EdgeCount>(
     edges: &[CountedEdge<I, C>],
     edge: &CountedEdge<I, C>,
+    start: Beside,
     met: &[MetAlong<I::Wide>],
 ) -> Beside
     requires held { All (IsHeld I.limit) (plain_edges I.whole C.counts edges.now) }
     requires edge { IsHeld I.limit (plain_edge I.whole C.counts edge.now) }
+    requires start { WindsAtStart (plain_edges I.whole C.counts edges.now) (plain_edge I.whole C.counts edge.now) start }
+    requires near { IsNear (2 ^ 97) start }
     requires others { All (λ m. m.other < length edges.now) (plain_mets I.Wide.whole met.now) }
     ensures sums { WindsFromStart (plain_edges I.whole C.counts edges.now) (plain_edge I.whole C.counts edge.now)
         (plain_mets I.Wide.whole met.now) result }
     ensures near { IsNear (2 ^ 97 + length met.now * 2 ^ 32) result }
 {
-    let start = windings_at_start(edges, edge);
     start.plus(sum_met(Stop::First, edges, edge, met))
 }

@@ -8,7 +8,7 @@ use Rattle.overlay_given.proofs.walk.beside_first_piece.Goals as goal
 
 pub plus-requires-clause-this : goal.plus-requires-clause-this
 plus-requires-clause-this g c = near_wider 158456325028528675187087900672 1267650600228229401496703205376
-    c.windings_at_start-start.result (omega arith) c.windings_at_start-start.ensures.near
+    c.args.start (omega arith) c.requires.near
 
 pub plus-requires-clause-other : goal.plus-requires-clause-other
 plus-requires-clause-other g c = near_wider 158456325028528675187087900672 1267650600228229401496703205376
@@ -17,8 +17,8 @@ plus-requires-clause-other g c = near_wider 158456325028528675187087900672 12676
 pub returns-clause-sums : goal.returns-clause-sums
 returns-clause-sums g c = first_sums (plain_edges g.I.IntNumber.whole g.C.EdgeCount.counts c.args.edges.now)
     (plain_edge g.I.IntNumber.whole g.C.EdgeCount.counts c.args.edge.now)
-    (plain_mets g.I.Wide.WideIntNumber.whole c.args.met.now) c.windings_at_start-start.result c.sum_met.result
-    c.plus.result c.windings_at_start-start.ensures.winds c.sum_met.ensures.sums (record {
+    (plain_mets g.I.Wide.WideIntNumber.whole c.args.met.now) c.args.start c.sum_met.result
+    c.plus.result c.requires.start c.sum_met.ensures.sums (record {
       subj_below = c.plus.ensures.subj_below;
       subj_above = c.plus.ensures.subj_above;
       clip_below = c.plus.ensures.clip_below;
@@ -27,9 +27,9 @@ returns-clause-sums g c = first_sums (plain_edges g.I.IntNumber.whole g.C.EdgeCo
 
 pub returns-clause-near : goal.returns-clause-near
 returns-clause-near g c = near_sum 158456325028528675187087900672 (length c.args.met.now * 4294967296) _
-    c.windings_at_start-start.result c.sum_met.result c.plus.result refl (record {
+    c.args.start c.sum_met.result c.plus.result refl (record {
       subj_below = c.plus.ensures.subj_below;
       subj_above = c.plus.ensures.subj_above;
       clip_below = c.plus.ensures.clip_below;
       clip_above = c.plus.ensures.clip_above;
-    }) c.windings_at_start-start.ensures.near c.sum_met.ensures.near
+    }) c.requires.near c.sum_met.ensures.near

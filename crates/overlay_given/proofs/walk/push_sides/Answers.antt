@@ -70,6 +70,12 @@ pub plus-beside-requires-clause-other : goal.plus-beside-requires-clause-other
 plus-beside-requires-clause-other g c = near_wider 158456325028528675187087900672 1267650600228229401496703205376
     c.sum_met.result (omega arith) c.sum_met.ensures.small
 
+pub beside_first_piece-beside-requires-clause-start : goal.beside_first_piece-beside-requires-clause-start
+beside_first_piece-beside-requires-clause-start g c =
+    let plain = plain_edge g.I.IntNumber.whole g.C.EdgeCount.counts in
+    c.requires.start (plain c.index-edges-i.result)
+    (placed_in_mapped plain c.args.edges.now c.args.i c.index-edges-i.result c.requires.within c.index-edges-i.is)
+
 pub beside_first_piece-beside-requires-clause-others : goal.beside_first_piece-beside-requires-clause-others
 beside_first_piece-beside-requires-clause-others g c =
     let plain = plain_edge g.I.IntNumber.whole g.C.EdgeCount.counts in

@@ -13,7 +13,7 @@ use Rattle.overlay_given.specs.declared.relations.InteriorRelations.{InteriorRel
 use Rattle.overlay_given.specs.declared.sides.SideTest.TheVariants.{BothShapes}
 use Rattle.overlay_given.proofs.ToldContacts.{contacts_beside, contacts_apart, ranges_read, shared_read}
 use Rattle.overlay_given.proofs.ToldRelations.{chained, forward_of_held}
-use Rattle.overlay_given.proofs.relations.find_contacts.Goals as goal
+use Rattle.overlay_given.proofs.relations.walked_contacts.Goals as goal
 
 pub returns-then-some_pass : goal.returns-then-some_pass
 returns-then-some_pass g c =
