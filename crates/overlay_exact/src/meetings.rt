@@ -58,8 +58,8 @@ pub fn find_meetings<I: ExactInt, C: EdgeCount, A: Allocator + Clone>(
     Ok(Meetings { starts, met })
 }
 
-/// Finds where the edge at place i of an ascending list meets the others, in their order along it. It looks at all edges
-/// before it, and at those behind it that start up to its right end.
+/// Finds where the edge at place i of an ascending list meets the others, in their order along it. It looks at all
+/// edges before it, and at those behind it that start up to its right end.
 pub fn find_met_of<I: ExactInt, C: EdgeCount, A: Allocator + Clone>(
     alloc: A,
     edges: &[CountedEdge<I, C>],

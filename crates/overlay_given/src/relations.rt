@@ -61,8 +61,8 @@ pub struct Contacts {
     pub in_points: bool,
 }
 
-/// Returns how subject and clip meet, told by their merged edges with balanced counts. Nothing is rounded. Where an edge
-/// of one crosses an edge of the other, few edges are walked. The error is that memory is refused.
+/// Returns how subject and clip meet, told by their merged edges with balanced counts. Nothing is rounded. Where edges
+/// of both cross, it walks few edges. The error is that memory is refused.
 pub fn find_contacts<I: ExactInt, C: EdgeCount, A: Allocator + Clone>(
     alloc: A,
     edges: &[CountedEdge<I, C>],

@@ -152,7 +152,8 @@ fn beside_first_piece<I: IntNumber, C: EdgeCount>(
 ) -> Beside
     requires held { All (IsHeld I.limit) (plain_edges I.whole C.counts edges.now) }
     requires edge { IsHeld I.limit (plain_edge I.whole C.counts edge.now) }
-    requires start { WindsAtStart (plain_edges I.whole C.counts edges.now) (plain_edge I.whole C.counts edge.now) start }
+    requires start { WindsAtStart (plain_edges I.whole C.counts edges.now)
+        (plain_edge I.whole C.counts edge.now) start }
     requires near { IsNear (2 ^ 97) start }
     requires others { All (λ m. m.other < length edges.now) (plain_mets I.Wide.whole met.now) }
     ensures sums { WindsFromStart (plain_edges I.whole C.counts edges.now) (plain_edge I.whole C.counts edge.now)

@@ -128,7 +128,8 @@ loop-i-preserved g c =
           (subst (λ xs. AddsPlaces filled es at.0 xs c.loop-i.places.items c.push_sides.new.places.items)
           (mapped_range met items s t)
           (subst (λ xs. AddsPlaces filled es at.0 (map met (slice_range xs s t)) c.loop-i.places.items
-          c.push_sides.new.places.items) c.deref-in-loop-i.ensures.value (c.in_ok-push_sides.ensures.places at.0 at.1)));
+          c.push_sides.new.places.items) c.deref-in-loop-i.ensures.value
+          (c.in_ok-push_sides.ensures.places at.0 at.1)));
       within = c.in_ok-begun.ensures.within;
       live = c.in_ok-begun.ensures.live;
     }
