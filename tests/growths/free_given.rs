@@ -2,11 +2,14 @@
 
 use crate::figures::{Width, point};
 use crate::refusals::Trial;
+use overlay_arrange::content::Content;
 use overlay_contacts::relations::given_relations;
+use overlay_contacts::settled::settled_relations;
 use overlay_exact::exact_int::ExactInt;
 use overlay_exact::meetings::find_meetings;
 use overlay_geom::fill_rule::FillRule;
 use overlay_given::relations::{find_contacts, interior_relations};
+use overlay_given::uncrossed::are_uncrossed;
 use overlay_given::walk::find_sides;
 use overlay_order::count::ShapeCountBoolean;
 use overlay_order::edge::CountedEdge;
@@ -57,7 +60,36 @@ fn check_relations<I: Width + ExactInt>(trial: &Trial<'_, impl Abort>) -> Result
         given_relations(memory, &edges, FillRule::NonZero)
     })?;
     assert!(trial.rt; told.intersects && told.interiors_intersect && !told.covers);
+    let uncrossed = trial.refuse_call("overlay_given::are_uncrossed", || {
+        are_uncrossed(memory, &edges)
+    })?;
+    assert!(trial.rt; !uncrossed);
     Ok(())
+}
+
+// A triangle of the subject and one of the clip, which share the corner (2, 2).
+fn check_settled<I: Width + ExactInt>(trial: &Trial<'_, impl Abort>) -> Result<(), Fail> {
+    let mut content = Content::with_capacity(trial.memory, 6)?;
+    for edge in [
+        counted::<I>([0, 0, 2, 0], 1, 0),
+        counted([0, 0, 2, 2], -1, 0),
+        counted([2, 0, 2, 2], 1, 0),
+        counted([2, 2, 4, 2], 0, 1),
+        counted([2, 2, 4, 4], 0, -1),
+        counted([4, 2, 4, 4], 0, 1),
+    ] {
+        content.push(edge)?;
+    }
+    let told = trial.refuse_call("overlay_contacts::settled_relations", || {
+        settled_relations(&content, FillRule::NonZero)
+    })?;
+    assert!(trial.rt; told.point_intersects && told.touches && !told.disjoint);
+    Ok(())
+}
+
+#[test]
+fn relations_of_settled_edges(rt: HostRuntime) -> Result<(), Fail> {
+    at_a_width!(rt, check_settled)
 }
 
 #[test]

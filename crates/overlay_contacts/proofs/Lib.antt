@@ -1,3 +1,6 @@
+pub mod EdgeSides
 pub mod ExactRelations
 pub mod GivenContacts
 pub mod ScaledClosures
+pub mod SettledRelations
+pub mod SortedEnds

@@ -1,2 +1,4 @@
+pub mod EdgeSides
 pub mod ExactRelations
 pub mod GivenContacts
+pub mod SettledRelations

@@ -2,4 +2,8 @@
 #![tactic(auto)]
 
 pub mod contacts;
+mod edge_sides;
 pub mod relations;
+pub mod settled;
+mod shape_end;
+mod shared_end;

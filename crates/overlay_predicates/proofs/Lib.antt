@@ -3,3 +3,4 @@ pub mod ExactBuilders
 pub mod ExactPaths
 pub mod OneExact
 pub mod ToldPaths
+pub mod WholeArrangements

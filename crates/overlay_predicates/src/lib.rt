@@ -4,5 +4,6 @@
 pub mod exact_predicates;
 pub mod laws;
 mod merged;
+mod merged_relations;
 pub mod only_relations;
 pub mod relate_exact;

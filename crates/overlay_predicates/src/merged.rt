@@ -23,8 +23,8 @@ pub(crate) fn merged_copy<I: IntNumber, A: Allocator + Clone>(
     Ok(merged)
 }
 
-// Returns a copy of the content. The only refusal is `Memory`.
-fn copy_of<I: IntNumber, A: Allocator + Clone>(
+/// Returns a copy of the content. The only refusal is `Memory`.
+pub(crate) fn copy_of<I: IntNumber, A: Allocator + Clone>(
     content: &Content<I, ShapeCountBoolean, A>,
 ) -> Result<Content<I, ShapeCountBoolean, A>, OverlayError>
     ensures copy { IfOk result (λ c. edges_in c ≡ edges_in content.now) }

@@ -7,7 +7,7 @@ ghost use Rattle.overlay_predicates.specs.ExactQueries.{AreContentsApart};
 
 use crate::exact_predicates::ExactPredicates;
 use crate::merged::merged_copy;
-use overlay_contacts::relations::given_relations;
+use crate::merged_relations::merged_relations;
 use overlay_exact::exact_int::ExactInt;
 use overlay_geom::error::OverlayError;
 use overlay_relate::relations::Relations;
@@ -70,7 +70,6 @@ impl<I: ExactInt, A: Allocator + Clone> ExactPredicates<I, A> {
         ensures { TellsRelations self.now result }
     {
         let merged = merged_copy(self.core.content())?;
-        let alloc = merged.allocator().clone()?;
-        Ok(given_relations(alloc, merged.edges(), self.fill_rule)?)
+        merged_relations(&merged, self.fill_rule)
     }
 }
