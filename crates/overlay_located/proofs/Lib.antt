@@ -1,0 +1,13 @@
+pub mod AsideEdges
+pub mod LocatedPaths
+pub mod NearSectors
+pub mod NearTells
+pub mod NearTests
+pub mod OneLocation
+pub mod SectorPoints
+pub mod SectorsTell
+pub mod SeenSectors
+pub mod SkippedNear
+pub mod SummedNear
+pub mod ToldShapes
+pub mod TopRays

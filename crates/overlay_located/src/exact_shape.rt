@@ -1,0 +1,98 @@
+//! Shapes as they are given, that are asked again and again where points lie.
+
+ghost use Rattle.std.specs.Prelude.{◌≡◌, All, false, IfOk, IfErr};
+ghost use Rattle.overlay_geom.specs.declared.options.ShapeType.TheVariants.{Subject};
+ghost use Rattle.overlay_geom.specs.Plane.{in_plane};
+ghost use Rattle.overlay_geom.specs.Points.{plain_point, AllInRange};
+ghost use Rattle.overlay_builder.specs.GivenPaths.{paths_for, added_paths};
+ghost use Rattle.overlay_builder.specs.PathLists.{MayRefuseBuilder};
+ghost use Rattle.overlay_located.specs.GivenShapes.{IsShapeOf, TellsLocation};
+
+use crate::blocks::{BLOCK, GROUP, blocks_over};
+use crate::located::locate;
+use overlay_builder::boolean::passing;
+use overlay_builder::builder_core::BuilderCore;
+use overlay_builder::path::PathKind;
+use overlay_geom::error::OverlayError;
+use overlay_geom::fill_rule::FillRule;
+use overlay_geom::integer::OverlayInt;
+use overlay_geom::options::ShapeType;
+use overlay_geom::point::IntPoint;
+use overlay_geom::resource::IntShapeResource;
+use overlay_order::count::ShapeCountBoolean;
+use overlay_relate::blocks::Block;
+use overlay_relate::location::PointLocation;
+use std::alloc::Allocator;
+use std::marker::Model;
+
+/// A shape under a fill rule, made from any contours, which may cross and overlap. It is asked again and again where
+/// points lie: inside, outside or on its boundary. Nothing is rounded.
+#[derive(Drop)]
+pub struct ExactShape<I: OverlayInt, A: Allocator> {
+    // which windings fill the shape
+    fill_rule: FillRule,
+    // the edges of the contours
+    core: BuilderCore<I, ShapeCountBoolean, A>,
+    // blocks of 64 of them
+    blocks: Vec<Block<I>, A>,
+    // and of 4096
+    groups: Vec<Block<I>, A>,
+}
+
+impl<I: OverlayInt, A: Allocator> Model for ExactShape<I, A> {
+    ghost use Rattle.overlay_plane.specs.Carried.{edges_in};
+    ghost use Rattle.overlay_relate.specs.Blocks.{plain_blocks};
+    ghost use Rattle.overlay_located.specs.Blocks.{AreBlocked};
+    ghost use Rattle.overlay_located.specs.GivenShapes.{GivenShape};
+
+    ghost Value = { GivenShape };
+
+    ghost view = { λ s. record { fill_rule = s.fill_rule; edges = edges_in s.core.edges } };
+
+    ghost invariant = { λ s. AreBlocked (edges_in s.core.edges) (plain_blocks I.whole s.blocks.items)
+        (plain_blocks I.whole s.groups.items) };
+}
+
+impl<I: OverlayInt, A: Allocator + Clone> ExactShape<I, A> {
+    /// The shape that the paths of the resource make under the fill rule, each a closed contour. Points on one line
+    /// with their two neighbours are dropped. The points are in the coordinate range.
+    ///
+    /// Refusals: `TooManyEdges` where a path, added after those before it, would bring the weight to 2^31; `Memory`.
+    pub fn new<R0: IntShapeResource<I>>(
+        alloc: A,
+        resource: &R0,
+        fill_rule: FillRule,
+    ) -> Result<Self, OverlayError>
+        requires { All (AllInRange I.limit) (R0.paths resource.now) }
+        ensures ok { IfOk result (IsShapeOf fill_rule (paths_for Subject (R0.paths resource.now))) }
+        ensures err { IfErr result
+            (MayRefuseBuilder (added_paths false (paths_for Subject (R0.paths resource.now)))) }
+    {
+        let mut core = BuilderCore::with_capacity(alloc.clone()?, 0)?;
+        core.add_paths(resource, PathKind::Thinned, passing(ShapeType::Subject))?;
+        let blocks = blocks_over(alloc.clone()?, core.content().edges(), BLOCK)?;
+        let groups = blocks_over(alloc, core.content().edges(), GROUP)?;
+        Ok(ExactShape {
+            fill_rule,
+            core,
+            blocks,
+            groups,
+        })
+    }
+}
+
+impl<I: OverlayInt, A: Allocator> ExactShape<I, A> {
+    /// Returns where the point lies: `Inside` where all points off the contours near it are filled, `Outside` where
+    /// none is, and `Boundary` where there are both however near. The point may be any. No memory is taken.
+    pub fn locate(&self, point: IntPoint<I>) -> PointLocation
+        ensures { TellsLocation self.now (in_plane (plain_point I.whole point)) result }
+    {
+        locate(
+            self.core.content().edges(),
+            &self.blocks,
+            &self.groups,
+            self.fill_rule,
+            point,
+        )
+    }
+}

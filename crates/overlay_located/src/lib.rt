@@ -1,0 +1,11 @@
+//! Where points lie in a shape of contours as they are given: nothing is rounded.
+#![tactic(auto)]
+
+mod blocks;
+pub mod exact_shape;
+mod flank;
+pub mod laws;
+mod located;
+mod near;
+pub mod only_locations;
+mod seen;
