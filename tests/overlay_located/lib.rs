@@ -1,0 +1,7 @@
+//! Tests of `overlay_located`: where points lie in contours as they are given.
+
+mod asked;
+mod many;
+mod range;
+mod refused;
+mod rows;
