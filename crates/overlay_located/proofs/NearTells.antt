@@ -24,7 +24,8 @@ same_if_ray true false true v w same = same refl
 same_if_ray true false false v w same = refl
 same_if_ray false t u v w same = refl
 
-pub same_near : (h : Flank) (count : CountedEdge → ℤ) (es : List CountedEdge) (p : PlanePoint) (one other : Edge → Bool) →
+pub same_near : (h : Flank) (count : CountedEdge → ℤ) (es : List CountedEdge) (p : PlanePoint)
+    (one other : Edge → Bool) →
     ((e : CountedEdge) → Contains es e → leads_from h (ends_of e) p ≡ true → one (ends_of e) ≡ other (ends_of e)) →
     winding_near h count es p one ≡ winding_near h count es p other
 same_near h count es p one other same = total-same

@@ -232,7 +232,9 @@ module _ (k : ℕ) (h : Flank) (es : List CountedEdge) (p : PlanePoint) (low : E
       by : (t : Bool) → low (ends_of e) ≡ t → LeadsAmong x y low (ends_of e) →
           side (ends_of e) q ≡ width (ends_of e) *ℤ y -ℤ height (ends_of e) *ℤ x →
           int_lt (pos 0) (side (ends_of e) q) ≡ low (ends_of e)
-      by true is among at = let high = among.above is in test_from_lt (pos 0) (side (ends_of e) q) (omega linear) ∙ sym is
+      by true is among at =
+          let high = among.above is in
+          test_from_lt (pos 0) (side (ends_of e) q) (omega linear) ∙ sym is
       by false is among at =
           let less = among.below is in
           test_from_ge (pos 0) (side (ends_of e) q) (omega linear) ∙ sym is

@@ -57,7 +57,8 @@ module _ (h : Flank) (v : Point) (low : Edge → Bool) (es : List CountedEdge) w
       subst (λ m. w ≡ winding_near h subj_of (take m es) (in_plane v) low) (sym on)
       (by_lt (i + k) (length es)
       (λ (lt : (i + k) < length es).
-      near_next (i + k) (get_or es (i + k) no_edge) false w w (lt, get_or_default es (i + k) (get_or es (i + k) no_edge) no_edge lt)
+      near_next (i + k) (get_or es (i + k) no_edge) false w w
+      (lt, get_or_default es (i + k) (get_or es (i + k) no_edge) no_edge lt)
       ((aside (i + k) no_edge (omega arith) (omega arith) lt).not_below h
       (low (ends_of (get_or es (i + k) no_edge)))) so_far (sym (+ℤ_idr w)))
       (λ (ge : length es ≤ (i + k)).

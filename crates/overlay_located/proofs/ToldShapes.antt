@@ -15,8 +15,8 @@ use Rattle.overlay_located.specs.GivenShapes.{GivenShape, TellsLocation}
 use Rattle.overlay_located.specs.Located.{LiesIn}
 use Rattle.overlay_located.proofs.LocatedPaths.{contents_locate_of_paths}
 
-pub tells_location : (s : GivenShape) (p : PlanePoint) (l : PointLocation) → LiesIn (is_filled s.fill_rule) s.edges p l →
-    TellsLocation s p l
+pub tells_location : (s : GivenShape) (p : PlanePoint) (l : PointLocation) →
+    LiesIn (is_filled s.fill_rule) s.edges p l → TellsLocation s p l
 tells_location s p l lies = record {
   edges = lies;
   paths = λ fill paths is. contents_locate_of_paths false paths s.edges is.holds (is_filled fill) p l

@@ -283,7 +283,8 @@ module _ (h : Flank) (p q : PlanePoint) where
           entry = Contains-head e es;
           below = is;
           top = λ f c t. ⊎_elim
-              (λ same. subst (λ (k : CountedEdge). pos 0 ≤ℤ higher h (ends_of k) (ends_of e)) same (as_high (ends_of e)))
+              (λ same. subst (λ (k : CountedEdge). pos 0 ≤ℤ higher h (ends_of k) (ends_of e)) same
+              (as_high (ends_of e)))
               (λ later. below_higher h (ends_of f) (ends_of g) (ends_of e) (wide_below (ends_of f) t)
               (wide_below (ends_of g) at.below) (wide_below (ends_of e) is) (at.top f later t)
               (lower_turned (ends_of e) (ends_of g) down))
