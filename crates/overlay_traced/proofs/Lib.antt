@@ -1,0 +1,4 @@
+pub mod Holding
+pub mod Passing
+pub mod Refusing
+pub mod Telling

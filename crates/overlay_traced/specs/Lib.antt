@@ -1,0 +1,4 @@
+pub mod Given
+pub mod Marks
+pub mod Told
+pub mod Traced
