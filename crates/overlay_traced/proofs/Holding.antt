@@ -61,18 +61,19 @@ module _ {D : Type 0} (data_of : ℕ → Passage → D) (side : ShapeType) (n : 
   -- and to a smaller one
   pub held_back : (v : CountWithData D) → v ≡ value_back data_of side n → point_cmp p q ≡ Greater →
       held ≡ carrying q p v ∷ []
-  held_back v same is = ap (map (held_step data_of side n)) (steps_if Greater is) ∙ ap (λ x. x ∷ []) (runs_if Greater is)
-      ∙ ap (λ w. carrying q p w ∷ []) (sym same)
+  held_back v same is = ap (map (held_step data_of side n)) (steps_if Greater is)
+      ∙ ap (λ x. x ∷ []) (runs_if Greater is) ∙ ap (λ w. carrying q p w ∷ []) (sym same)
 
 -- ---- weights
 
-weight_append : {D : Type 0} (xs ys : List (Held D)) → weight (edges_in (xs ++ ys)) ≡ weight (edges_in xs) + weight (edges_in ys)
+weight_append : {D : Type 0} (xs ys : List (Held D)) →
+    weight (edges_in (xs ++ ys)) ≡ weight (edges_in xs) + weight (edges_in ys)
 weight_append xs ys =
     ap weight (map-append (λ x. x.edge) xs ys) ∙ sum_by-append edge_weight (edges_in xs) (edges_in ys)
 
 -- an edge is refused as too heavy
-pub one_heavy : {D : Type 0} (old one : List (Held D)) (x : Held D) → one ≡ x ∷ [] → 2 ^ 31 ≤ weight (edges_in old ++ x.edge ∷ []) →
-    2 ^ 31 ≤ weight (edges_in (old ++ one))
+pub one_heavy : {D : Type 0} (old one : List (Held D)) (x : Held D) → one ≡ x ∷ [] →
+    2 ^ 31 ≤ weight (edges_in old ++ x.edge ∷ []) → 2 ^ 31 ≤ weight (edges_in (old ++ one))
 one_heavy old one x is heavy = subst (λ es. 2 ^ 31 ≤ weight es)
     (sym (ap (λ k. edges_in (old ++ k)) is ∙ map-append (λ y. y.edge) old (x ∷ []))) heavy
 

@@ -19,14 +19,14 @@ use overlay_geom::solver::Solver;
 use overlay_order::vector::DataVectorEdge;
 use std::alloc::Global;
 
-/// Returns the edges of the arrangement of the given ones, which the solver splits where they meet: those on exactly one
-/// side of which the wanted rule holds, or all where none is wanted. They run from their smaller to their larger ends,
-/// in order by these. Each has the sides that the subject and the clip fill under the fill rule, and the given edges
-/// that it comes from, in the order in which they were merged. The given edges need not be closed contours; they are
-/// numbered from 0. Edges that run there and back between the same ends, as often, leave none.
+/// Returns the edges of the arrangement of the given ones, which the solver splits where they meet: those on exactly
+/// one side of which the wanted rule holds, or all where none is wanted. They run from their smaller to their larger
+/// ends, in order by these. Each has the sides that the subject and the clip fill under the fill rule, and the given
+/// edges that it comes from, in the order in which they were merged. The given edges need not be closed contours; they
+/// are numbered from 0. Edges that run there and back between the same ends, as often, leave none.
 ///
-/// The edges are arranged twice. The first pass finds out the lists of given edges that merged edges have, and the second
-/// one tests them. All ends are in the coordinate range. Refusals are `TooManyEdges`, `NotSettled` (never with
+/// The edges are arranged twice. The first pass finds out the lists of given edges that merged edges have, and the
+/// second one tests them. All ends are in the coordinate range. Refusals are `TooManyEdges`, `NotSettled` (never with
 /// `Solver::SNAPPED`) and `Memory`.
 pub fn traced_edges<I: IntNumber>(
     alloc: Global,
