@@ -4,7 +4,7 @@ use crate::figures::{Width, point};
 use crate::refusals::{Answer, Memory, Trial};
 use overlay_exact::along::{push_met, sort_along};
 use overlay_exact::exact_int::ExactInt;
-use overlay_exact::meetings::{find_met_of, find_meetings};
+use overlay_exact::meetings::{find_meetings, find_met_of};
 use overlay_exact::met::MetAlong;
 use overlay_exact::point_windings::{live_at_start, windings_at_points};
 use overlay_geom::edge::IntEdge;
