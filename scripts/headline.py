@@ -131,7 +131,7 @@ TOP = """# The headline, whole
 Made by `scripts/headline.py --write`.
 
 The headline of [README](../README.md#what-is-guaranteed) is two clauses of the contract of `Overlay::overlay`. All that
-they cite of windings stands here, down to Rattle's library: each definition cites only those above it and that library.
+they cite of windings stands here: each definition cites only those above it and Rattle's library.
 
 ## The contract
 
@@ -146,8 +146,7 @@ NOTATION = """## Notation
 
 A name that begins with a capital is a statement or a type; any other is a function or a value. `A → B` is a function,
 or "A implies B"; `(x : X) → ..` is "for each x"; `A × B` is "both". `λ x. ..` is a function. `record { .. }` is a
-record, and `r.f` its field f. `abbrev` and `pub` are left out. The definitions take from Rattle's library, beside signs
-that mean the usual:
+record, and `r.f` its field f. `abbrev` and `pub` are left out. From Rattle's library come, beside the usual signs:
 """
 TYPE = """## The coordinate type
 
@@ -155,8 +154,7 @@ TYPE = """## The coordinate type
 """
 REST = """## What the rest of the contract adds
 
-Each field stands here with its comment. `scripts/specs.py` prints the definitions, [DEFINITIONS](DEFINITIONS.md) tells
-them in plain words.
+`scripts/specs.py` prints the definitions, [DEFINITIONS](DEFINITIONS.md) tells them in plain words.
 """
 
 
