@@ -102,8 +102,8 @@ enum {
     POLYOVER_ROUNDS = 1
 };
 
-/* How a subject and a clip lie to each other: a bit for each relation. The closed region of one is what it fills off
- * the edges, with the edges on a side of which it does. */
+/* How a subject and a clip lie to each other: a bit for each relation. The closed region of one is all that it fills
+ * off the edges, with the edges that bound this. */
 typedef uint32_t polyover_relations;
 enum {
     POLYOVER_INTERSECTS = 1,          /* some point is in both closed regions */

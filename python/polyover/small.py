@@ -81,7 +81,7 @@ class Frame:
         self.base, self.floats_at = self.words.buffer_info()[0], self.floats.buffer_info()[0]
         self.wide, self.narrow = (Width(asked, memoryview(self.words), kind) for kind in "qi")
         self.columns: Columns | None = None
-        # (of which groups the first words tell)
+        # (the groups that the first words tell of)
         self.written: tuple[int, ...] = ()
         rooms = (ANSWER, ANSWERED), (CONTOUR_ENDS, CONTOURS), (SHAPE_ENDS, CONTOURS)
         answer = [number for place, room in rooms for number in (self.at(place), room)]

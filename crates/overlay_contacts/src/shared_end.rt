@@ -28,7 +28,7 @@ pub(crate) fn has_shared_end<I: IntNumber, C: EdgeCount, A: Allocator + Clone>(
     Ok(some_next_differs(&ends))
 }
 
-// The ends of all edges of which one shape alone fills one side alone.
+// The ends of all edges that are a border of exactly one shape: it fills one side alone.
 fn ends_of_borders<I: IntNumber, D: Copy, A: Allocator>(
     alloc: A,
     edges: &[DataVectorEdge<I, D>],
@@ -84,7 +84,7 @@ fn some_next_differs<I: IntNumber>(ends: &[ShapeEnd<I>]) -> bool
     false
 }
 
-// Whether the two ends are at one point, the one of the subject and the other of the clip.
+// Whether the two ends are at one point, and of different shapes.
 fn differs<I: IntNumber>(m: ShapeEnd<I>, n: ShapeEnd<I>) -> bool
     ensures { result ≡ differ (plain_end I.whole m) (plain_end I.whole n) }
 {

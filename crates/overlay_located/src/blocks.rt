@@ -86,8 +86,8 @@ fn widened<I: IntNumber, C: EdgeCount>(block: Block<I>, e: &CountedEdge<I, C>) -
     }
 }
 
-// Returns the place up to which no edge from a place on is below a sector round the point or leads from it, as a block
-// of so many edges tells that begins there; or this place itself.
+// Returns a place behind edges that are below no sector round the point and do not lead from it. The block of that size
+// tells it that begins at the given place; where it does not, the place stays.
 fn passed<I: IntNumber>(blocks: &[Block<I>], size: usize, at: usize, p: IntPoint<I>) -> usize
     requires { 0 < size }
     ensures { (es : _) → All (IsBlockOf es) (plain_blocks I.whole blocks.now)

@@ -19,9 +19,9 @@ use overlay_geom::solver::Solver;
 use overlay_order::vector::DataVectorEdge;
 use std::alloc::Global;
 
-/// Returns the edges of the arrangement of the given ones, which the solver splits where they meet: those on exactly
-/// one side of which the wanted rule holds, or all where none is wanted. They run from their smaller to their larger
-/// ends, in order by these. Each has the sides that the subject and the clip fill under the fill rule, and the given
+/// Returns edges of the arrangement of the given ones, which the solver splits where they meet: those where the wanted
+/// rule holds on exactly one side, or all where no rule is wanted. They run from their smaller to their larger ends, in
+/// order by these. Each has the sides that the subject and the clip fill under the fill rule, and the given
 /// edges that it comes from, in the order in which they were merged. The given edges need not be closed contours; they
 /// are numbered from 0. Edges that run there and back between the same ends, as often, leave none.
 ///

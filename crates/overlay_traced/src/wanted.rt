@@ -22,8 +22,8 @@ use overlay_vector::graph_vectors::graph_vectors;
 use overlay_vector::selected_vectors::selected_vectors;
 use std::alloc::{AllocError, Global};
 
-/// Returns the edges that are wanted of the arrangement of the given ones: those on exactly one side of which the rule
-/// holds, or all. Each has its filled sides and its data.
+/// Returns the wanted edges of the arrangement of the given ones: those where the rule holds on exactly one side, or
+/// all. Each has its filled sides and its data.
 pub(crate) fn wanted_edges<I: IntNumber, D: GivenData>(
     alloc: Global,
     edges: &[GivenEdge<I>],
