@@ -48,15 +48,15 @@ module _ {I : Type 0} (whole : I → ℤ) (limit fill : ℕ) (subject clip : Con
   never_failed : ¬ (may error.Failed)
   never_failed failed = failed
 
-  pub contours_untold : (f : Fault) → fill < 4 → AreUnread whole limit subject clip f →
+  pub untold : (f : Fault) → fill < 4 → AreUnread whole limit subject clip f →
       AreExactRefused whole limit fill subject clip (status_of_fault f)
-  contours_untold f known = unread whole limit (IsUnknownFill fill) (fill < 4) subject clip may tt f known
+  untold f known = unread whole limit (IsUnknownFill fill) (fill < 4) subject clip may tt f known
 
-  pub relating_refused : (e : OverlayError) (p q : List (List Point)) → fill < 4 →
+  pub refused_so : (e : OverlayError) (p q : List (List Point)) → fill < 4 →
       AreGiven whole limit subject → AreGiven whole limit clip → p ≡ paths_of whole subject →
       q ≡ paths_of whole clip → MayRefuseBuilder (added_paths false (subject_and_clip p q)) e →
       AreExactRefused whole limit fill subject clip (status_of_error e)
-  relating_refused e p q known s c same_p same_q refused =
+  refused_so e p q known s c same_p same_q refused =
       unanswered whole limit (IsUnknownFill fill) (fill < 4) subject clip may never_failed e known s c
       (subst (λ paths. MayRefuseBuilder (added_paths false paths) e) (ap₂ subject_and_clip same_p same_q) refused)
 

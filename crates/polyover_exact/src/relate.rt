@@ -46,7 +46,7 @@ pub fn relate_exactly<I: ExactInt>(
 }
 
 // Returns the same bits, or why there are none.
-#[tactic(auto, using(crate::proofs::Told::contours_untold, crate::proofs::Told::relating_refused, crate::proofs::Told::bits_told))]
+#[tactic(auto, using(crate::proofs::Told::untold, crate::proofs::Told::refused_so, crate::proofs::Told::bits_told))]
 fn exact_bits<I: ExactInt>(
     alloc: Global,
     fill: u32,

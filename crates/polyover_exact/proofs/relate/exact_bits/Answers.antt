@@ -2,7 +2,7 @@
 use Rattle.std.proofs.lemmas.Result.{err_from_is_err_and}
 use Rattle.overlay_geom.specs.Flat.{paths_in}
 use Rattle.polyover_calls.specs.Given.{contours_of}
-use Rattle.polyover_exact.proofs.Told.{relating_refused}
+use Rattle.polyover_exact.proofs.Told.{refused_so}
 use Rattle.polyover_exact.proofs.relate.exact_bits.Goals as goal
 
 pub returns-in_err-relations : goal.returns-in_err-relations
@@ -10,7 +10,7 @@ returns-in_err-relations g c =
     let whole = g.I.IntNumber.whole in
     let e = err_from_is_err_and c.from_residual-in_err-relations.result c.from_residual-in_err-relations.ensures.1 in
     let read = c.in_ok-read.ensures in
-    rw (e.1, e.2) (relating_refused whole g.I.IntNumber.limit c.args.fill
+    rw (e.1, e.2) (refused_so whole g.I.IntNumber.limit c.args.fill
     (contours_of c.args.subject.now.coordinates.now c.args.subject.now.ends.now)
     (contours_of c.args.clip.now.coordinates.now c.args.clip.now.ends.now)
     c.in_err-relations.field-0.0
