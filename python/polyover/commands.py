@@ -27,12 +27,18 @@ COMMANDS = {
 }
 FIGURE = re.compile(f"(subject|clip|line){PATH}|point{NUMBER}{NUMBER}")
 COMMAND = re.compile("|".join(f"run {name}{words}" for name, words in COMMANDS.items()))
-SPACES = re.compile(" +")
+SPACES, ZEROS, LONG = re.compile(" +"), re.compile("(?<![^ -])0+(?=[0-9])"), re.compile("([0-9]{60})[0-9]+")
 
 Figures = dict[str, list[Any]]
 
 
 # ---- inputs
+
+
+def plain(line: str) -> str:
+    """A line with one space between words. Its numbers have no zeros before them, and 60 digits at most: those of more
+    are out of each range, and Python takes no number of many thousand digits."""
+    return LONG.sub(r"\1", ZEROS.sub("", SPACES.sub(" ", line).strip(" ")))
 
 
 def is_figure(line: str) -> bool:
@@ -54,7 +60,7 @@ def figures_in(text: str) -> tuple[Figures, list[str]]:
     words: list[str] | None = None
     lines = text.replace("\r\n", "\n").removesuffix("\n").split("\n") if text else []
     for number, each in enumerate(lines, 1):
-        line = SPACES.sub(" ", each).strip(" ")
+        line = plain(each)
         kind, _, rest = line.partition(" ")
         if words is None and is_figure(line):
             figures[kind].append(points_in(rest))

@@ -4,7 +4,7 @@ from __future__ import annotations
 
 from typing import Sequence
 
-from .commands import COMMANDS, KINDS, SPACES, figures_in, is_command, is_figure
+from .commands import COMMANDS, KINDS, figures_in, is_command, is_figure, plain
 from .program import BadLine
 from .text import FILLS, LIMIT, RULES
 
@@ -100,8 +100,8 @@ def of_command(words: Sequence[str]) -> str:
 def reason_of(text: str, number: int) -> str:
     """What is wrong in the line of an input that is bad, which has this number."""
     lines = text.replace("\r\n", "\n").split("\n")
-    before = [SPACES.sub(" ", each).strip(" ") for each in lines[: number - 1]]
-    line = SPACES.sub(" ", lines[number - 1]).strip(" ") if number <= len(lines) else ""
+    before = list(map(plain, lines[: number - 1]))
+    line = plain(lines[number - 1]) if number <= len(lines) else ""
     if any(map(is_command, before)):
         return "it stands behind the command"
     if not line:

@@ -10,6 +10,7 @@ from .there import HAS_LIBRARY, HAS_PROGRAM
 
 SQUARES = "subject 0 0 4 0 4 4 0 4\nclip 2 2 6 2 6 6 2 6\n"
 NEEDLES = "subject 2 0 0 66 2 -66\nsubject 1 0 0 67 -1 0\n"
+ZEROS, NINES = "0" * 5000, "9" * 5000
 BOW = "subject 0 0 4 0 4 4 0 4\nsubject 0 0 4 4 4 0 0 4\npoint 1 1\n"
 # (an input, and what comes of it: standard output, words on standard error, status)
 ENDINGS = {
@@ -20,6 +21,12 @@ ENDINGS = {
     SQUARES: ("", "line 3: bad input\n", 2),
     f"{BOW}run locate\n": ("", "line 2: bad input\n", 2),
     f"{SQUARES}\nrun tiles NonZero 0 1\n": ("", "line 4: bad input\n", 2),
+    # (numbers of more digits than Python takes)
+    f"subject {ZEROS}1 0 4 0 4 4 -{ZEROS} 4\nrun overlay Union EvenOdd\n": ("shape\n4 4 0 4 1 0 4 0\n", "", 0),
+    f"subject 0 0 4 0 4 4 0 4\nrun overlay Union EvenOdd min {ZEROS}17\n": ("", "", 0),
+    f"subject 0 0 4 0 4 4 0 {NINES}\nrun overlay Union EvenOdd\n": ("", "line 1: bad input\n", 2),
+    f"{SQUARES}run overlay Union EvenOdd min {NINES}\n": ("", "line 3: bad input\n", 2),
+    f"{SQUARES}run tiles NonZero 1 {NINES}\n": ("", "line 3: bad input\n", 2),
 }
 
 
@@ -35,7 +42,7 @@ class Running(unittest.TestCase):
 
     def test_endings(self):
         for given, wanted in ENDINGS.items():
-            with self.subTest(given):
+            with self.subTest(given[:80]):
                 each = ran(given, capture_output=True, text=True)
                 self.assertEqual((each.stdout, each.stderr, each.returncode), wanted)
 
