@@ -9,9 +9,11 @@ from typing import Any, Iterable
 
 
 def ratio_of(value: Any) -> tuple[int, int]:
-    """A finite number as a ratio of whole numbers, the second one above 0."""
+    """A finite number as a ratio of whole numbers, the second one above 0. Raises TypeError of a text."""
     if isinstance(value, (int, float)):
         return value.as_integer_ratio()
+    if isinstance(value, str):
+        raise TypeError
     if hasattr(value, "__index__"):
         return index(value), 1
     if hasattr(value, "as_integer_ratio"):

@@ -34,12 +34,20 @@ class ScaledFloats(unittest.TestCase):
         for start, scale in product(starts, scales):
             scaled = polyover.Scaled(scale, (start, 0))
             values = [chance.uniform(-1000, 1000) for _ in range(20)] + [chance.randint(-9, 9) / 2 for _ in range(20)]
-            for value in [*values, 5e-324, -1e300, 7, Fraction(5, 3), Decimal("0.5"), "0.1", True]:
+            for value in [*values, 5e-324, -1e300, 7, Fraction(5, 3), Decimal("0.5"), True]:
                 whole = round((Fraction(value) - Fraction(start)) * Fraction(scale))
                 self.assertEqual(scaled.whole_point((value, 0))[0], whole)
             for whole in (0, 1, -1, 3, LIMIT, -LIMIT, *(chance.randint(-(10**12), 10**12) for _ in range(20))):
                 value = float(whole / Fraction(scale) + Fraction(start))
                 self.assertEqual(scaled.point((whole, 0))[0], value)
+
+    def test_texts_are_no_numbers(self):
+        scaled = polyover.Scaled(1)
+        for contour in ([("0.5", 0), (4, 0), (4, 4)], ["00", "40", "44"]):
+            with self.assertRaisesRegex(polyover.BadInput, "subject: contour 1, point 1: .* is no point of two finite"):
+                scaled.overlay([contour])
+        with self.assertRaisesRegex(polyover.BadInput, "the scale '10' is no finite number"):
+            polyover.Scaled("10")
 
     @unittest.skipIf(numpy is None, "no python3 here has NumPy (Debian's python3-numpy)")
     def test_columns_are_the_same_numbers(self):
