@@ -69,9 +69,9 @@ def points_in(coordinates: Any) -> list[Any]:
 
 def line_of(form: Format, feature: dict[str, Any], digits: int, system: int, place: str) -> str:
     """The line of a feature, with the number of its system where it has one; a fault names its place."""
-    if form in SEQUENCES:
-        return f"{RECORD * (form is RECORDS)}{feature_text(feature, digits)}\n"
     try:
+        if form in SEQUENCES:
+            return f"{RECORD * (form is RECORDS)}{feature_text(feature, digits)}\n"
         written = wkt.written if form is WKT else wkb.written
         return written(feature["geometry"], system)
     except BadInput as fault:

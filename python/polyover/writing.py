@@ -5,6 +5,7 @@ from __future__ import annotations
 
 import json
 from itertools import chain
+from math import isfinite
 from typing import Any, Iterable, Sequence
 
 from .errors import BadInput
@@ -15,21 +16,46 @@ DIGITS = 14
 POINT = f"[{{:.{DIGITS}}}, {{:.{DIGITS}}}], "
 # (how a feature ends whose coordinates are left out)
 END = "null}}"
+ENCODER = json.JSONEncoder(allow_nan=False)
 
 
-def json_text(value: Any) -> str:
-    """The text of an answer as JSON."""
+def json_text(value: dict[str, Any]) -> str:
+    """The text of an object of an answer as JSON, which has no number that is not finite."""
     try:
-        return json.dumps(value)
+        return ENCODER.encode(value)
     except RecursionError:
         raise BadInput("properties have too many lists or objects in one another") from None
+    except ValueError:
+        raise BadInput(f"JSON holds finite numbers alone, and no {place_of_infinite(value)}") from None
+
+
+def place_of_infinite(value: dict[str, Any]) -> str:
+    """The first number that is not finite, and the member of an object in which it stands, at any depth."""
+    things: list[tuple[str, Any]] = list(value.items())[::-1]
+    while things:
+        name, thing = things.pop()
+        if isinstance(thing, float) and not isfinite(thing):
+            return f"{thing} as {name}"
+        if isinstance(thing, dict):
+            things += [(f"{name}.{key}", each) for key, each in thing.items()][::-1]
+        elif isinstance(thing, (list, tuple)):
+            things += [(f"{name}[{at}]", each) for at, each in enumerate(thing)][::-1]
+    return "other"
 
 
 def collection_text(features: Iterable[dict[str, Any]], digits: int, members: dict[str, Any]) -> str:
     """The lines of a collection of features, with members of its own; coordinates of lines and polygons have `digits`
     behind the point."""
-    texts = [feature_text(each, digits) for each in features]
+    texts = [text_at(number, each, digits) for number, each in enumerate(features, 1)]
     return f"{json_text(collection((), **members))[:-2]}{', '.join(texts)}]}}\n"
+
+
+def text_at(number: int, feature: dict[str, Any], digits: int) -> str:
+    """The text of a feature of an answer, whose number a fault names."""
+    try:
+        return feature_text(feature, digits)
+    except BadInput as fault:
+        raise BadInput(f"feature {number} of the answer: {fault}") from None
 
 
 def feature_text(feature: dict[str, Any], digits: int) -> str:

@@ -4,7 +4,7 @@ import json
 import random
 import unittest
 
-from polyover import geojson, writing
+from polyover import BadInput, geojson, writing
 from polyover.scaled import Scaled
 
 from .features import feature
@@ -51,6 +51,16 @@ class Written(unittest.TestCase):
         null = {"type": "Feature", "properties": None, "geometry": None}
         self.check(one, null, feature("Point", (1, 2.123456789012)))
         self.assertEqual(writing.feature_text(one, 7), json.dumps(one))
+
+    def test_numbers_that_json_does_not_hold(self):
+        one = feature("MultiLineString", [[(0.0, 0.0), (1.0, 1.0)]], height=[1.5, {"top": float("inf")}])
+        wanted = r"^feature 2 of the answer: .* finite numbers alone, and no inf as properties\.height\[1\]\.top$"
+        with self.assertRaisesRegex(BadInput, wanted):
+            written([feature("Point", (1, 2)), one])
+        with self.assertRaisesRegex(BadInput, "no nan as id$"):
+            writing.feature_text({**feature("Point", (1, 2)), "id": float("nan")}, 7)
+        with self.assertRaisesRegex(BadInput, "no -inf as digits$"):
+            writing.collection_text([], 7, {"digits": float("-inf")})
 
     def test_members_behind_properties(self):
         ring = [(0.5, 0.0), (1.0, 0.0), (0.0, 1.0), (0.5, 0.0)]
