@@ -16,7 +16,7 @@ from .geojson import LINES, POINTS, POLYGONS, Feature, Reader, features_in, geom
 from .progress import faults_of
 from .sequences import once, values_in
 from .streams import INPUT, closed, read_all
-from .systems import DEFAULT, DEGREES, crs_of, system_in
+from .systems import DEFAULT, DEGREES, code_in, crs_of, system_in
 from .told import Told, counted
 
 # members of a collection that an answer has anew
@@ -100,13 +100,35 @@ def drained(things: list[Any]) -> Iterator[Any]:
         yield things.pop()
 
 
+def systems_of(things: Sequence[Any]) -> Iterator[tuple[int, Any]]:
+    """The members crs that features and their geometries have themselves, each with the number of the feature, which
+    loses its own."""
+    for number, each in enumerate(things, 1):
+        if isinstance(each, dict):
+            geometry = each.get("geometry")
+            if isinstance(geometry, dict) and "crs" in geometry:
+                yield number, geometry["crs"]
+            if "crs" in each:
+                yield number, each.pop("crs")
+
+
+def add_system(members: dict[str, Any], things: Sequence[Any]) -> None:
+    """Adds the member crs that features state in the place of their collection; two that differ are a fault."""
+    for number, crs in systems_of(things):
+        stated = members.setdefault("crs", crs)
+        if crs != stated and (code_in(crs) is None or code_in(crs) != code_in(stated)):
+            raise BadInput(f"feature {number}: its member crs is another than that before it: one file has one system")
+
+
 def json_content(name: str) -> Content:
     """What a file of GeoJSON has."""
     found = json.loads(bytes_of(name).decode("utf-8-sig"), object_pairs_hook=once)
     whole = geometry_of(found)
     is_collection = whole["type"] == "FeatureCollection"
     members = {key: value for key, value in whole.items() if key not in OWN} if is_collection else {}
-    things = ((0, each) for each in drained(list(features_in(whole))))
+    features = list(features_in(whole))
+    add_system(members, features)
+    things = ((0, each) for each in drained(features))
     return Content(things, members, system_in(members), is_collection and "bbox" in whole)
 
 

@@ -244,6 +244,22 @@ class Polygons(unittest.TestCase):
         self.assertIn("a.geojson and b.geojson state different systems", ran("relate", one, two)[2])
         self.assertEqual(ran("overlay", one, one)[1]["crs"], crs[0])
 
+    def test_systems_that_features_and_geometries_state(self):
+        metres, same, other = ({"type": "name", "properties": {"name": name}}
+                               for name in ("EPSG:3857", "urn:ogc:def:crs:EPSG::3857", "EPSG:25832"))
+        one = self.CROSSED["geometry"]
+        for thing in ({**one, "crs": metres}, {**self.CROSSED, "crs": metres},
+                      {**self.CROSSED, "geometry": {**one, "crs": metres}},
+                      collection({**self.CROSSED, "geometry": {**one, "crs": same}}, crs=metres)):
+            _, left, said, _ = ran("simplify", thing)
+            self.assertEqual((left["crs"], len(left["features"]), "crs" in left["features"][0]), (metres, 1, False))
+            self.assertNotIn("system", said)
+            self.assertIn("state different systems", ran("relate", thing, {**one, "crs": other})[2])
+        two = collection({**self.CROSSED, "crs": metres}, {**self.CROSSED, "crs": other})
+        status, left, said, _ = ran("simplify", two)
+        self.assertEqual((status, left), (1, None))
+        self.assertIn("a.geojson: feature 2: its member crs is another", said)
+
     def test_help(self):
         for words in (["--help"], ["--version"], ["overlay", "--help"], ["svg", "--help"]):
             said = io.StringIO()
@@ -257,6 +273,13 @@ class Files(unittest.TestCase):
     """Files are read whole, and left whole."""
 
     AREA = collection(feature("Polygon", [square(0, 0, 2, 2)]))
+
+    def test_properties_that_json_does_not_hold(self):
+        raw = json.dumps(feature("Polygon", [square(0, 0, 2, 2)], height=0)).replace('"height": 0', '"height": 1e400')
+        status, left, said, there = ran("simplify", None, raw=raw)
+        self.assertEqual((status, left, there), (1, None, ["a.geojson"]))
+        self.assertIn("feature 1 of the answer: JSON holds finite numbers alone, and no inf as properties.height", said)
+        self.assertEqual(ran("relate", None, None, raw=raw)[0], 0)
 
     def test_what_is_no_json(self):
         for raw, told in (
