@@ -37,7 +37,15 @@ OF_SUFFIX = {
     "shp": SHAPEFILE,
 }
 # others, which are taken for none of these
-OTHERS = {"parquet": "GeoParquet", "geoparquet": "GeoParquet", "fgb": "FlatGeobuf"}
+OTHERS = {
+    **dict.fromkeys(("parquet", "geoparquet"), "GeoParquet"),
+    **dict.fromkeys(("gz", "zip", "bz2", "xz", "zst", "kmz"), "a compressed file"),
+    "fgb": "FlatGeobuf",
+    "csv": "CSV",
+    "gml": "GML",
+    "kml": "KML",
+    "topojson": "TopoJSON",
+}
 # the words for what standard input and output have
 STREAMED = {"geojson": GEOJSON, **{word: form for word, form in OF_SUFFIX.items() if form.is_lines}}
 # a GeoPackage, and one of its layers

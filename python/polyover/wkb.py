@@ -49,7 +49,9 @@ class Bytes:
         if code & MEASURE or thousands in MEASURES:
             raise BadInput("measures (M) are not taken")
         if code & SYSTEM:
-            (self.system,) = self.take("I")
+            before, (self.system,) = self.system, self.take("I")
+            if before not in (0, self.system):
+                raise BadInput(f"a part has another system, SRID {self.system}, than SRID {before} before it")
         if not 1 <= number <= len(KINDS) or thousands > 3 or code & 0x1FFF0000:
             raise BadInput(f"no WKB: {code} in the place of a kind of geometry")
         return KINDS[number - 1], 3 if code & HEIGHT or thousands in HEIGHTS else 2

@@ -9,7 +9,8 @@ from .errors import BadInput
 from .geojson import DEPTHS, NESTED
 
 KINDS = {name.upper(): name for name in (*DEPTHS, "GeometryCollection")}
-TOKEN = re.compile(r"\s*([A-Za-z]+|[(),]|[-+]?(?:[0-9]+\.?[0-9]*|\.[0-9]+)(?:[eE][-+]?[0-9]+)?)")
+# (a number ends before a space, a parenthesis or a comma)
+TOKEN = re.compile(r"\s*([A-Za-z]+|[(),]|[-+]?(?:[0-9]+\.?[0-9]*|\.[0-9]+)(?:[eE][-+]?[0-9]+)?(?=[\s(),]|$))")
 SYSTEM = re.compile(r"\s*SRID\s*=\s*([0-9]{1,9})\s*;", re.IGNORECASE)
 END = "the end"
 EMPTY = "EMPTY"

@@ -345,6 +345,8 @@ class Files(unittest.TestCase):
             area.write_text(json.dumps(self.AREA))
             for words, fault in ((["simplify", str(area), "--out", f"{name}/b.parquet"], "GeoParquet is not taken"),
                                  (["simplify", f"{name}/b.fgb"], "FlatGeobuf is not taken"),
+                                 (["simplify", f"{name}/b.GeoJSON.gz"], "a compressed file is not taken"),
+                                 (["simplify", str(area), "--out", f"{name}/b.kml"], "KML is not taken"),
                                  (["relate", str(area), str(area), "--out", f"{name}/b.wkt"],
                                   "relations are JSON, and not WKT")):
                 said = io.StringIO()

@@ -43,6 +43,8 @@ FAULTS = (
     ("POINT (1 2) x", "no WKT: X behind the geometry"),
     ("POINT (1 2), 3", "no WKT: , behind the geometry"),
     ("POINT (1 # 2)", "no WKT: '# 2)'"),
+    ("POINT (1-2)", "no WKT: '1-2)'"),
+    ("POINT (0.5.25 1)", "no WKT: '0.5.25 1)'"),
     ("GEOMETRYCOLLECTION (" * 60, "more than 50 collections in one another"),
     ("", "no WKT: the end in the place of POINT"),
 )
@@ -116,6 +118,8 @@ class Bytes(unittest.TestCase):
                             ("0103000000FFFFFFFF", "it ends after 9 bytes"), ("01D2070000", "measures"),
                             ("01020000400000000000", "measures"), ("01020000000500FF00", "it ends after 9"),
                             (f"010600000001000000{self.POINT}", "a Point in a MultiPolygon"),
+                            ("0104000020110F0000010000000101000020E6100000000000000000F03F00000000000004C0",
+                             "a part has another system, SRID 4326, than SRID 3857 before it"),
                             ("010700000001000000" * 60, "more than 50 collections")):
             with self.subTest(text), self.assertRaises(BadInput) as caught:
                 wkb.geometry_in(wkb.bytes_in(text))
