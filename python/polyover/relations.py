@@ -32,6 +32,14 @@ def is_exact(solver: RelationSolver | None) -> bool:
     return is_there
 
 
+def is_told_exactly(solver: RelationSolver | None) -> bool:
+    """As `is_exact`, with a warning to the caller of a call where no solver is named and the library does not do so."""
+    found = is_exact(solver)
+    if solver is None and not found:
+        warnings.warn(f"relations are those of an arrangement: {NO_EXACT}", PolyoverWarning, stacklevel=3)
+    return found
+
+
 def splitting(solver: RelationSolver | None) -> Solver:
     """The solver that splits edges where relations are those of an arrangement."""
     return SNAPPED if solver is None or solver == "exact" else solver
@@ -43,12 +51,12 @@ def relate(
     """Returns which relations hold: a dictionary from the seven names to truths.
 
     By the library they are those of the contours as they are given: nothing is rounded. With a solver, and by the
-    program, they hold of the arrangement of the coordinates times the greatest power of two that keeps them in the
-    range. Its chains stay within half a unit of that scale of their edges, for each round that moved a point. Where
-    rounds do not settle there, a smaller power is taken, with a warning; NotSettled comes where even 1 does not settle.
-    The solver "exact" asks for the library's: LibraryMissing comes where it has none."""
+    program, which a warning says, they hold of the arrangement of the coordinates times the greatest power of two that
+    keeps them in the range. Its chains stay within half a unit of that scale of their edges, for each round that moved
+    a point. Where rounds do not settle there, a smaller power is taken, with a warning; NotSettled comes where even 1
+    does not settle. The solver "exact" asks for the library's: LibraryMissing comes where it has none."""
     fill = known(FILLS, fill, "fill rule")
-    if is_exact(solver):
+    if is_told_exactly(solver):
         return told_exactly(subject, clip, fill)
     return dict(told_finest(relations_as_given, subject, clip, fill, splitting(solver)))
 
@@ -58,7 +66,7 @@ def relate_one(
 ) -> bool:
     """Returns whether the relation with the name holds, as `relate` tells it."""
     fill = known(FILLS, fill, "fill rule")
-    if is_exact(solver):
+    if is_told_exactly(solver):
         return told_exactly(subject, clip, fill)[relation]
     return bool(told_finest(partial(relation_as_given, relation), subject, clip, fill, splitting(solver)))
 

@@ -189,11 +189,22 @@ class OfAnArrangement(unittest.TestCase):
         self.assertEqual(asked, [2**61, 2**53, 2**45])
         self.assertIn("times 2^45, since splitting did not settle at 2^61", str(told[0].message))
 
+    def told(self, call):
+        """What a call tells, which warns once unless a solver is named."""
+        with warnings.catch_warnings():
+            warnings.simplefilter("error")
+            call([SUBJECT], [CLIP], solver="rounds")
+        with self.assertWarnsRegex(polyover.PolyoverWarning, "those of an arrangement: no library") as told:
+            found = call([SUBJECT], [CLIP])
+        self.assertEqual(len(told.warnings), 1)
+        return held(found) if isinstance(found, dict) else found
+
     @with_program
     def test_by_the_program(self):
         ask_program_alone(self)
         for owner in (polyover, polyover.Scaled(1)):
-            self.assertEqual(held(owner.relate([SUBJECT], [CLIP])), OVERLAP)
+            self.assertEqual(self.told(owner.relate), OVERLAP)
+            self.assertTrue(self.told(owner.intersects))
             for call in (owner.relate, owner.within):
                 with self.assertRaisesRegex(polyover.LibraryMissing, "no library that tells relations of contours as"):
                     call([SUBJECT], [CLIP], solver="exact")
@@ -202,7 +213,8 @@ class OfAnArrangement(unittest.TestCase):
     def test_by_an_older_library(self):
         ask_library_alone(self)
         with mock.patch.object(relations.by_library, "TAKES", {**relations.by_library.TAKES, "relate_exact": "no"}):
-            self.assertEqual(held(polyover.relate([SUBJECT], [CLIP])), OVERLAP)
+            self.assertEqual(self.told(polyover.relate), OVERLAP)
+            self.assertTrue(self.told(polyover.intersects))
             with self.assertRaisesRegex(polyover.LibraryMissing, "no library that tells"):
                 polyover.touches([SUBJECT], [CLIP], solver="exact")
 
