@@ -1,10 +1,10 @@
 #!/usr/bin/env python3
-"""Compares the public names of i_overlay, where its sources are, with those of the crate.
+"""Compares the public names of i_overlay, where its sources are, with those that the crate's pages have.
 
-    names.py UPSTREAM   UPSTREAM has the texts
+    names.py UPSTREAM PAGES   UPSTREAM has the texts, PAGES are what `cargo doc` makes of the crate
 
-Names of functions, types, traits, constants and of the calls of traits are read. Each that the crate does not have is
-in MISSING, with a reason: one more, or one that the crate has after all, is a fault.
+A name is a path, as `core::overlay::ShapeType`, or a call, a field or a variant of a type, as `Overlay::new`. Each that
+the crate does not have is in MISSING, with a reason: one more, or one that the crate has after all, is a fault.
 """
 
 from __future__ import annotations
@@ -14,47 +14,75 @@ import sys
 from collections.abc import Iterator
 from pathlib import Path
 
-CRATE = Path(__file__).resolve().parents[1] / "src"
-PUBLIC = re.compile(r"^\s*pub (?:const |unsafe )*(?:fn|struct|enum|trait|type|const) (\w+)", re.M)
-TRAIT = re.compile(r"^pub trait \w+[^{]*\{", re.M)
-CALL = re.compile(r"^\s*fn (\w+)", re.M)
-DECLARED = re.compile(r"\b(?:fn|struct|enum|trait|type|const) (\w+)")
-# (a macro declares a call for each line that is a name)
-BY_MACRO = re.compile(r"^ +(\w+)(?:, \w+)?;$", re.M)
+COMMENT = re.compile(r"//[^\n]*|/\*.*?\*/", re.S)
+TESTS = re.compile(r"^#\[cfg\(test\)\]\s*mod \w+ \{.*", re.M | re.S)
+ITEM = re.compile(r"^pub (?:const |unsafe )*(fn|struct|enum|trait|type|const) (\w+)[^;{]*[;{]", re.M)
+BLOCK = re.compile(r"^impl\b(?:<[^{]*?>)? +(\w+)<[^{]*\{", re.M)
+CALL = re.compile(r"^    pub (?:const |unsafe )*fn (\w+)", re.M)
+PARTS = {
+    "struct": re.compile(r"^    pub (\w+):", re.M),
+    "enum": re.compile(r"^    (\w+)", re.M),
+    "trait": re.compile(r"^    fn (\w+)", re.M),
+}
+PAGE = re.compile(r"(?:fn|struct|enum|trait|type|constant)\.(\w+)\.html")
+PART = re.compile(r'id="(?:structfield|variant|method|tymethod)\.(\w+)"')
 DATA = "edges with data: the library for C has no call for them yet"
 MISSING = {
     name: DATA
-    for name in """InputEdge EdgeOverlay add_edge add_edges data_store data_store_mut into_data_store build_vectors
-    build_vector_shapes extract_vectors extract_vectors_with_store extract_vector_shapes_with_store""".split()
+    for name in """core::edge_overlay::InputEdge InputEdge::a InputEdge::b InputEdge::data
+    core::edge_overlay::EdgeOverlay EdgeOverlay::solver EdgeOverlay::options EdgeOverlay::boolean_buffer
+    EdgeOverlay::new EdgeOverlay::add_edge EdgeOverlay::add_edges EdgeOverlay::data_store EdgeOverlay::data_store_mut
+    EdgeOverlay::into_data_store EdgeOverlay::build_vectors EdgeOverlay::build_vector_shapes EdgeOverlay::edges
+    OverlayGraph::extract_vectors OverlayGraph::extract_vectors_with_store
+    OverlayGraph::extract_vector_shapes_with_store""".split()
 }
 
 
-def calls_of_traits(text: str) -> Iterator[str]:
-    """The names of the calls of public traits."""
-    for head in TRAIT.finditer(text):
-        depth, at = 1, head.end()
-        while depth and at < len(text):
-            depth += {"{": 1, "}": -1}.get(text[at], 0)
-            at += 1
-        yield from CALL.findall(text, head.end(), at)
+def body(text: str, at: int) -> str:
+    """What stands in braces, up to the one that ends it."""
+    depth, end = 1, at
+    while depth and end < len(text):
+        depth += {"{": 1, "}": -1}.get(text[end], 0)
+        end += 1
+    return text[at:end]
+
+
+def names_in(module: str, text: str) -> Iterator[str]:
+    """The public names of a module, and of the types that its blocks are of."""
+    text = TESTS.sub("", COMMENT.sub("", text))
+    for found in BLOCK.finditer(text):
+        if " for " not in found[0]:
+            yield from (f"{found[1]}::{name}" for name in CALL.findall(body(text, found.end())))
+    for found in ITEM.finditer(text):
+        kind, name = found.groups()
+        yield f"{module}::{name}"
+        if kind in PARTS and found[0].endswith("{"):
+            yield from (f"{name}::{part}" for part in PARTS[kind].findall(body(text, found.end())))
 
 
 def upstream_names(upstream: Path) -> set[str]:
     """The public names of i_overlay."""
-    texts = [file.read_text() for file in upstream.glob("src--*.rs.txt") if "--tests--" not in file.name]
-    found = {name for text in texts for name in PUBLIC.findall(text)}
-    return found.union(*map(calls_of_traits, texts))
+    found: set[str] = set()
+    for file in upstream.glob("src--*.rs.txt"):
+        module = file.name.removesuffix(".rs.txt").removeprefix("src--").removeprefix("src--").replace("--", "::")
+        if not module.startswith("tests::"):
+            found.update(names_in(module, file.read_text()))
+    return found
 
 
-def own_names() -> set[str]:
-    """The names of the crate."""
-    texts = [file.read_text() for file in CRATE.rglob("*.rs")]
-    return {name for text in texts for pattern in (DECLARED, BY_MACRO) for name in pattern.findall(text)}
+def own_names(pages: Path) -> set[str]:
+    """The public names of the crate."""
+    found: set[str] = set()
+    for page in pages.rglob("*.html"):
+        if kind := PAGE.fullmatch(page.name):
+            found.add("::".join((*page.parent.relative_to(pages).parts, kind[1])))
+            found.update(f"{kind[1]}::{part}" for part in PART.findall(page.read_text()))
+    return found
 
 
 def main() -> int:
     """Compares them."""
-    wanted, own = upstream_names(Path(sys.argv[1])), own_names()
+    wanted, own = upstream_names(Path(sys.argv[1])), own_names(Path(sys.argv[2]))
     missing = wanted - own
     for name in sorted(missing ^ MISSING.keys()):
         print(f"names: {name}: {'not had' if name in missing else 'had, though it is named as missing'}")
