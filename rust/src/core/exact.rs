@@ -3,10 +3,12 @@
 //! A shape is here the closure of its interior, the points off its contours that the fill rule fills. Contours may
 //! cross, overlap and touch. [`relate`](crate::core::relate) tells relations of an arrangement, as `i_overlay` does.
 
+use crate::core::contours::takes_contours;
 use crate::core::fill_rule::FillRule;
 use crate::core::integer::OverlayInt;
 use crate::core::overlay::ShapeType;
-use crate::core::relate::Relations;
+use crate::core::relate::{ask_two, Relations};
+use crate::core::relations::each_relation;
 use crate::engine::paths::Paths;
 use crate::engine::width::Query;
 use crate::error::{answered, OverlayError};
@@ -83,69 +85,6 @@ impl<I: OverlayInt> ExactPredicates<I> {
         predicates
     }
 
-    fn side(&mut self, shape_type: ShapeType) -> &mut Paths<I> {
-        match shape_type {
-            ShapeType::Subject => &mut self.subject,
-            ShapeType::Clip => &mut self.clip,
-        }
-    }
-
-    /// Adds all contours of a resource.
-    ///
-    /// # Errors
-    /// `Memory`; nothing is added then.
-    pub fn try_add_source<R: IntShapeResource<I> + ?Sized>(
-        &mut self,
-        resource: &R,
-        shape_type: ShapeType,
-    ) -> Result<(), OverlayError> {
-        self.side(shape_type).add_source(resource)
-    }
-
-    /// Adds all contours of a resource.
-    ///
-    /// # Panics
-    /// Where [`Self::try_add_source`] is refused.
-    #[track_caller]
-    pub fn add_source<R: IntShapeResource<I> + ?Sized>(&mut self, resource: &R, shape_type: ShapeType) {
-        answered(self.try_add_source(resource, shape_type));
-    }
-
-    /// Replaces the contours.
-    ///
-    /// # Panics
-    /// Where [`Self::try_add_source`] is refused.
-    #[track_caller]
-    pub fn reinit_with_subj_and_clip<R0, R1>(&mut self, subj: &R0, clip: &R1)
-    where
-        R0: IntShapeResource<I> + ?Sized,
-        R1: IntShapeResource<I> + ?Sized,
-    {
-        self.clear();
-        self.add_source(subj, ShapeType::Subject);
-        self.add_source(clip, ShapeType::Clip);
-    }
-
-    /// Adds a contour, point by point, as `Vec::extend` does where memory is refused.
-    pub fn add_path_iter<It: Iterator<Item = IntPoint<I>>>(&mut self, iter: It, shape_type: ShapeType) {
-        self.side(shape_type).add_iter(iter);
-    }
-
-    /// Adds a contour.
-    ///
-    /// # Panics
-    /// Where [`Self::try_add_source`] is refused.
-    #[track_caller]
-    pub fn add_contour(&mut self, contour: &[IntPoint<I>], shape_type: ShapeType) {
-        answered(self.side(shape_type).add(contour));
-    }
-
-    /// Drops all contours.
-    pub fn clear(&mut self) {
-        self.subject.clear();
-        self.clip.clear();
-    }
-
     /// Tells all relations at once, in the time of one.
     ///
     /// # Errors
@@ -164,9 +103,11 @@ impl<I: OverlayInt> ExactPredicates<I> {
     }
 }
 
-/// Declares calls, one for each relation: of a builder, and of two resources.
-macro_rules! exact_relations {
-    ($($(#[$doc:meta])* $name:ident, $exact:ident;)*) => {
+takes_contours!(ExactPredicates);
+
+/// Declares the calls, one for each relation: of a builder, and of two resources.
+macro_rules! relations_of_contours {
+    ($($(#[$doc:meta])* $name:ident, $exact:ident, $bit:literal;)*) => {
         impl<I: OverlayInt> ExactPredicates<I> {$(
             $(#[$doc])*
             ///
@@ -206,7 +147,9 @@ macro_rules! exact_relations {
             /// # Panics
             /// Where [`Self::try_exact_relations`] is refused.
             #[track_caller]
-            fn exact_relations(&self, other: &R) -> Relations;
+            fn exact_relations(&self, other: &R) -> Relations {
+                answered(self.try_exact_relations(other))
+            }
 
             $(
                 $(#[$doc])*
@@ -214,27 +157,7 @@ macro_rules! exact_relations {
                 /// # Panics
                 /// Where [`Self::try_exact_relations`] is refused.
                 #[track_caller]
-                fn $exact(&self, other: &R) -> bool;
-            )*
-        }
-
-        impl<R0, R1, I> IntRelateExact<R1, I> for R0
-        where
-            R0: IntShapeResource<I> + ?Sized,
-            R1: IntShapeResource<I> + ?Sized,
-            I: OverlayInt,
-        {
-            fn try_exact_relations(&self, other: &R1) -> Result<Relations, OverlayError> {
-                let (subject, clip) = (Paths::of(self)?, Paths::of(other)?);
-                I::ask(&Exactly(FillRule::EvenOdd), subject.as_given(), clip.as_given())
-            }
-
-            fn exact_relations(&self, other: &R1) -> Relations {
-                answered(self.try_exact_relations(other))
-            }
-
-            $(
-                fn $exact(&self, other: &R1) -> bool {
+                fn $exact(&self, other: &R) -> bool {
                     self.exact_relations(other).$name()
                 }
             )*
@@ -242,19 +165,15 @@ macro_rules! exact_relations {
     };
 }
 
-exact_relations! {
-    /// Tells whether some point is in both, edges included.
-    intersects, intersects_exact;
-    /// Tells whether some point off the edges is in both.
-    interiors_intersect, interiors_intersect_exact;
-    /// Tells whether they intersect, and their interiors do not.
-    touches, touches_exact;
-    /// Tells whether they meet in single points alone.
-    point_intersects, point_intersects_exact;
-    /// Tells whether the subject, the resource asked, lies within the clip, the other.
-    within, within_exact;
-    /// Tells whether they do not intersect.
-    disjoint, disjoint_exact;
-    /// Tells whether the clip, the other resource, lies within the subject.
-    covers, covers_exact;
+each_relation!(relations_of_contours);
+
+impl<R0, R1, I> IntRelateExact<R1, I> for R0
+where
+    R0: IntShapeResource<I> + ?Sized,
+    R1: IntShapeResource<I> + ?Sized,
+    I: OverlayInt,
+{
+    fn try_exact_relations(&self, other: &R1) -> Result<Relations, OverlayError> {
+        ask_two(&Exactly(FillRule::EvenOdd), self, other)
+    }
 }

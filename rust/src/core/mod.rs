@@ -1,6 +1,7 @@
 //! Overlays, simplifying, relations, and location of points.
 
 pub mod answer;
+pub(crate) mod contours;
 pub mod exact;
 pub mod extract;
 pub mod fill_rule;
@@ -11,6 +12,7 @@ pub mod overlay;
 pub mod overlay_rule;
 pub mod point_location;
 pub mod relate;
+pub(crate) mod relations;
 pub mod simplify;
 pub mod single;
 pub mod solver;

@@ -1,9 +1,12 @@
 //! How two shapes lie to each other.
 
+use crate::core::contours::{takes_contours, takes_contours_by_old_names};
 use crate::core::exact::Exactly;
 use crate::core::fill_rule::FillRule;
 use crate::core::integer::OverlayInt;
 use crate::core::overlay::ShapeType;
+use crate::core::relations::each_relation;
+pub use crate::core::relations::Relations;
 use crate::core::solver::Solver;
 use crate::engine::paths::Paths;
 use crate::engine::width::Query;
@@ -12,48 +15,6 @@ use crate::ffi::{Engine, Given};
 use crate::i_float::int::point::IntPoint;
 use crate::i_shape::int::shape::{IntContour, IntShape};
 use crate::i_shape::source::int::resource::IntShapeResource;
-
-/// All relations of a subject and a clip.
-#[derive(Debug, Clone, Copy, PartialEq, Eq, Hash)]
-pub struct Relations {
-    bits: u32,
-}
-
-impl Relations {
-    /// The relations with these bits.
-    pub(crate) const fn of(bits: u32) -> Self {
-        Self { bits }
-    }
-}
-
-/// Declares what each bit says.
-macro_rules! relations {
-    ($($(#[$doc:meta])* $name:ident, $bit:literal;)*) => {
-        impl Relations {$(
-            $(#[$doc])*
-            pub const fn $name(self) -> bool {
-                self.bits & $bit != 0
-            }
-        )*}
-    };
-}
-
-relations! {
-    /// Some point is in both, edges included.
-    intersects, 1;
-    /// Some point off the edges is in both.
-    interiors_intersect, 2;
-    /// They intersect, and their interiors do not.
-    touches, 4;
-    /// They meet in single points alone.
-    point_intersects, 8;
-    /// The subject lies within the clip.
-    within, 16;
-    /// They do not intersect.
-    disjoint, 32;
-    /// The clip lies within the subject.
-    covers, 64;
-}
 
 struct Related(FillRule, Solver);
 
@@ -128,90 +89,6 @@ impl<I: OverlayInt> PredicateOverlay<I> {
         overlay
     }
 
-    fn side(&mut self, shape_type: ShapeType) -> &mut Paths<I> {
-        match shape_type {
-            ShapeType::Subject => &mut self.subject,
-            ShapeType::Clip => &mut self.clip,
-        }
-    }
-
-    /// Adds all contours of a resource.
-    ///
-    /// # Errors
-    /// `Memory`; nothing is added then.
-    pub fn try_add_source<R: IntShapeResource<I> + ?Sized>(
-        &mut self,
-        resource: &R,
-        shape_type: ShapeType,
-    ) -> Result<(), OverlayError> {
-        self.side(shape_type).add_source(resource)
-    }
-
-    /// Adds all contours of a resource.
-    ///
-    /// # Panics
-    /// Where [`Self::try_add_source`] is refused.
-    #[track_caller]
-    pub fn add_source<R: IntShapeResource<I> + ?Sized>(&mut self, resource: &R, shape_type: ShapeType) {
-        answered(self.try_add_source(resource, shape_type));
-    }
-
-    /// Replaces the contours.
-    ///
-    /// # Panics
-    /// Where [`Self::try_add_source`] is refused.
-    #[track_caller]
-    pub fn reinit_with_subj_and_clip<R0, R1>(&mut self, subj: &R0, clip: &R1)
-    where
-        R0: IntShapeResource<I> + ?Sized,
-        R1: IntShapeResource<I> + ?Sized,
-    {
-        self.clear();
-        self.add_source(subj, ShapeType::Subject);
-        self.add_source(clip, ShapeType::Clip);
-    }
-
-    /// Adds a contour, point by point, as `Vec::extend` does where memory is refused.
-    pub fn add_path_iter<It: Iterator<Item = IntPoint<I>>>(&mut self, iter: It, shape_type: ShapeType) {
-        self.side(shape_type).add_iter(iter);
-    }
-
-    /// Adds a contour.
-    ///
-    /// # Panics
-    /// Where [`Self::try_add_source`] is refused.
-    #[track_caller]
-    pub fn add_contour(&mut self, contour: &[IntPoint<I>], shape_type: ShapeType) {
-        answered(self.side(shape_type).add(contour));
-    }
-
-    /// Adds contours.
-    #[deprecated(note = "Use `add_source` instead.")]
-    #[track_caller]
-    pub fn add_contours(&mut self, contours: &[IntContour<I>], shape_type: ShapeType) {
-        self.add_source(contours, shape_type);
-    }
-
-    /// Adds a shape.
-    #[deprecated(note = "Use `add_source` instead.")]
-    #[track_caller]
-    pub fn add_shape(&mut self, shape: &IntShape<I>, shape_type: ShapeType) {
-        self.add_source(shape, shape_type);
-    }
-
-    /// Adds shapes.
-    #[deprecated(note = "Use `add_source` instead.")]
-    #[track_caller]
-    pub fn add_shapes(&mut self, shapes: &[IntShape<I>], shape_type: ShapeType) {
-        self.add_source(shapes, shape_type);
-    }
-
-    /// Drops all contours.
-    pub fn clear(&mut self) {
-        self.subject.clear();
-        self.clip.clear();
-    }
-
     /// All relations at once. They are those of one arrangement, in which edges are split by the solver: those of
     /// shapes as small as a few units may differ from those of the contours as they are.
     ///
@@ -245,9 +122,24 @@ impl<I: OverlayInt> PredicateOverlay<I> {
     }
 }
 
-/// Declares calls, one for each relation, with its bit.
-macro_rules! predicates {
-    ($($(#[$doc:meta])* $name:ident, $bit:literal;)*) => {
+takes_contours!(PredicateOverlay);
+takes_contours_by_old_names!(PredicateOverlay);
+
+/// Asks of two resources.
+pub(crate) fn ask_two<Q, R0, R1, I>(query: &Q, subject: &R0, clip: &R1) -> Result<Q::Answer, OverlayError>
+where
+    Q: Query,
+    R0: IntShapeResource<I> + ?Sized,
+    R1: IntShapeResource<I> + ?Sized,
+    I: OverlayInt,
+{
+    let (subject, clip) = (Paths::of(subject)?, Paths::of(clip)?);
+    I::ask(query, subject.as_given(), clip.as_given())
+}
+
+/// Declares the calls, one for each relation: of a builder, and of two resources.
+macro_rules! relations_of_arrangements {
+    ($($(#[$doc:meta])* $name:ident, $exact:ident, $bit:literal;)*) => {
         impl<I: OverlayInt> PredicateOverlay<I> {$(
             $(#[$doc])*
             ///
@@ -258,25 +150,7 @@ macro_rules! predicates {
                 answered(self.try_relation($bit, self.fill_rule, self.solver))
             }
         )*}
-    };
-}
 
-predicates! {
-    /// Whether some point is in both, edges included.
-    intersects, 1;
-    /// Whether some point off the edges is in both.
-    interiors_intersect, 2;
-    /// Whether they intersect, and their interiors do not.
-    touches, 4;
-    /// Whether they meet in single points alone.
-    point_intersects, 8;
-    /// Whether the subject lies within the clip.
-    within, 16;
-}
-
-/// Declares the calls of a trait, one for each relation, with its bit.
-macro_rules! relations_of_two {
-    ($($(#[$doc:meta])* $name:ident, $bit:literal;)*) => {
         /// Relations in one call, under the even-odd fill rule.
         ///
         /// ```
@@ -293,7 +167,7 @@ macro_rules! relations_of_two {
             R: IntShapeResource<I> + ?Sized,
             I: OverlayInt,
         {
-            /// All relations at once.
+            /// Tells all relations at once.
             ///
             /// # Errors
             /// As of [`PredicateOverlay::try_relations`].
@@ -328,31 +202,4 @@ macro_rules! relations_of_two {
     };
 }
 
-/// Asks of two resources.
-fn ask_two<Q, R0, R1, I>(query: &Q, subject: &R0, clip: &R1) -> Result<Q::Answer, OverlayError>
-where
-    Q: Query,
-    R0: IntShapeResource<I> + ?Sized,
-    R1: IntShapeResource<I> + ?Sized,
-    I: OverlayInt,
-{
-    let (subject, clip) = (Paths::of(subject)?, Paths::of(clip)?);
-    I::ask(query, subject.as_given(), clip.as_given())
-}
-
-relations_of_two! {
-    /// Whether some point is in both, edges included.
-    intersects, 1;
-    /// Whether some point off the edges is in both.
-    interiors_intersect, 2;
-    /// Whether they intersect, and their interiors do not.
-    touches, 4;
-    /// Whether they meet in single points alone.
-    point_intersects, 8;
-    /// Whether this one lies within the other.
-    within, 16;
-    /// Whether they do not intersect.
-    disjoint, 32;
-    /// Whether the other lies within this one.
-    covers, 64;
-}
+each_relation!(relations_of_arrangements);

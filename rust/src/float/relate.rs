@@ -3,6 +3,7 @@
 use crate::core::fill_rule::FillRule;
 use crate::core::integer::OverlayInt;
 use crate::core::relate::{PredicateOverlay, Relations};
+use crate::core::relations::each_relation;
 use crate::core::solver::Solver;
 use crate::error::{answered, OverlayError};
 use crate::float::grid::Grid;
@@ -11,9 +12,9 @@ use crate::i_float::float::compatible::FloatPointCompatible;
 use crate::i_shape::source::resource::ShapeResource;
 use ::core::marker::PhantomData;
 
-/// Declares the calls, one for each relation, with its bit.
+/// Declares the calls, one for each relation: of a builder, and of two resources.
 macro_rules! relations_of_floats {
-    ($($(#[$doc:meta])* $name:ident, $bit:literal;)*) => {
+    ($($(#[$doc:meta])* $name:ident, $exact:ident, $bit:literal;)*) => {
         /// Relations in one call, under the even-odd fill rule, on the finest grid of 61 bits.
         ///
         /// ```
@@ -97,22 +98,7 @@ macro_rules! relations_of_floats {
     };
 }
 
-relations_of_floats! {
-    /// Whether some point is in both, edges included.
-    intersects, 1;
-    /// Whether some point off the edges is in both.
-    interiors_intersect, 2;
-    /// Whether they intersect, and their interiors do not.
-    touches, 4;
-    /// Whether they meet in single points alone.
-    point_intersects, 8;
-    /// Whether the first one lies within the second one.
-    within, 16;
-    /// Whether they do not intersect.
-    disjoint, 32;
-    /// Whether the second one lies within the first one.
-    covers, 64;
-}
+each_relation!(relations_of_floats);
 
 /// Contours of floats, to be asked how they lie to each other.
 #[derive(Debug, Clone)]

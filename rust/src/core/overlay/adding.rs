@@ -1,6 +1,7 @@
 //! Builders, and what is added to them.
 
 use super::{IntOverlayOptions, Overlay, ShapeType};
+use crate::core::contours::takes_contours;
 use crate::core::extract::BooleanExtractionBuffer;
 use crate::core::integer::OverlayInt;
 use crate::core::solver::Solver;
@@ -83,63 +84,6 @@ impl<I: OverlayInt> Overlay<I> {
         overlay
     }
 
-    fn side(&mut self, shape_type: ShapeType) -> &mut Paths<I> {
-        match shape_type {
-            ShapeType::Subject => &mut self.subject,
-            ShapeType::Clip => &mut self.clip,
-        }
-    }
-
-    /// Adds all contours of a resource.
-    ///
-    /// # Errors
-    /// `Memory`; nothing is added then.
-    pub fn try_add_source<R: IntShapeResource<I> + ?Sized>(
-        &mut self,
-        resource: &R,
-        shape_type: ShapeType,
-    ) -> Result<(), OverlayError> {
-        self.side(shape_type).add_source(resource)
-    }
-
-    /// Adds all contours of a resource.
-    ///
-    /// # Panics
-    /// Where [`Self::try_add_source`] is refused.
-    #[track_caller]
-    pub fn add_source<R: IntShapeResource<I> + ?Sized>(&mut self, resource: &R, shape_type: ShapeType) {
-        answered(self.try_add_source(resource, shape_type));
-    }
-
-    /// Adds a contour, point by point, as `Vec::extend` does where memory is refused.
-    pub fn add_path_iter<It: Iterator<Item = IntPoint<I>>>(&mut self, iter: It, shape_type: ShapeType) {
-        self.side(shape_type).add_iter(iter);
-    }
-
-    /// Adds a contour.
-    ///
-    /// # Panics
-    /// Where [`Self::try_add_source`] is refused.
-    #[track_caller]
-    pub fn add_contour(&mut self, contour: &[IntPoint<I>], shape_type: ShapeType) {
-        answered(self.side(shape_type).add(contour));
-    }
-
-    /// Replaces the contours.
-    ///
-    /// # Panics
-    /// Where [`Self::try_add_source`] is refused.
-    #[track_caller]
-    pub fn reinit_with_subj_and_clip<R0, R1>(&mut self, subj: &R0, clip: &R1)
-    where
-        R0: IntShapeResource<I> + ?Sized,
-        R1: IntShapeResource<I> + ?Sized,
-    {
-        self.clear();
-        self.add_source(subj, ShapeType::Subject);
-        self.add_source(clip, ShapeType::Clip);
-    }
-
     /// Replaces the contours by those of a subject.
     ///
     /// # Panics
@@ -149,10 +93,6 @@ impl<I: OverlayInt> Overlay<I> {
         self.clear();
         self.add_source(subj, ShapeType::Subject);
     }
-
-    /// Drops all contours.
-    pub fn clear(&mut self) {
-        self.subject.clear();
-        self.clip.clear();
-    }
 }
+
+takes_contours!(Overlay);

@@ -1,6 +1,7 @@
 //! Calls of `i_overlay` that have another name now.
 
 use super::{IntOverlayOptions, Overlay, ShapeType};
+use crate::core::contours::takes_contours_by_old_names;
 use crate::core::integer::OverlayInt;
 use crate::core::solver::Solver;
 use crate::i_float::int::point::IntPoint;
@@ -66,27 +67,6 @@ impl<I: OverlayInt> Overlay<I> {
         Self::from_subj_and_clip_custom(subj, clip, options, solver)
     }
 
-    /// Adds contours.
-    #[deprecated(note = "Use `add_source` instead.")]
-    #[track_caller]
-    pub fn add_contours(&mut self, contours: &[IntContour<I>], shape_type: ShapeType) {
-        self.add_source(contours, shape_type);
-    }
-
-    /// Adds a shape.
-    #[deprecated(note = "Use `add_source` instead.")]
-    #[track_caller]
-    pub fn add_shape(&mut self, shape: &IntShape<I>, shape_type: ShapeType) {
-        self.add_source(shape, shape_type);
-    }
-
-    /// Adds shapes.
-    #[deprecated(note = "Use `add_source` instead.")]
-    #[track_caller]
-    pub fn add_shapes(&mut self, shapes: &[IntShape<I>], shape_type: ShapeType) {
-        self.add_source(shapes, shape_type);
-    }
-
     /// Adds the contours of a buffer.
     #[deprecated(note = "Use `add_source` instead.")]
     #[track_caller]
@@ -94,3 +74,5 @@ impl<I: OverlayInt> Overlay<I> {
         self.add_source(buffer, shape_type);
     }
 }
+
+takes_contours_by_old_names!(Overlay);
