@@ -2,6 +2,7 @@
 //! options as numbers, and a line for each of two lists of paths, as `x,y x,y;x,y`.
 #![allow(missing_docs, clippy::unwrap_used, clippy::indexing_slicing, clippy::panic)]
 
+use polyover::core::exact::ExactPredicates;
 use polyover::core::fill_rule::FillRule;
 use polyover::core::overlay::{ContourDirection, IntOverlayOptions, Overlay};
 use polyover::core::overlay_rule::OverlayRule;
@@ -132,6 +133,10 @@ fn answer(it: &Request) -> Result<String, OverlayError> {
         }),
         "relate" => {
             let relate = PredicateOverlay::from_subj_and_clip_custom(one, other, fill, solver);
+            relations(relate.try_relations()?)
+        }
+        "exact" => {
+            let relate = ExactPredicates::from_subj_and_clip_custom(one, other, fill);
             relations(relate.try_relations()?)
         }
         "clip" => all(&strings.try_clip(fill, it.clip_rule, solver)?, |it| all(it, point)),

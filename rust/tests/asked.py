@@ -23,7 +23,7 @@ from polyover import by_library  # noqa: E402
 from polyover.text import FILLS, RULES, SOLVERS  # noqa: E402
 
 # the calls that the example answers
-CALLS = ("overlay", "hierarchy", "simplify", "relate", "clip", "slice", "locate", "edges", "prepare")
+CALLS = ("overlay", "hierarchy", "simplify", "relate", "exact", "clip", "slice", "locate", "edges", "prepare")
 
 
 def paths(given: Any) -> str:
@@ -55,11 +55,13 @@ def told(value: Any) -> str:
 
 
 def answer(call: str, given: list[Any], options: dict[str, Any]) -> str:
-    """What the library for C answers, or why it is refused. (Relations are those of the arrangement.)"""
+    """What the library for C answers, or why it is refused: of `relate` relations of the arrangement, of `exact` those
+    of the contours as they are."""
     try:
         if call == "relate":
-            found = by_library.relate(given[0], given[1], options["fill"], "snapped")
-            return told(list(found.values()))
+            return told(list(by_library.relate(*given, options["fill"], "snapped").values()))
+        if call == "exact":
+            return told(list(by_library.relate_exact(*given, options["fill"]).values()))
         return told(made.answer_of(call, given, options))
     except polyover.PolyoverError as error:
         return type(error).__name__
@@ -74,6 +76,8 @@ def main() -> int:
     asked: list[tuple[str, str]] = []
     while len(asked) < count:
         call, given, options, _ = made.made(random)
+        if call == "relate":
+            call = random.choice(("relate", "exact"))
         if call in CALLS:
             asked.append((request(call, given, options), answer(call, given, options)))
     text = "".join(it for it, _ in asked)
