@@ -34,6 +34,7 @@ pub mod float;
 pub mod i_float;
 pub mod i_shape;
 pub mod prepared;
+pub mod segm;
 pub mod string;
 pub mod vector;
 

@@ -58,8 +58,13 @@ fn vectors_tell_filled_sides() {
         view.extract_vector_shapes(OverlayRule::Intersect, &mut Default::default()),
         shapes
     );
+    let again = view.extract_vector_shapes_with_store(OverlayRule::Intersect, &mut Default::default(), &mut ());
+    assert_eq!(again, shapes);
     // (each square has 4 edges, two of which are cut once)
     assert_eq!(view.edges().len(), 12);
+    assert_eq!(view.extract_separate_vectors(), view.edges());
+    assert_eq!(view.extract_vectors(), view.edges());
+    assert_eq!(view.extract_vectors_with_store(&mut ()), view.edges());
 }
 
 #[test]

@@ -32,9 +32,8 @@ MISSING = {
     for name in """core::edge_overlay::InputEdge InputEdge::a InputEdge::b InputEdge::data
     core::edge_overlay::EdgeOverlay EdgeOverlay::solver EdgeOverlay::options EdgeOverlay::boolean_buffer
     EdgeOverlay::new EdgeOverlay::add_edge EdgeOverlay::add_edges EdgeOverlay::data_store EdgeOverlay::data_store_mut
-    EdgeOverlay::into_data_store EdgeOverlay::build_vectors EdgeOverlay::build_vector_shapes EdgeOverlay::edges
-    OverlayGraph::extract_vectors OverlayGraph::extract_vectors_with_store
-    OverlayGraph::extract_vector_shapes_with_store""".split()
+    EdgeOverlay::into_data_store EdgeOverlay::build_vectors EdgeOverlay::build_vector_shapes
+    EdgeOverlay::edges""".split()
 }
 
 

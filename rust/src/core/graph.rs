@@ -130,6 +130,16 @@ impl<'a, I: OverlayInt> OverlayGraph<'a, I> {
         self.edges.clone()
     }
 
+    /// The edges of the arrangement with their data, of which those of a view have none.
+    pub fn extract_vectors(&self) -> Vec<DataVectorEdge<I>> {
+        self.edges.clone()
+    }
+
+    /// The edges of the arrangement, as [`Self::extract_vectors`] gives them.
+    pub fn extract_vectors_with_store(&self, _store: &mut ()) -> Vec<DataVectorEdge<I>> {
+        self.edges.clone()
+    }
+
     /// The shapes of an overlay, as edges with their filled sides.
     ///
     /// # Errors
@@ -139,7 +149,7 @@ impl<'a, I: OverlayInt> OverlayGraph<'a, I> {
         let is_joined = !options.keeps_points;
         options.keeps_points = true;
         options.may_touch = true;
-        shapes_by(&self.shapes_with(rule, &options)?, &self.edges, is_joined)
+        shapes_by(&self.shapes_with(rule, &options)?, &self.edges, is_joined, &mut ())
     }
 
     /// The shapes of an overlay, as edges with their filled sides.
@@ -153,5 +163,19 @@ impl<'a, I: OverlayInt> OverlayGraph<'a, I> {
         _buffer: &mut BooleanExtractionBuffer<I>,
     ) -> Vec<VectorShape<I>> {
         answered(self.try_extract_vector_shapes(rule))
+    }
+
+    /// The shapes of an overlay, as [`Self::extract_vector_shapes`] gives them.
+    ///
+    /// # Panics
+    /// Where [`Self::try_extract_vector_shapes`] is refused.
+    #[track_caller]
+    pub fn extract_vector_shapes_with_store(
+        &self,
+        rule: OverlayRule,
+        buffer: &mut BooleanExtractionBuffer<I>,
+        _store: &mut (),
+    ) -> Vec<VectorShape<I>> {
+        self.extract_vector_shapes(rule, buffer)
     }
 }
