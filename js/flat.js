@@ -1,6 +1,7 @@
 /** Contours, paths and shapes in typed arrays. */
 
 import { BadInput } from "./errors.js";
+import { shown } from "./shown.js";
 
 const NUMBERS = [BigInt64Array, Int32Array, Float64Array];
 const COUNTS = [Uint32Array, BigUint64Array, BigInt64Array, Int32Array];
@@ -31,9 +32,9 @@ function ends32(what, ends) {
     return ends;
   }
   return Uint32Array.from(ends, (end) => {
-    const number = Number(end);
+    const number = typeof end === "bigint" ? Number(end) : end;
     if (!Number.isInteger(number) || number < 0 || number >= 2 ** 32) {
-      throw new BadInput(`${what}: ${end} is no count`);
+      throw new BadInput(`${what}: ${shown(end)} is no count`);
     }
     return number;
   });

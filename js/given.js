@@ -42,7 +42,7 @@ const RELATING = { ...OPTIONS, solver: ["exact", placeIn([...SOLVERS, "exact"], 
 /** The options of a call, each of which has one of these names, with the defaults of those not given. */
 export function chosen(options, names, grid, table = OPTIONS) {
   checkNames(options, names);
-  const values = names.map((name) => [name, options[name] ?? table[name][0]]);
+  const values = names.map((name) => [name, options[name] === undefined ? table[name][0] : options[name]]);
   return Object.fromEntries(values.map(([name, value]) => [name, table[name][1](value, grid)]));
 }
 

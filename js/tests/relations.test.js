@@ -103,7 +103,7 @@ test("a solver asks for relations of the arrangement", () => {
     assert.deepEqual(held(polyover.relate(...both, { solver })), ["disjoint"]);
     assert.deepEqual(held(polyover.relate(...both)), OVERLAPS);
   }
-  for (const solver of [undefined, null, "exact"]) {
+  for (const solver of [undefined, "exact"]) {
     assert.deepEqual(held(polyover.relate([BOW], [OTHER_BOW], { fill: "evenodd", solver })), [
       ...TOUCHES,
       "pointIntersects",

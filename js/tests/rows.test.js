@@ -131,6 +131,8 @@ test("tiles", () => {
   // (no line of a cell that is wider than the range crosses the square)
   assert.equal(polyover.tiles(narrow, 2 ** 40, 2n ** 70n).length, 1);
   assert.equal(polyover.scaled(10).tiles([[[0, 0], [0.4, 0], [0.4, 0.4], [0, 0.4]]], 0.2, 0.4).length, 2);
+  // (of 2.5 by 3.5 units, which are taken as 2 by 4: even ones, as coordinates are)
+  assert.equal(polyover.scaled(2).tiles([square], 1.25, 1.75).length, 8);
   assert.deepEqual(polyover.tiles([], 1, 1), []);
 });
 

@@ -75,6 +75,9 @@ test("arrays that are out of range, or do not fit", () => {
   refused(() => new Flat(new Float64Array(4), [2, 1]), "1 is below the one before it");
   refused(() => new Flat(new Float64Array(2), [-1]), "-1 is no count");
   refused(() => new Flat(new Float64Array(2), [0.5]), "0.5 is no count");
+  for (const end of [null, "1", true, [1]]) {
+    refused(() => new Flat(new Float64Array(2), [end]), "is no count");
+  }
   refused(() => new Flat(new Float64Array(2), 1), "ends: no list");
   refused(() => new FlatShapes(new Flat(new Float64Array(2), [1]), [2]), "they rise to 2, and there are 1 contours");
 });
@@ -85,6 +88,9 @@ test("values are told as a program has them", () => {
   refused(() => polyover.overlay([[[1n, -Infinity, 3]]]), "point 1: [1n,-Infinity,3] is no point");
   refused(() => polyover.overlay({ ...BOX, coordinates: [[[0, NaN]]] }), "ring 1, point 1: [0,NaN] is no point");
   refused(() => polyover.overlay([], [], { rule: NaN }), "unknown rule NaN");
+  refused(() => polyover.overlay([], [], { rule: null }), "unknown rule null");
+  refused(() => polyover.relate([], [], { solver: null }), "unknown solver null");
+  refused(() => polyover.simplify([], { touching: null }), "touching: null is neither true nor false");
   refused(() => polyover.overlay([], [], { minimumArea: NaN }), "the minimum area NaN is no whole number");
   refused(() => polyover.scaled(NaN), "the scale NaN is no finite number");
   refused(() => polyover.scaled(1, [NaN, 1]), "the origin [NaN,1] is no point");
@@ -103,6 +109,7 @@ test("cells that do not fit", () => {
     refused(() => polyover.tiles([SQUARE], 1, side), "is no whole number");
   }
   refused(() => polyover.scaled(10).tiles([SQUARE], 0.04, 1), "width: 0.04 at this scale is not at least 1");
+  refused(() => polyover.scaled(1).tiles([SQUARE], 0.5, 1), "width: 0.5 at this scale is not at least 1");
   refused(() => polyover.scaled(10).tiles([SQUARE], Infinity, 1), "width: Infinity is no finite number");
   const long = [[[0, 0], [1002, 0], [0, 1]]];
   refused(() => polyover.tiles(long, 1, 1), "cells of 1 by 1 do not fit: more than 1,000 lines in a direction");
