@@ -164,9 +164,13 @@ def whole_node(contour: Row) -> Node:
 
 
 def packed(nodes: Sequence[Node]) -> list[Node]:
-    """Nodes in an order in which those that are near one another stand together: by stripes of x, and there by y."""
+    """Nodes in an order in which those that are near one another stand together: by stripes of x, and there by y. A
+    stripe has as many as fill whole groups, and groups of these, so that none has nodes of two stripes."""
     across = sorted(nodes, key=lambda node: node.left + node.right)
-    count = max(1, ceil(len(nodes) / max(1, round(sqrt(len(nodes) / GROUP)))))
+    wanted, whole = sqrt(len(nodes) * GROUP), GROUP
+    while whole * GROUP <= wanted:
+        whole *= GROUP
+    count = whole * max(1, round(wanted / whole))
     stripes = [across[at : at + count] for at in range(0, len(nodes), count)]
     return [node for each in stripes for node in sorted(each, key=lambda node: node.low + node.high)]
 
