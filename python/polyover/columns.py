@@ -41,18 +41,40 @@ def floats_of(numpy: Any, points: Sequence[Any]) -> Any:
     return numpy.frombuffer(array("d", numbers), numpy.float64).reshape(-1, 2)
 
 
-def whole_column(numpy: Any, axis: Any, values: Any, given: Sequence[Any]) -> list[int]:
-    """The whole numbers of a column; of those that are near a half or large one by one, as they were given."""
+def nearest_of(numpy: Any, axis: Any, values: Any) -> tuple[Any, Any]:
+    """The whole numbers of a column, and of which of them floats tell them surely: not of those near a half or large,
+    in the place of which there are zeros."""
     start, scale = axis.floats
     with numpy.errstate(all="ignore"):
         found = (values - start) * scale
         nearest = numpy.rint(found)
         lost = (numpy.abs(values) + abs(start)) * scale * ERROR + LEAST
         is_sure = (numpy.abs(found) < EXACT) & (numpy.abs(found - nearest) + lost < 0.5)
-        whole = numpy.where(is_sure, nearest, 0).astype(numpy.int64).tolist()
+        return numpy.where(is_sure, nearest, 0).astype(numpy.int64), is_sure
+
+
+def whole_column(numpy: Any, axis: Any, values: Any, given: Sequence[Any]) -> list[int]:
+    """The whole numbers of a column; of those that are near a half or large one by one, as they were given."""
+    found, is_sure = nearest_of(numpy, axis, values)
+    whole = found.tolist()
     for at in numpy.nonzero(~is_sure)[0].tolist():
         whole[at] = axis.whole(given[at])
     return whole  # type: ignore[no-any-return]
+
+
+def whole_columns(axes: Sequence[Any], numbers: Sequence[float]) -> Any:
+    """The whole coordinates of points in a row of NumPy's, where it pays, the axes are one, and floats tell all of them
+    surely."""
+    across, up = axes
+    numpy = numpy_for(len(numbers) // 2)
+    if numpy is None or across is not up or across.floats is None:
+        return None
+    try:
+        found, is_sure = nearest_of(numpy, across, numpy.array(numbers, numpy.float64))
+    except OverflowError:
+        # (a whole number that is too large for a float)
+        return None
+    return found if is_sure.all() else None
 
 
 def plain_row(points: Sequence[Any]) -> list[Any] | None:

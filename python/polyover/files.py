@@ -7,7 +7,7 @@ import sys
 from contextlib import contextmanager
 from typing import Any, Callable, Iterable, Iterator, Sequence
 
-from . import tables, wkb, wkt
+from . import many, tables, wkb, wkt
 from .antimeridian import watch_over
 from .content import Content, File
 from .errors import BadInput
@@ -176,10 +176,10 @@ def content_of(name: str, form: Format) -> Content:
 # ---- features
 
 
-def features_of(reader: Reader, things: Iterable[tuple[int, Any]], name: str, tells_nulls: bool) -> Iterator[Feature]:
-    """The features of a file as they come. Faults name the file."""
+def features_of(features: Iterable[Feature], reader: Reader, name: str, tells_nulls: bool) -> Iterator[Feature]:
+    """The features that a reader has of a file, as they come. Faults name the file."""
     with naming(name):
-        for each in reader.features(things):
+        for each in features:
             if each.is_null and tells_nulls:
                 reader.told.add(LEFT_OUT, each.place)
             yield each
@@ -200,8 +200,10 @@ def read(name: str, kinds: Sequence[str], given: Any, tells_nulls: bool = True, 
     with naming(name):
         content = content_of(name, form)
     watch = watch_over(given, kinds, content.system, told)
-    read_one_by_one = features_of(Reader(kinds, given.skip_invalid, told), content.things, name, tells_nulls)
-    features: Iterable[Feature] = watched(read_one_by_one, watch, told)
+    reader = Reader(kinds, given.skip_invalid, told)
+    # (what is a fault in a later line of a sequence is told behind what is one in an earlier line)
+    found_in = many.features(reader, content.things) if form is GEOJSON else reader.features(content.things)
+    features: Iterable[Feature] = watched(features_of(found_in, reader, name, tells_nulls), watch, told)
     count = 0
     if not is_streamed or form not in SEQUENCES:
         features = list(features)

@@ -212,6 +212,10 @@ class Reader:
         geometry was of the wanted kinds, but some were of others."""
         for number, (line, thing) in enumerate(things, 1):
             yield self.feature(Place(number, line=line), thing)
+        self.check_kinds()
+
+    def check_kinds(self) -> None:
+        """That a geometry was of the wanted kinds, where some were of others."""
         if self.passed_over and not self.finds_any:
             raise BadInput(self.passed_over)
 

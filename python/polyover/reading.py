@@ -6,7 +6,8 @@ from dataclasses import dataclass
 from itertools import accumulate, chain, islice
 from typing import Any, Callable, Iterable, Sequence
 
-from .columns import row_of_numbers
+from .calls import is_resolved
+from .columns import row_of_numbers, whole_columns
 from .contour import Row, WholePath, directed_rings, extent_of, points_in, row_of
 from .errors import BadInput
 from .flat import parted
@@ -15,6 +16,7 @@ from .numbers import over_one_bottom
 from .polygons import Contour, Ring, are_resolved_rows, contours_of_each, has_bad_holes
 from .text import LIMIT
 from .told import Told, counted
+from .turning import directed_all
 
 COLLAPSED = counted("# [line collapses to a point, and is|lines collapse to points, and are] left out")
 Whole = Callable[[Sequence[Any]], WholePath]
@@ -69,20 +71,37 @@ class Polygons:
     def plain_rows(self, scaled: Any) -> list[list[Row]] | None:
         """The same of polygons of plain rings, where those that are not simple, or have holes that overlap or lie
         outside, are read by themselves; none where plain rings cross themselves, or are out of range."""
-        if not all(type(part) is PlainPolygon for part in self.parts):
+        if not set(map(type, self.parts)) <= {PlainPolygon}:
             return None
-        rows = [row for part in self.parts for row in part.rows]  # type: ignore[attr-defined]
-        whole = row_of_numbers(scaled.axes, list(chain.from_iterable(rows)))
-        if whole is None or whole and max(max(whole), -min(whole)) > LIMIT:
-            return None
-        wholes = iter(parted(whole, list(accumulate(map(len, rows)))))
-        found = [directed_rings(list(islice(wholes, part.count))) for part in self.parts]
-        if not are_resolved_rows([row for its in found for row in its]):
+        polygons = [part.rows for part in self.parts]  # type: ignore[attr-defined]
+        found = directed_polygons(scaled.axes, polygons)
+        if found is None:
             return None
         found = [[] if len(its) > 1 and has_bad_holes(its) else its for its in found]
         others = Polygons([part for part, its in zip(self.parts, found) if not its], self.source, False, self.told)
         rest = iter(others.contours_of_each(scaled.whole_path) if others.parts else ())
         return [its or [row_of(whole) for whole, _ in next(rest)] for its in found]
+
+
+def directed_polygons(axes: Sequence[Any], polygons: Sequence[list[Row]]) -> list[list[Row]] | None:
+    """The rings of polygons by whole coordinates, in their directions. There is nothing of a polygon with a ring that
+    visits a point twice, or has no area, and None of all where rings cross themselves, or are out of range."""
+    rows = list(chain.from_iterable(polygons))
+    numbers, counts, sizes = list(chain.from_iterable(rows)), list(map(len, rows)), list(map(len, polygons))
+    columns = whole_columns(axes, numbers)
+    directed = None if columns is None else directed_all(columns, [count // 2 for count in counts], sizes)
+    if directed is not None:
+        flat, is_kept = directed
+        if not is_resolved(flat):
+            return None
+        taken = iter(parted(flat.numbers.tolist(), [2 * end for end in flat.counts.tolist()]))
+        return [list(islice(taken, size)) if kept else [] for kept, size in zip(is_kept, sizes)]
+    whole = row_of_numbers(axes, numbers)
+    if whole is None or whole and max(max(whole), -min(whole)) > LIMIT:
+        return None
+    wholes = iter(parted(whole, list(accumulate(counts))))
+    found = [directed_rings(list(islice(wholes, size))) for size in sizes]
+    return found if are_resolved_rows([row for its in found for row in its]) else None
 
 
 @dataclass
