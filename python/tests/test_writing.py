@@ -67,6 +67,15 @@ class Written(unittest.TestCase):
         self.check({"type": "Feature", "properties": None, "id": "null}}", "x": {"y": None},
                     "geometry": {"type": "MultiPolygon", "coordinates": [[ring], [ring[::-1]]]}})
 
+    def test_many_with_such_members_as_geometries_have(self):
+        ring = [(0.5, 0.0), (1.0, 0.0), (0.0, 1.0), (0.5, 0.0)]
+        plain = [feature("MultiPolygon", [[ring]], at=at) for at in range(writing.AT_ONCE + 3)]
+        self.check(*plain)
+        null = {"type": "Feature", "properties": None, "geometry": None}
+        text = feature("MultiLineString", [ring], text='"coordinates": null}}')
+        for other in (feature("MultiPolygon", [], a={"b": {"coordinates": None}}), text, null):
+            self.check(*plain[:3], other, *plain[3:])
+
 
 if __name__ == "__main__":
     unittest.main()
