@@ -114,6 +114,13 @@ fn fixed_scales_are_tested() {
         Err(OverlayError::OutOfRange)
     );
     assert_eq!(fixed.overlay(UNION, NON_ZERO).len(), 1);
+    // (1.5 squared steps are as near to 1 as to 2, and the triangle has just that area)
+    let triangle = [[0.0, 0.0], [3.0, 0.0], [0.0, 1.0]];
+    let mut least = FloatOverlay::with_subj_and_clip_fixed_scale(&triangle, &triangle, 1.0).unwrap();
+    for (area, left) in [(1.5, 1), (1.75, 0)] {
+        least.options.min_output_area = area;
+        assert_eq!(least.overlay(UNION, NON_ZERO).len(), left, "{area}");
+    }
 }
 
 #[test]

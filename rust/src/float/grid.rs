@@ -79,10 +79,13 @@ fn float_of(whole: i64) -> f64 {
     whole as f64
 }
 
-/// The whole number nearest to an area, which is not negative, or the greatest one.
-#[allow(clippy::as_conversions)]
+/// The whole number nearest to an area, which is not negative, or the greatest one; of two the smaller, so that a
+/// contour of just this area, which counts rounded down, stays.
+#[allow(clippy::as_conversions, clippy::float_cmp)]
 fn area_of(value: f64) -> u128 {
-    nearest(value) as u128
+    let near = nearest(value);
+    let smaller = if near - value == 0.5 { near - 1.0 } else { near };
+    smaller as u128
 }
 
 impl<I: OverlayInt> Grid<I> {
@@ -220,7 +223,7 @@ impl<I: OverlayInt> Grid<I> {
         Ok(shapes)
     }
 
-    /// An area in squared steps, to the nearest whole number; one below 0 is taken as 0.
+    /// An area in squared steps, to the nearest whole number, of two the smaller; one below 0 is taken as 0.
     pub(crate) fn squared_steps<T: FloatNumber>(&self, area: T) -> Result<I::WideUInt, OverlayError> {
         use crate::i_float::int::number::uint::UIntNumber;
         let area = area.to_f64();
