@@ -77,16 +77,27 @@ def number_in(word: str) -> Fraction:
     """A number that is not below 0. (One with an exponent of many digits would take all memory.)"""
     if len(word) > 100 or LONG_EXPONENT.search(word):
         raise ValueError
-    number = Fraction(word)
+    try:
+        number = Fraction(word)
+    except ZeroDivisionError:
+        raise ValueError from None
     if number < 0:
         raise ValueError
     return number
+
+
+def file_in(word: str) -> str:
+    """The name of a file. (An empty one, as of a variable that is not set, would stand for standard output.)"""
+    if not word:
+        raise ValueError
+    return word
 
 
 width_in.__name__ = f"width, which is from {LEAST_WIDTH} to 100000,"
 digits_in.__name__ = "count of digits, which is from -300 to 300,"
 port_in.__name__ = "port, which is from 0 to 65535,"
 number_in.__name__ = "number from 0 on"
+file_in.__name__ = "name of a file, which has a letter at least,"
 
 
 def add_files(command: argparse.ArgumentParser, name: str) -> None:
@@ -119,9 +130,10 @@ def add_files(command: argparse.ArgumentParser, name: str) -> None:
 def add_answers(command: argparse.ArgumentParser, name: str) -> None:
     """The words for what a command leaves."""
     what = "picture" if name == "svg" else "answer"
-    command.add_argument("--out", metavar="FILE", help=f"where the {what} goes, if not to standard output")
+    goes = f"where the {what} goes, if not to standard output"
+    command.add_argument("--out", type=file_in, metavar="FILE", help=goes)
     if name not in ("relate", "svg"):
-        command.add_argument("--svg", metavar="FILE", help="where a picture goes")
+        command.add_argument("--svg", type=file_in, metavar="FILE", help="where a picture goes")
         drops = "leave out, and count, what the format of the answer does not hold, as properties of WKT"
         command.add_argument("--drop", action="store_true", help=drops)
     quiets = "no bar or line of work that takes long"
@@ -174,7 +186,8 @@ def add_play(commands: Any) -> None:
     """The command for the page, and its words."""
     about = {"help": run_play.__doc__, "description": f"{run_play.__doc__}."}
     command = commands.add_parser("play", **about)
-    command.add_argument("--out", metavar="FILE", help="where the page goes, in one file that needs no server")
+    goes = "where the page goes, in one file that needs no server"
+    command.add_argument("--out", type=file_in, metavar="FILE", help=goes)
     port = "where it is served; 0 for any port that is free (0)"
     command.add_argument("--port", type=port_in, default=0, metavar="N", help=port)
     command.set_defaults(run=run_play)
