@@ -73,12 +73,16 @@ function addFigure(figures, /** @type {string[]} */ words, /** @type {string} */
 /** Takes the words of the options of a command. */
 function takeOptions(asked, /** @type {string[]} */ words, /** @type {string} */ where) {
   const names = { ogc: "valid", clockwise: "clockwise", keep: "keep", invert: "invert", boundary: "boundary" };
+  const seen = new Set();
   while (words.length) {
     const word = /** @type {string} */ (words.shift());
     const name = word === "min" ? "minimumArea" : names[word];
     if (!Object.hasOwn(names, word) && word !== "min") throw new BadText(`${where}: ${word} is no option`);
     if (!COMMANDS[asked.command].options.includes(name)) throw new BadText(`${where}: ${word} is no option here`);
+    if (seen.has(word)) throw new BadText(`${where}: ${word} comes twice`);
+    seen.add(word);
     asked[name] = word === "min" ? numbersIn([words.shift() ?? ""], where)[0] : true;
+    if (asked[name] < 0) throw new BadText(`${where}: min takes a whole number from 0 on`);
   }
 }
 

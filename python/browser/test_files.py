@@ -179,6 +179,9 @@ class Files(unittest.TestCase):
         for name, text, said in (
             ("bad.txt", "subject 1 2 3\nrun edges NonZero\n", "line 1: an odd count of numbers"),
             ("bad.txt", "run fly\n", "line 1: fly is no command here"),
+            ("bad.txt", "run overlay Union NonZero ogc min 1 ogc\n", "line 1: ogc comes twice"),
+            ("bad.txt", "run overlay Union NonZero min 1 min 2\n", "line 1: min comes twice"),
+            ("bad.txt", "run overlay Union NonZero min -1\n", "line 1: min takes a whole number from 0 on"),
             ("bad.txt", "subject 1 9999999999999999999\n", "line 1: 9999999999999999999 is beyond"),
             ("bad.geojson", "{", "no JSON"),
             ("bad.geojson", '{"type": "Circle"}', 'feature 1: "Circle" is no geometry'),
