@@ -273,7 +273,7 @@ class Polygons(unittest.TestCase):
             self.assertIn(fault, said.getvalue())
 
     def test_help(self):
-        for words in (["--help"], ["--version"], ["overlay", "--help"], ["svg", "--help"]):
+        for words in (["--help"], ["--version"], ["overlay", "--help"], ["svg", "--help"], ["run", "--help"]):
             said = io.StringIO()
             with contextlib.redirect_stdout(said), self.assertRaises(SystemExit) as ended:
                 main(words)
