@@ -4,13 +4,19 @@ digits, so its text is that of the nearest float with as many, and all else of m
 from __future__ import annotations
 
 import json
+import warnings
 from itertools import chain, islice
 from math import isfinite
 from typing import Any, Iterable, Sequence
 
-from .errors import BadInput
+from .errors import BadInput, PolyoverWarning
 from .geojson import collection
 
+# (up to which number decimals of few digits are written, and floats are whole units exactly)
+Limits = tuple[float, float]
+# (floats hold all whole numbers up to this one)
+WHOLE = 2.0**53
+ROUNDED = "coordinates of the answer over 2^53 units of the last digit from 0 are given as the nearest floats"
 # (decimals of this many digits are texts of different floats, and Python makes them soonest)
 DIGITS = 14
 POINT = f"[{{:.{DIGITS}}}, {{:.{DIGITS}}}], "
@@ -99,27 +105,31 @@ def parted(feature: dict[str, Any], digits: int) -> tuple[dict[str, Any], str]:
     if not write:
         return feature, ""
     # (from a greater number on there are more digits, or an exponent)
-    limit = 10.0 ** (DIGITS - max(1, digits))
+    limits = 10.0 ** (DIGITS - max(1, digits)), WHOLE / 10.0**digits
     head = {**feature, "geometry": {"type": geometry["type"], "coordinates": None}}
-    return head, write(geometry["coordinates"], limit)
+    return head, write(geometry["coordinates"], limits)
 
 
-def path_text(path: Sequence[Any], limit: float) -> str:
-    """The text of points of floats; by `json` where one is not below the limit."""
+def path_text(path: Sequence[Any], limits: Limits) -> str:
+    """The text of points of floats; by `json` where one is not below the first limit. Says where one is above the
+    second: more than one whole number of units has that float."""
     numbers = list(chain.from_iterable(path))
-    if not -limit < min(numbers) <= max(numbers) < limit:
+    least, most = min(numbers), max(numbers)
+    if not -limits[0] < least <= most < limits[0]:
+        if max(-least, most) > limits[1]:
+            warnings.warn(ROUNDED, PolyoverWarning, stacklevel=2)
         return json.dumps(path)
     return f"[{(POINT * len(path))[:-2]}]".format(*numbers)
 
 
-def lines_text(paths: Sequence[Any], limit: float) -> str:
+def lines_text(paths: Sequence[Any], limits: Limits) -> str:
     """The text of some paths."""
-    return f"[{', '.join([path_text(path, limit) for path in paths])}]"
+    return f"[{', '.join([path_text(path, limits) for path in paths])}]"
 
 
-def polygons_text(shapes: Sequence[Any], limit: float) -> str:
+def polygons_text(shapes: Sequence[Any], limits: Limits) -> str:
     """The text of some shapes."""
-    return f"[{', '.join([lines_text(shape, limit) for shape in shapes])}]"
+    return f"[{', '.join([lines_text(shape, limits) for shape in shapes])}]"
 
 
 WRITERS = {"MultiLineString": lines_text, "MultiPolygon": polygons_text}

@@ -4,6 +4,7 @@ import json
 import unittest
 
 from polyover.antimeridian import unrolled
+from polyover.writing import ROUNDED
 
 from .features import collection, feature, in_folder, ran, square, told
 
@@ -78,11 +79,11 @@ class Told(unittest.TestCase):
 class Cut(unittest.TestCase):
     """What --antimeridian cut does."""
 
-    def cut(self, *rings, command="simplify", others=(), kind="Polygon", words=()):
-        """What a command leaves of a polygon that is cut."""
+    def cut(self, *rings, command="simplify", others=(), kind="Polygon", words=(), says=""):
+        """What a command leaves of a polygon that is cut, which says no more than what it is to tell."""
         given = collection(feature(kind, list(rings)))
         status, left, said, _ = ran(command, given, *others, words=["--antimeridian", "cut", *words])
-        self.assertEqual((status, said), (0, ""))
+        self.assertEqual((status, said), (0, says))
         return left
 
     def test_short_ways(self):
@@ -109,8 +110,8 @@ class Cut(unittest.TestCase):
         self.assertEqual(points, {(170, 0), (180, 0), (180, 3.33), (-180, 3.33), (-180, 0), (-160, 0), (-160, 10)})
 
     def test_at_other_scales(self):
-        for digits in ("-1", "0", "16"):
-            (_, _, _, _, one), (_, _, _, _, other) = boxes(self.cut(FIJI, words=["--digits", digits]))
+        for digits, says in (("-1", ""), ("0", ""), ("16", f"polyover: {ROUNDED}\n")):
+            (_, _, _, _, one), (_, _, _, _, other) = boxes(self.cut(FIJI, words=["--digits", digits], says=says))
             self.assertEqual((round(one), round(other)), (200, 200), digits)
         words = ["--antimeridian", "cut", "--digits", "-2"]
         said = ran("simplify", collection(feature("Polygon", [FIJI])), words=words)[2]

@@ -3,8 +3,9 @@
 import json
 import random
 import unittest
+import warnings
 
-from polyover import BadInput, geojson, writing
+from polyover import BadInput, PolyoverWarning, geojson, writing
 from polyover.scaled import Scaled
 
 from .features import feature
@@ -30,7 +31,7 @@ class Written(unittest.TestCase):
     def test_by_hand(self):
         path = [(0.0, -5.0), (0.0001, 1e-05), (1.5e-06, 179.9999999), (-0.1, 9999999.9999999), (1e7, 12345678.9)]
         texts = ["[0.0, -5.0]", "[0.0001, 1e-05]", "[1.5e-06, 179.9999999]", "[-0.1, 9999999.9999999]"]
-        self.assertEqual(writing.lines_text([path[:4], path[4:]], 1e7),
+        self.assertEqual(writing.lines_text([path[:4], path[4:]], (1e7, 1e9)),
                          f"[[{', '.join(texts)}], [[10000000.0, 12345678.9]]]")
         self.check(feature("MultiLineString", [path[:4], path[4:]], name="a"))
 
@@ -51,6 +52,15 @@ class Written(unittest.TestCase):
         null = {"type": "Feature", "properties": None, "geometry": None}
         self.check(one, null, feature("Point", (1, 2.123456789012)))
         self.assertEqual(writing.feature_text(one, 7), json.dumps(one))
+
+    def test_units_that_floats_do_not_hold(self):
+        for digits, most in ((0, 2.0**53), (3, 9007199254740.992), (-3, 9007199254740992000.0)):
+            with warnings.catch_warnings():
+                warnings.simplefilter("error")
+                self.check(feature("MultiLineString", [[(0.0, -most), (most, 0.0)]]), digits=digits)
+            for point in ((2 * most, 0.0), (0.0, -2 * most)):
+                with self.assertWarnsRegex(PolyoverWarning, "coordinates of the answer over 2\\^53 units"):
+                    self.check(feature("MultiLineString", [[(0.0, 0.0), point]]), digits=digits)
 
     def test_numbers_that_json_does_not_hold(self):
         one = feature("MultiLineString", [[(0.0, 0.0), (1.0, 1.0)]], height=[1.5, {"top": float("inf")}])
