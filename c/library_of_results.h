@@ -1,5 +1,5 @@
 /* The results of library_results.c at one width, by the names at it: CONTOURS, PATHS, OPTIONS, RESULT,
- * PREPARED, GRAPH, SLICE_OPTIONS, NAME(call). */
+ * PREPARED, GRAPH, TRACED, SLICE_OPTIONS, NAME(call). */
 
 /* (these are proved) */
 polyover_status NAME(polyover_overlay_result_with)(polyover_rule rule, polyover_fill fill, const OPTIONS *options,
@@ -117,4 +117,15 @@ void NAME(polyover_graph_free)(GRAPH *graph) {
     }
     free_array(graph->edges, graph->edge_count);
     *graph = (GRAPH){0};
+}
+
+void NAME(polyover_traced_free)(TRACED *traced) {
+    if (traced == NULL) {
+        return;
+    }
+    free_array(traced->coordinates, traced->coordinate_count);
+    free_array(traced->fills, traced->fill_count);
+    free_array(traced->source_ends, traced->source_end_count);
+    free_array(traced->sources, traced->source_count);
+    *traced = (TRACED){0};
 }

@@ -1,5 +1,5 @@
 /* The part of results in C: it replaces null options by the defaults, a null clip by an empty one, and frees the arrays
- * of a result, of a prepared shape and of a graph. */
+ * of a result, of a prepared shape, of a graph and of traced edges. */
 #include <stdlib.h>
 
 #include "polyover.h"
@@ -17,6 +17,7 @@ static void free_array(const void *items, size_t count) {
 #define RESULT polyover_result
 #define PREPARED polyover_prepared
 #define GRAPH polyover_graph
+#define TRACED polyover_traced
 #define SLICE_OPTIONS polyover_slice_options
 #define NAME(call) call
 #include "library_of_results.h"
@@ -27,6 +28,7 @@ static void free_array(const void *items, size_t count) {
 #undef RESULT
 #undef PREPARED
 #undef GRAPH
+#undef TRACED
 #undef SLICE_OPTIONS
 #undef NAME
 #define CONTOURS polyover_contours_32
@@ -35,6 +37,7 @@ static void free_array(const void *items, size_t count) {
 #define RESULT polyover_result_32
 #define PREPARED polyover_prepared_32
 #define GRAPH polyover_graph_32
+#define TRACED polyover_traced_32
 #define SLICE_OPTIONS polyover_slice_options_32
 #define NAME(call) call##_32
 #include "library_of_results.h"

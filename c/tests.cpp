@@ -244,6 +244,39 @@ void graphs() {
                      [&] { return arrange(fill::non_zero, it.needles, it.more_needles, solver::rounds); }));
 }
 
+/* A level edge of the subject, and one of the clip that runs back over its right half, named by its pieces. */
+template <class Coordinate>
+void tracing() {
+    const std::vector<Coordinate> lines = {0, 0, 4, 0, 6, 0, 2, 0};
+    const std::array<std::uint8_t, 2> sides = {0, 1}, unknown = {0, 2};
+    const polyover::basic_edge_list<Coordinate> edges(lines, sides);
+    CHECK(edges.coordinates().size() == 8 && edges.sides().data() == sides.data());
+    auto all = value_of(trace(fill::non_zero, edges));
+    CHECK(is(all.coordinates(), {0, 0, 2, 0, 2, 0, 4, 0, 4, 0, 6, 0}) && is(all.fills(), {1, 5, 4}));
+    CHECK(is(all.source_ends(), {1, 3, 4}) && all.sources().size() == 4);
+    CHECK(all.sources_of(0).size() == 1 && all.sources_of(0)[0].edge == 0 && all.sources_of(0)[0].cut == 1);
+    CHECK(all.sources_of(1).size() == 2 && all.sources_of(1)[0].edge + all.sources_of(1)[1].edge == 1);
+    CHECK(all.sources_of(2).size() == 1 && all.sources_of(2)[0].edge == 1 && all.sources_of(2)[0].reversed == 1);
+    const auto shared = value_of(trace(rule::intersect, fill::non_zero, edges, solver::rounds));
+    CHECK(is(shared.coordinates(), {2, 0, 4, 0}) && shared.sources().size() == 2);
+    const polyover::basic_traced<Coordinate> moved = std::move(all);
+    CHECK(all.fills().empty() && all.sources().empty() && moved.fills().size() == 3);
+    all = value_of(trace(fill::even_odd, polyover::basic_edge_list<Coordinate>()));
+    CHECK(all.coordinates().empty());
+    all = value_of(trace(rule::clip, fill::non_zero, edges));
+    polyover::basic_traced<Coordinate> given_back(all.release());
+    CHECK(all.raw().fill_count == 0 && given_back.raw().fill_count == 2);
+    CHECK(is_refused(status::bad_rule, [&] { return trace(static_cast<rule>(8), fill::non_zero, edges); }));
+    CHECK(is_refused(status::bad_fill, [&] { return trace(static_cast<fill>(4), edges); }));
+    CHECK(is_refused(status::bad_option, [&] { return trace(fill::non_zero, edges, static_cast<solver>(2)); }));
+    CHECK(is_refused(status::bad_option, [&] {
+        return trace(fill::non_zero, polyover::basic_edge_list<Coordinate>(lines, unknown));
+    }));
+    CHECK(is_refused(status::bad_ends, [&] {
+        return trace(fill::non_zero, polyover::basic_edge_list<Coordinate>(lines, {sides.data(), 1}));
+    }));
+}
+
 /* The same answers in arrays, and what they take. */
 template <class Coordinate>
 void arrays() {
@@ -340,6 +373,7 @@ void memory() {
     static_assert(sizeof(result) == sizeof(typename result::raw_type));
     static_assert(!std::is_copy_constructible_v<polyover::basic_prepared<Coordinate>>);
     static_assert(!std::is_copy_constructible_v<polyover::basic_graph<Coordinate>>);
+    static_assert(!std::is_copy_constructible_v<polyover::basic_traced<Coordinate>>);
     const given<Coordinate> it;
     const std::size_t before = taken;
     result one = value_of(overlay(rule::intersect, fill::non_zero, it.subject, it.clip));
@@ -394,6 +428,7 @@ void all() {
     locating<Coordinate>();
     prepared_shapes<Coordinate>();
     graphs<Coordinate>();
+    tracing<Coordinate>();
     slices_by_options<Coordinate>();
     simplified_shapes<Coordinate>();
     arrays<Coordinate>();

@@ -52,6 +52,7 @@ typedef struct {
     polyover_clip_options kept;
     polyover_contours subject;
     polyover_contours clip;
+    polyover_edge_list edges;
     size_t point_coordinates;
     size_t location_room;
     int64_t cell;
@@ -258,6 +259,17 @@ static polyover_status graph_edges(const asked *of, room *to) {
     return status;
 }
 
+static polyover_status trace(const asked *of, room *to) {
+    polyover_traced traced;
+    (void)to;
+    polyover_status status = polyover_trace(of->rule, of->fill, of->solver, &of->edges, &traced);
+    size_t items = traced.coordinate_count + traced.fill_count + traced.source_end_count + traced.source_count;
+    check((items == 0) == (status != POLYOVER_OK), "edges are there where they are traced", granted, __LINE__);
+    polyover_traced_free(&traced);
+    polyover_traced_free(&traced);
+    return status;
+}
+
 /* Returns the status of a call with this number of requests granted, after a check that a refusal changes nothing. */
 static polyover_status status_with(call made, const asked *of, size_t requests, int line) {
     static room before, to;
@@ -300,6 +312,10 @@ static const int64_t beyond[] = {0, 0, 4, 0, 4, INT64_MAX};
 static const int64_t wide_left[] = {0, 0, 4 * WIDE, 0, 4 * WIDE, 4 * WIDE, 0, 4 * WIDE};
 static const int64_t wide_right[] = {2 * WIDE, 2 * WIDE, 6 * WIDE, 2 * WIDE, 6 * WIDE, 6 * WIDE, 2 * WIDE, 6 * WIDE};
 static const size_t four[] = {4}, three[] = {3}, falling[] = {4, 3};
+/* (edges that cross, and one that lies on the first of them) */
+static const int64_t lines[] = {0, 0, 4, 4, 0, 4, 4, 0, 3, 3, 1, 1};
+static const int64_t far_edge[] = {0, 0, 4, INT64_MAX};
+static const uint8_t sides[] = {0, 1, 1}, no_side[] = {0, 2, 1};
 static const polyover_contours far = {beyond, 6, three, 1}, bad = {right, 8, falling, 2};
 
 static void choose_solver(asked *of, polyover_solver solver) {
@@ -310,6 +326,7 @@ static asked squares_at(const int64_t *subject, const int64_t *clip) {
     asked of = {.rule = POLYOVER_XOR, .fill = POLYOVER_NON_ZERO, .point_coordinates = 6, .location_room = 3, .cell = 3};
     of.subject = (polyover_contours){subject, 8, four, 1};
     of.clip = (polyover_contours){clip, 8, four, 1};
+    of.edges = (polyover_edge_list){lines, 12, sides, 3};
     return of;
 }
 
@@ -321,7 +338,7 @@ static void answered(void) {
     const call all[] = {overlay, hierarchy, simplify, slice, clip, relate, edges, locate, resolved, overlay_result,
                         hierarchy_result, simplify_result, slice_result, clip_result, edges_result, prepare,
                         relate_one, tiles_result, graph_overlay, graph_hierarchy, graph_edges, slice_custom_result,
-                        simplify_shape_result, relate_exact};
+                        simplify_shape_result, relate_exact, trace};
     const call with_more[] = {overlay, hierarchy, simplify, slice, clip, relate, edges, overlay_result,
                               hierarchy_result, simplify_result, slice_result, clip_result, edges_result,
                               relate_one};
@@ -421,12 +438,28 @@ static void grids(void) {
     REFUSE_EACH(tiles_result, &wide);
 }
 
+/* Tests edges with faults, from the last one tested to the first. */
+static void edge_lists(void) {
+    asked of = squares();
+    of.edges = (polyover_edge_list){far_edge, 4, sides, 1};
+    TESTED_FIRST(trace, &of, POLYOVER_OUT_OF_RANGE);
+    of.edges.side_count = 2;
+    TESTED_FIRST(trace, &of, POLYOVER_BAD_ENDS);
+    of.edges.sides = no_side;
+    TESTED_FIRST(trace, &of, POLYOVER_BAD_OPTION);
+    of.fill = 4;
+    TESTED_FIRST(trace, &of, POLYOVER_BAD_FILL);
+    of.rule = 8;
+    TESTED_FIRST(trace, &of, POLYOVER_BAD_RULE);
+}
+
 int main(void) {
     answered();
     numbers();
     faults();
     points();
     grids();
+    edge_lists();
     printf("c, memory refused: %d passed, %d failed\n", passed, failed);
     return failed == 0 ? 0 : 1;
 }

@@ -521,6 +521,8 @@ static void TEST(limits)(polyover_solver solver) {
 
 #include "tests_of_graph_sizes.h"
 
+#include "tests_of_traced_sizes.h"
+
 static void TEST(sizes)(void) {
     TEST(many_points)();
     TEST(many_exactly)();
@@ -534,6 +536,7 @@ static void TEST(sizes)(void) {
         TEST(limits)(solver);
         TEST(prepared_sizes)(solver);
         TEST(graph_sizes)(solver);
+        TEST(traced_sizes)(solver);
     }
 }
 

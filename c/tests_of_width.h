@@ -300,6 +300,8 @@ static void TEST(simplifying)(void) {
 
 #include "tests_of_simplified_shapes.h"
 
+#include "tests_of_traced.h"
+
 static void TEST(all)(void) {
     TEST(ranges)();
     TEST(ends)();
@@ -352,4 +354,10 @@ static void TEST(all)(void) {
     TEST(simplified_shapes)();
     TEST(simplified_pairs)();
     TEST(simplified_shapes_refused)();
+    TEST(traced_by_rules)();
+    TEST(traced_beside)();
+    TEST(traced_lines)();
+    TEST(far_traced)();
+    TEST(tracing_refused)();
+    TEST(tracing_not_settled)();
 }

@@ -14,10 +14,10 @@
  * calls but `polyover_in_range`, `polyover_resolved` and `polyover_locate`, and where options keep them.
  *
  * All arrays and structs are the caller's, and nothing is kept after a call; only what a `polyover_result`, a
- * `polyover_prepared` or a `polyover_graph` holds is to be freed. Each array behind a `const` is only read. An array of
- * length 0 may be a null pointer. So may options, for which the default ones are taken then, and the clip beside a
- * subject, which has no contours then. Another struct may be where its call says so. What a call writes to lies apart
- * from all else that it is given.
+ * `polyover_prepared`, a `polyover_graph` or a `polyover_traced` holds is to be freed. Each array behind a `const` is
+ * only read. An array of length 0 may be a null pointer. So may options, for which the default ones are taken then, and
+ * the clip beside a subject, which has no contours then. Another struct may be where its call says so. What a call
+ * writes to lies apart from all else that it is given.
  *
  * No call keeps a state, so calls on several threads are safe, as long as nothing is written to what one of them reads.
  * Memory is taken by malloc, realloc and free, so no call is for a signal handler.
@@ -49,15 +49,15 @@ typedef uint32_t polyover_status;
 enum {
     POLYOVER_OK = 0,
     POLYOVER_MEMORY = 1, /* memory was refused; none is taken before all is tested that a call tests first */
-    /* the coordinates are an odd count, an end is below the one before it, or the last one is not the count of
-     * points */
+    /* the coordinates are an odd count, an end is below the one before it, or the last one is not the count of points;
+     * of edges, the coordinates are not four for each side */
     POLYOVER_BAD_ENDS = 2,
     POLYOVER_OUT_OF_RANGE = 3, /* a coordinate is out of the coordinate range */
     POLYOVER_NOT_RESOLVED = 4, /* two steps of a contour share a point that is not an end of both */
     POLYOVER_BAD_RULE = 5,     /* no overlay rule has the number */
     POLYOVER_BAD_FILL = 6,     /* no fill rule has the number */
-    /* a direction, touching, invert, boundary, keep_given or solver that is neither 0 nor 1, a keep above 3, a number
-     * that is not the bit of a relation, a grid that does not fit, or a choice that is not that of the graph */
+    /* a direction, touching, invert, boundary, keep_given, side or solver that is neither 0 nor 1, a keep above 3, a
+     * number that is not the bit of a relation, a grid that does not fit, or a choice that is not that of the graph */
     POLYOVER_BAD_OPTION = 7,
     /* after 64 rounds of splitting edges still meet in points that are no ends of both: some that cross very flatly do.
      * It comes of POLYOVER_ROUNDS alone; POLYOVER_SNAPPED splits these edges too. */
@@ -644,6 +644,80 @@ polyover_status polyover_graph_edges_result_32(const polyover_graph_32 *graph, p
  * is taken, and so is a graph that is all zero. */
 void polyover_graph_free(polyover_graph *graph);
 void polyover_graph_free_32(polyover_graph_32 *graph);
+
+/* Stands for all edges in the place of an overlay rule, in `polyover_trace`. */
+enum { POLYOVER_ALL_EDGES = 7 };
+
+/* Edges that are given, each of the subject or of the clip. They need not make contours. */
+typedef struct {
+    const int64_t *coordinates; /* of each edge x and y of its first and of its second end */
+    size_t coordinate_count;    /* it counts numbers: four for each edge */
+    const uint8_t *sides;       /* of each edge 0, where it is one of the subject, or 1, of the clip */
+    size_t side_count;
+} polyover_edge_list;
+
+/* The same at 32 bits. */
+typedef struct {
+    const int32_t *coordinates;
+    size_t coordinate_count;
+    const uint8_t *sides;
+    size_t side_count;
+} polyover_edge_list_32;
+
+/* A given edge on which an edge of an answer lies. */
+typedef struct {
+    size_t edge;      /* its number, from 0, in the order in which edges are given */
+    uint8_t cut;      /* 1: it was cut into pieces; 0: the edge of the answer lies along the whole of it */
+    uint8_t reversed; /* 1: it runs against the edge of the answer; 0: along it */
+} polyover_source;
+
+/* Edges of an arrangement, each with the given edges on which it lies. All fields are only read; the pointer of an
+ * array without items is not to be read. `polyover_traced_free` gives the memory back. */
+typedef struct {
+    const int64_t *coordinates; /* of each edge x and y of its first and of its second end */
+    size_t coordinate_count;    /* it counts numbers */
+    const uint8_t *fills;       /* which sides of each edge are filled */
+    size_t fill_count;
+    const size_t *source_ends;  /* how many sources there are up to the last one of each edge */
+    size_t source_end_count;
+    const polyover_source *sources; /* edge by edge */
+    size_t source_count;
+} polyover_traced;
+
+/* The same at 32 bits. */
+typedef struct {
+    const int32_t *coordinates;
+    size_t coordinate_count;
+    const uint8_t *fills;
+    size_t fill_count;
+    const size_t *source_ends;
+    size_t source_end_count;
+    const polyover_source *sources;
+    size_t source_count;
+} polyover_traced_32;
+
+/* The edges of the arrangement of the given ones where the rule holds on exactly one side, or, by POLYOVER_ALL_EDGES,
+ * all of them. They are cut, ordered, filled and left out as those of `polyover_edges`, and the first end of each is
+ * the smaller one. An edge between equal points is none. The sources of an edge are the given edges that were merged to
+ * it, or of which it is a piece; their order is left open. Where edges make no contours, the windings beside one are
+ * those of the edges below, and the time grows with the square of their number.
+ *
+ * On POLYOVER_OK *traced is that answer; after any other status none of its arrays has an item. So it may always be
+ * freed. What *traced was before is neither read nor freed.
+ *
+ * Tested first, in this order: POLYOVER_BAD_RULE, for 8 and above; POLYOVER_BAD_FILL; POLYOVER_BAD_OPTION, for the
+ * solver, and for a side that is neither 0 nor 1; POLYOVER_BAD_ENDS, where there are not four coordinates for each
+ * side; POLYOVER_OUT_OF_RANGE. POLYOVER_NOT_SETTLED, by POLYOVER_ROUNDS alone, POLYOVER_TOO_MANY_EDGES and
+ * POLYOVER_MEMORY are left. */
+polyover_status polyover_trace(polyover_rule rule, polyover_fill fill, polyover_solver solver,
+                               const polyover_edge_list *edges, polyover_traced *traced);
+polyover_status polyover_trace_32(polyover_rule rule, polyover_fill fill, polyover_solver solver,
+                                  const polyover_edge_list_32 *edges, polyover_traced_32 *traced);
+
+/* Gives back the memory of traced edges, by free, and leaves none of them: to free them twice does no harm. A null
+ * pointer is taken, and so are traced edges that are all zero. */
+void polyover_traced_free(polyover_traced *traced);
+void polyover_traced_free_32(polyover_traced_32 *traced);
 
 #ifdef __cplusplus
 }

@@ -293,6 +293,8 @@ struct width<std::int64_t> {
     using result = polyover_result;
     using prepared = polyover_prepared;
     using graph = polyover_graph;
+    using edge_list = polyover_edge_list;
+    using traced = polyover_traced;
     using slice_options = polyover::slice_options;
     static constexpr auto resolved = polyover_resolved;
     static constexpr auto overlay = polyover_overlay;
@@ -320,9 +322,11 @@ struct width<std::int64_t> {
     static constexpr auto graph_overlay = polyover_graph_overlay_result;
     static constexpr auto graph_hierarchy = polyover_graph_hierarchy_result;
     static constexpr auto graph_edges = polyover_graph_edges_result;
+    static constexpr auto trace = polyover_trace;
     static constexpr auto free_result = polyover_free;
     static constexpr auto free_prepared = polyover_prepared_free;
     static constexpr auto free_graph = polyover_graph_free;
+    static constexpr auto free_traced = polyover_traced_free;
 
     [[nodiscard]] static constexpr polyover_options raw(const options &it) noexcept {
         const std::uint32_t keep = kept(it.keep, it.keep_given);
@@ -341,6 +345,8 @@ struct width<std::int32_t> {
     using result = polyover_result_32;
     using prepared = polyover_prepared_32;
     using graph = polyover_graph_32;
+    using edge_list = polyover_edge_list_32;
+    using traced = polyover_traced_32;
     using slice_options = polyover::slice_options_32;
     static constexpr auto resolved = polyover_resolved_32;
     static constexpr auto overlay = polyover_overlay_32;
@@ -368,9 +374,11 @@ struct width<std::int32_t> {
     static constexpr auto graph_overlay = polyover_graph_overlay_result_32;
     static constexpr auto graph_hierarchy = polyover_graph_hierarchy_result_32;
     static constexpr auto graph_edges = polyover_graph_edges_result_32;
+    static constexpr auto trace = polyover_trace_32;
     static constexpr auto free_result = polyover_free_32;
     static constexpr auto free_prepared = polyover_prepared_free_32;
     static constexpr auto free_graph = polyover_graph_free_32;
+    static constexpr auto free_traced = polyover_traced_free_32;
 
     [[nodiscard]] static constexpr polyover_options_32 raw(const options &it) noexcept {
         const std::uint32_t keep = kept(it.keep, it.keep_given);
@@ -847,6 +855,123 @@ template <class Coordinate>
         detail::width<Coordinate>::arrange(detail::number(fill), detail::number(solver), keep_given ? 1 : 0,
                                            &subject.raw(), &clip.raw(), &found);
     return detail::answered(ended, basic_graph<Coordinate>(found));
+}
+
+// ---- edges in, and edges with the given ones on which they lie out
+
+/// Edges of a call: a view of arrays of the caller. `coordinates` has x and y of the first and of the second end of
+/// each edge, and `sides` 0 for an edge of the subject, or 1 for one of the clip. They need not make contours.
+template <class Coordinate>
+class basic_edge_list {
+public:
+    using raw_type = typename detail::width<Coordinate>::edge_list;
+
+    /// No edges.
+    constexpr basic_edge_list() noexcept = default;
+    constexpr basic_edge_list(span<const Coordinate> coordinates, span<const std::uint8_t> sides) noexcept
+        : raw_{coordinates.data(), coordinates.size(), sides.data(), sides.size()} {}
+
+    /// Returns the coordinates of both ends of each edge, x before y.
+    [[nodiscard]] constexpr span<const Coordinate> coordinates() const noexcept {
+        return {raw_.coordinates, raw_.coordinate_count};
+    }
+    /// Returns the side of each edge.
+    [[nodiscard]] constexpr span<const std::uint8_t> sides() const noexcept { return {raw_.sides, raw_.side_count}; }
+
+    /// Returns the struct that the calls of polyover.h take.
+    [[nodiscard]] constexpr const raw_type &raw() const noexcept { return raw_; }
+
+private:
+    raw_type raw_{};
+};
+
+using edge_list = basic_edge_list<std::int64_t>;
+using edge_list_32 = basic_edge_list<std::int32_t>;
+
+/// A given edge on which an edge of an answer lies: its number `edge`, and whether it is `cut` or `reversed`.
+using source = polyover_source;
+
+/// Edges of an arrangement, each with the given edges on which it lies; `trace` makes them. The destructor gives their
+/// memory back. After a move there are none where they were.
+template <class Coordinate>
+class basic_traced {
+public:
+    using raw_type = typename detail::width<Coordinate>::traced;
+
+    /// No edges.
+    basic_traced() noexcept = default;
+    /// Takes over the memory of traced edges of polyover.h.
+    explicit basic_traced(raw_type taken) noexcept : raw_(taken) {}
+    basic_traced(basic_traced &&other) noexcept : raw_(other.release()) {}
+    basic_traced &operator=(basic_traced &&other) noexcept {
+        basic_traced taken(std::move(other));
+        std::swap(raw_, taken.raw_);
+        return *this;
+    }
+    ~basic_traced() { detail::width<Coordinate>::free_traced(&raw_); }
+
+    /// Returns x and y of the first and of the second end of each edge.
+    [[nodiscard]] span<const Coordinate> coordinates() const noexcept {
+        return {raw_.coordinates, raw_.coordinate_count};
+    }
+    /// Returns for each edge the sum of the bits of its filled sides (`side`).
+    [[nodiscard]] span<const std::uint8_t> fills() const noexcept { return {raw_.fills, raw_.fill_count}; }
+    /// Returns how many sources there are up to the last one of each edge.
+    [[nodiscard]] span<const std::size_t> source_ends() const noexcept {
+        return {raw_.source_ends, raw_.source_end_count};
+    }
+    /// Returns the sources of all edges, edge by edge.
+    [[nodiscard]] span<const source> sources() const noexcept { return {raw_.sources, raw_.source_count}; }
+
+    /// Returns the sources of an edge, by its number from 0 to one less than `source_ends().size()`.
+    [[nodiscard]] span<const source> sources_of(std::size_t number) const noexcept {
+        const std::size_t start = number == 0 ? 0 : raw_.source_ends[number - 1];
+        return {raw_.sources + start, raw_.source_ends[number] - start};
+    }
+
+    /// Returns the struct of polyover.h, whose memory stays with this object.
+    [[nodiscard]] const raw_type &raw() const noexcept { return raw_; }
+
+    /// Returns the struct of polyover.h, whose memory the caller frees from now on; this object has no edges then.
+    [[nodiscard]] raw_type release() noexcept { return std::exchange(raw_, raw_type{}); }
+
+private:
+    raw_type raw_{};
+};
+
+using traced = basic_traced<std::int64_t>;
+using traced_32 = basic_traced<std::int32_t>;
+
+namespace detail {
+
+/// Returns the edges that the number of a rule asks for, or all by `POLYOVER_ALL_EDGES`.
+template <class Coordinate>
+[[nodiscard]] returned<basic_traced<Coordinate>> traced_by(polyover_rule rule, polyover::fill fill,
+                                                           basic_edge_list<Coordinate> edges,
+                                                           polyover::solver solver) {
+    typename width<Coordinate>::traced found;
+    const polyover_status ended =
+        width<Coordinate>::trace(rule, number(fill), number(solver), &edges.raw(), &found);
+    return answered(ended, basic_traced<Coordinate>(found));
+}
+
+} // namespace detail
+
+/// Returns the edges of the arrangement of the given ones where the rule holds on exactly one side. Refused with
+/// `bad_rule` and `bad_fill`; with `bad_option` for the solver, or a side that is neither 0 nor 1; with `bad_ends` if
+/// there are not four coordinates for each side; with `out_of_range`, `not_settled`, `too_many_edges` and `memory`.
+template <class Coordinate>
+[[nodiscard]] returned<basic_traced<Coordinate>> trace(polyover::rule rule, polyover::fill fill,
+                                                       basic_edge_list<Coordinate> edges,
+                                                       polyover::solver solver = polyover::solver::snapped) {
+    return detail::traced_by(detail::number(rule), fill, edges, solver);
+}
+
+/// Returns all edges of the arrangement. Refused so, but for `bad_rule`.
+template <class Coordinate>
+[[nodiscard]] returned<basic_traced<Coordinate>> trace(polyover::fill fill, basic_edge_list<Coordinate> edges,
+                                                       polyover::solver solver = polyover::solver::snapped) {
+    return detail::traced_by(polyover_rule{POLYOVER_ALL_EDGES}, fill, edges, solver);
 }
 
 // ---- the same answers in arrays of the caller

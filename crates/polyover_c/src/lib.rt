@@ -18,3 +18,4 @@ pub mod slice;
 pub mod slice_custom;
 pub mod test;
 pub mod tiles;
+pub mod traced;
