@@ -15,6 +15,7 @@ from .rules import symmetric_difference, touches, union, union_all, within
 from .scaled import Scaled
 from .shapes import Paths, Shapes
 from .text import LOCATIONS, Fill, RelationSolver, Rule, Solver
+from .traced import Source, TracedEdge, trace
 
 __version__ = "0.2.0"
 
@@ -40,7 +41,9 @@ __all__ = [
     "Scaled",
     "Shapes",
     "Solver",
+    "Source",
     "TooManyEdges",
+    "TracedEdge",
     "backend",
     "built",
     "clip",
@@ -63,6 +66,7 @@ __all__ = [
     "symmetric_difference",
     "tiles",
     "touches",
+    "trace",
     "union",
     "union_all",
     "within",

@@ -2,6 +2,7 @@
 
 from __future__ import annotations
 
+from array import array
 from ctypes import c_size_t, c_uint32
 from functools import lru_cache
 from struct import iter_unpack
@@ -10,7 +11,8 @@ from typing import Any, Callable
 from .errors import LibraryMissing, NotResolved
 from .flat import Flat, FlatShapes, address_of, parted
 from .grid import grid_lines
-from .library import ClipOptions, Held, HeldGraph, HeldShape, Library, Options, SliceOptions, Status, check
+from .library import BYTES, COORDINATES, ClipOptions, Contours, EdgeList, Held, HeldGraph, HeldShape, HeldTrace
+from .library import Library, Options, SliceOptions, Status, check
 from .library import library as found_library
 from .text import FILLS, RELATION_BITS, RULES, SOLVERS
 
@@ -27,7 +29,10 @@ TAKES = {
     "tiles": "polyover_slice_result",
     "slice_custom": "polyover_slice_custom_result",
     "is_resolved": "polyover_resolved",
+    "trace": "polyover_trace",
 }
+# (the number that stands for all edges in the place of a rule)
+ALL_EDGES = 7
 
 
 def can(call: str) -> bool:
@@ -263,3 +268,34 @@ def graph_hierarchy(graph: HeldGraph, rule: str, look: Any) -> tuple[list[Any], 
 def graph_edges(graph: HeldGraph) -> list[Any]:
     """The edges of an arrangement."""
     return edges_in(graph.answer("edges"))
+
+
+# ---- edges, with the steps on which they lie
+
+
+def add_steps(contours: Contours, side: int, closed: bool, edges: array[int], steps: list[Any]) -> None:
+    """Adds the steps of paths, on a side, to the coordinates of edges, and to the steps their places: the side, and the
+    numbers of path and step."""
+    numbers, start = contours.numbers, 0
+    for path, end in enumerate(contours.ends_of_each):
+        for at in range(start, end if closed else end - 1):
+            to = at + 1 if at + 1 < end else start
+            edges.extend((numbers[2 * at], numbers[2 * at + 1], numbers[2 * to], numbers[2 * to + 1]))
+            steps.append((side, path, at - start))
+        start = end
+
+
+def trace(
+    subject: Any, clip: Any, rule: str | None, fill: str, solver: str, closed: bool
+) -> tuple[list[Any], list[tuple[int, int, int]]]:
+    """The edges of the arrangement, each with its sources, which name steps by their numbers; and these steps."""
+    asked = library()
+    edges, steps = array(COORDINATES), []  # type: ignore[var-annotated]
+    for side, paths in enumerate((subject, clip)):
+        add_steps(asked.contours(paths), side, closed, edges, steps)
+    given = EdgeList(edges, array(BYTES, [side for side, _, _ in steps]))
+    number = ALL_EDGES if rule is None else RULE_NUMBERS[rule]
+    held = HeldTrace(asked, number, FILL_NUMBERS[fill], SOLVER_NUMBERS[solver], given)
+    points = points_in(held.coordinates)
+    sources = parted(held.sources, held.source_ends.tolist())
+    return list(zip(points[0::2], points[1::2], held.fills.tolist(), sources)), steps

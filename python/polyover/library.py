@@ -4,13 +4,13 @@ from __future__ import annotations
 
 import os
 from array import array
-from ctypes import CDLL, POINTER, Structure, c_size_t, c_ubyte, c_uint32, c_uint64, c_void_p, sizeof
+from ctypes import CDLL, POINTER, Structure, c_size_t, c_ubyte, c_uint32, c_uint64, c_void_p, sizeof, string_at
 from enum import IntEnum
 from functools import lru_cache
 from itertools import chain
 from pathlib import Path
+from struct import Struct, pack
 from struct import error as StructError
-from struct import pack
 from typing import Any, Callable
 from weakref import finalize
 
@@ -187,8 +187,44 @@ class Graph(Structure):
     ]
 
 
+class EdgeList(Structure):
+    """Edges, each of the subject or of the clip."""
+
+    _fields_ = [
+        ("coordinates", c_void_p),
+        ("coordinate_count", c_size_t),
+        ("sides", c_void_p),
+        ("side_count", c_size_t),
+    ]
+
+    def __init__(self, numbers: Any, sides: Any) -> None:
+        # (the fields hold no more than addresses: the arrays have to stay as long)
+        coordinates, kept = address_of(numbers)
+        places, also_kept = address_of(sides)
+        self.kept = kept, also_kept
+        super().__init__(coordinates, len(numbers), places, len(sides))
+
+
+class Traced(Structure):
+    """Traced edges in memory of the library."""
+
+    _fields_ = [
+        ("coordinates", c_void_p),
+        ("coordinate_count", c_size_t),
+        ("fills", c_void_p),
+        ("fill_count", c_size_t),
+        ("source_ends", c_void_p),
+        ("source_end_count", c_size_t),
+        ("sources", c_void_p),
+        ("source_count", c_size_t),
+    ]
+
+
+# (a source: the number of a given edge, and two bytes)
+SOURCE = Struct("@NBB0N")
 ARRAY = (c_void_p, c_size_t)
 CONTOURS, RESULT, PREPARED, GRAPH = POINTER(Contours), POINTER(Result), POINTER(PreparedShape), POINTER(Graph)
+TRACED = POINTER(Traced)
 TWO = (c_uint32, c_uint32, CONTOURS, CONTOURS)
 OVERLAY = (c_uint32, c_uint32, POINTER(Options), CONTOURS, CONTOURS)
 FUNCTIONS = {
@@ -215,8 +251,10 @@ FUNCTIONS = {
     "polyover_graph_hierarchy_result": (GRAPH, c_uint32, POINTER(Options), RESULT),
     "polyover_graph_edges_result": (GRAPH, RESULT),
     "polyover_graph_free": (GRAPH,),
+    "polyover_trace": (c_uint32, c_uint32, c_uint32, POINTER(EdgeList), TRACED),
+    "polyover_traced_free": (TRACED,),
 }
-FREES = {"polyover_free", "polyover_prepared_free", "polyover_graph_free"}
+FREES = {"polyover_free", "polyover_prepared_free", "polyover_graph_free", "polyover_traced_free"}
 # (of small calls, which take the addresses of structs and arrays)
 FRAMED = {
     "polyover_resolved": (c_void_p,),
@@ -357,6 +395,41 @@ class HeldGraph:
     def answer(self, call: str, *given: Any) -> Held:
         """What a question is answered."""
         return self.asked.answer(f"polyover_graph_{call}_result", self.graph, *given)
+
+
+class HeldTrace:
+    """Traced edges, where the library has them: their memory is freed once nothing refers to this."""
+
+    def __init__(self, asked: Library, rule: int, fill: int, solver: int, edges: EdgeList) -> None:
+        self.traced = Traced()
+        finalize(self, asked.functions.polyover_traced_free, self.traced)
+        check(asked.call("polyover_trace", rule, fill, solver, edges, self.traced))
+
+    def numbers(self, kind: str, place: int | None, count: int) -> memoryview:
+        """A copy of that many numbers of a kind at a place."""
+        return memoryview(string_at(place or 0, count * ITEM_SIZES[kind]) if count else b"").cast(kind)
+
+    @property
+    def coordinates(self) -> memoryview:
+        """The coordinates of both ends of each edge."""
+        return self.numbers(COORDINATES, self.traced.coordinates, self.traced.coordinate_count)
+
+    @property
+    def fills(self) -> memoryview:
+        """The bits of the filled sides of each edge."""
+        return self.numbers(BYTES, self.traced.fills, self.traced.fill_count)
+
+    @property
+    def source_ends(self) -> memoryview:
+        """How many sources there are up to the last one of each edge."""
+        return self.numbers(SIZES, self.traced.source_ends, self.traced.source_end_count)
+
+    @property
+    def sources(self) -> list[tuple[int, int, int]]:
+        """Of each source the number of a given edge, whether it was cut, and whether it is reversed."""
+        count = self.traced.source_count
+        held = string_at(self.traced.sources or 0, count * SOURCE.size) if count else b""
+        return [(edge, cut, is_reversed) for edge, cut, is_reversed in SOURCE.iter_unpack(held)]
 
 
 @lru_cache(maxsize=None)
