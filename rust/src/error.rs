@@ -17,6 +17,8 @@ pub enum OverlayError {
     NotSettled,
     /// The edges weigh 2^31 or more.
     TooManyEdges,
+    /// The edges of a subject, or those of a clip, do not make contours: more of them leave a point than come to it.
+    NotClosed,
     /// A grid does not fit: a side of its cells is below 1, or more than 1,000 lines cross the contours in a direction.
     BadGrid,
     /// A float is not a number, or infinite.
@@ -50,6 +52,7 @@ impl fmt::Display for OverlayError {
             Self::NotResolved(contour) => return write!(f, "contour [{contour}]: {}", text_of(sys::NOT_RESOLVED)),
             Self::NotSettled => "edges still meet after 64 rounds of splitting; Solver::SNAPPED splits them",
             Self::TooManyEdges => text_of(sys::TOO_MANY_EDGES),
+            Self::NotClosed => "the edges of the subject, or those of the clip, do not make contours",
             Self::BadGrid => "a grid does not fit: cells from 1 on, at most 1,000 lines in a direction",
             Self::NotFinite => "a float is not a number, or infinite",
             Self::NotHad(name) => return write!(f, "this version does not have the option {name}"),

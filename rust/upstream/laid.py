@@ -35,7 +35,7 @@ CHANGED = ("use crate::core::simplify::vec;", "use alloc::vec;")
 ROUNDED = "two crossings are at half units: snap rounding leaves one shape; of twice the coordinates it gives three"
 DEPARTURES = {"upstream::string_slice::tests::test_7": ROUNDED}
 # blocks of README by a word in them
-NOT_HAD = {"mesh::": "offsets are left out", "edge_overlay": "edges with data are not had yet"}
+NOT_HAD = {"mesh::": "offsets are left out"}
 HEAD = "#![allow(dead_code, deprecated, unused_imports, unused_macros, unused_variables, clippy::all)]\n"
 
 

@@ -26,15 +26,7 @@ PARTS = {
 }
 PAGE = re.compile(r"(?:fn|struct|enum|trait|type|constant)\.(\w+)\.html")
 PART = re.compile(r'id="(?:structfield|variant|method|tymethod)\.(\w+)"')
-DATA = "edges with data: the library for C has no call for them yet"
-MISSING = {
-    name: DATA
-    for name in """core::edge_overlay::InputEdge InputEdge::a InputEdge::b InputEdge::data
-    core::edge_overlay::EdgeOverlay EdgeOverlay::solver EdgeOverlay::options EdgeOverlay::boolean_buffer
-    EdgeOverlay::new EdgeOverlay::add_edge EdgeOverlay::add_edges EdgeOverlay::data_store EdgeOverlay::data_store_mut
-    EdgeOverlay::into_data_store EdgeOverlay::build_vectors EdgeOverlay::build_vector_shapes
-    EdgeOverlay::edges""".split()
-}
+MISSING: dict[str, str] = {}
 
 
 def body(text: str, at: int) -> str:

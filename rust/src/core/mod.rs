@@ -3,6 +3,7 @@
 pub mod answer;
 pub(crate) mod contours;
 pub mod edge_data;
+pub mod edge_overlay;
 pub mod exact;
 pub mod extract;
 pub mod fill_rule;

@@ -5,6 +5,7 @@ use crate::error::OverlayError;
 use crate::ffi::{Engine, Held};
 use crate::i_float::int::point::IntPoint;
 use crate::i_shape::int::shape::{IntContour, IntShapes};
+use crate::vector::edge::DataVectorEdge;
 use ::core::mem::replace;
 use ::core::ops::Range;
 use alloc::vec::Vec;
@@ -63,6 +64,19 @@ fn path_of<I: Native, C: Copy + Into<i64>>(
     let mut path = with_room(range.len())?;
     path.extend(points_of(coordinates.get(numbers).unwrap_or_default()));
     Ok(path)
+}
+
+/// The edges of the coordinates of both ends of each, with their filled sides.
+pub(crate) fn edges_in<I: Native, C: Copy + Into<i64>>(
+    coordinates: &[C],
+    fills: &[u8],
+) -> Result<Vec<DataVectorEdge<I>>, OverlayError> {
+    let mut ends = points_of(coordinates);
+    let edge = |&fill: &u8| {
+        let (a, b, data) = (ends.next()?, ends.next()?, ());
+        Some(DataVectorEdge { a, b, fill, data })
+    };
+    listed(fills.len(), fills.iter().map_while(edge))
 }
 
 /// The contours, or the paths, of an answer.

@@ -5,6 +5,7 @@ use super::graph::{Arranged, Graph};
 use super::held::Held;
 use super::ready::{Prepared, Ready};
 use super::sys;
+use super::traced::{self, EdgeList, HeldTrace, Traced};
 use crate::core::answer::Either;
 use crate::core::fill_rule::FillRule;
 use crate::core::overlay_rule::OverlayRule;
@@ -136,6 +137,16 @@ pub(crate) trait Engine: 'static + Sized {
     /// The edges of a graph.
     fn graph_edges(graph: &sys::Graph) -> Result<Held<Self>, OverlayError>;
 
+    /// The edges that a rule selects of the arrangement of edges: coordinates of both ends of each, and the numbers of
+    /// their sides, 0 or 1.
+    fn trace(
+        rule: OverlayRule,
+        fill: FillRule,
+        solver: Solver,
+        coordinates: &[Self::C],
+        sides: &[u8],
+    ) -> Result<HeldTrace<Self>, OverlayError>;
+
     /// Frees an answer, which is without items then.
     fn free(answer: &mut sys::Answer<Self::C>);
 
@@ -144,6 +155,9 @@ pub(crate) trait Engine: 'static + Sized {
 
     /// Frees a graph, which is without edges then.
     fn free_graph(graph: &mut sys::Graph);
+
+    /// Frees traced edges, of which none is left then.
+    fn free_traced(traced: &mut Traced<Self::C>);
 
     /// An answer as one of either width.
     fn either(held: Held<Self>) -> Either;
@@ -385,6 +399,19 @@ macro_rules! engine {
                 unsafe { Held::of(|to| sys::$width::graph_edges(graph, to)) }
             }
 
+            fn trace(
+                rule: OverlayRule,
+                fill: FillRule,
+                solver: Solver,
+                coordinates: &[$c],
+                sides: &[u8],
+            ) -> Result<HeldTrace<Self>, OverlayError> {
+                let (rule, fill, solver) = (rule.number(), fill.number(), solver.number());
+                let edges = EdgeList::of(coordinates, sides);
+                // SAFETY: as said above.
+                unsafe { HeldTrace::of(|to| traced::$width::trace(rule, fill, solver, &edges, to)) }
+            }
+
             fn free(answer: &mut sys::Answer<$c>) {
                 // SAFETY: the answer is one that the library left.
                 unsafe { sys::$width::free(answer) }
@@ -398,6 +425,11 @@ macro_rules! engine {
             fn free_graph(graph: &mut sys::Graph) {
                 // SAFETY: the graph is one that the library left.
                 unsafe { sys::$width::graph_free(graph) }
+            }
+
+            fn free_traced(edges: &mut Traced<$c>) {
+                // SAFETY: the edges are those that the library left.
+                unsafe { traced::$width::traced_free(edges) }
             }
 
             fn either(held: Held<Self>) -> Either {

@@ -32,7 +32,7 @@ impl<E: Engine> fmt::Debug for Held<E> {
 ///
 /// # Safety
 /// Where the count is not 0, they are initialized and stay for as long as the answer.
-unsafe fn items<'a, T>(at: *const T, count: usize) -> &'a [T] {
+pub(super) unsafe fn items<'a, T>(at: *const T, count: usize) -> &'a [T] {
     if count == 0 {
         return &[];
     }

@@ -2,6 +2,7 @@
 //! `c/library*.c`). `scripts/dist` leaves the assembly, in which the names of calls are those of `polyover.h`.
 
 use super::sys;
+use super::traced::Traced;
 use ::core::ffi::{c_char, c_int, c_void};
 use ::core::hint::black_box;
 use ::core::sync::atomic::{AtomicBool, Ordering};
@@ -183,6 +184,34 @@ unsafe extern "C" fn polyover_graph_free(graph: *mut sys::Graph) {
 unsafe extern "C" fn polyover_graph_free_32(graph: *mut sys::Graph) {
     // SAFETY: the caller's word.
     unsafe { free_graph(graph) }
+}
+
+/// Frees the arrays of traced edges, and leaves none of them.
+///
+/// # Safety
+/// The pointer is to traced edges of the library.
+unsafe fn free_traced<C>(traced: *mut Traced<C>) {
+    // SAFETY: the caller's word.
+    unsafe {
+        let it = &mut *traced;
+        free_array(it.coordinates, it.coordinate_count);
+        free_array(it.fills, it.fill_count);
+        free_array(it.source_ends, it.source_end_count);
+        free_array(it.sources, it.source_count);
+        *it = ::core::mem::zeroed();
+    }
+}
+
+#[no_mangle]
+unsafe extern "C" fn polyover_traced_free(traced: *mut Traced<i64>) {
+    // SAFETY: the caller's word.
+    unsafe { free_traced(traced) }
+}
+
+#[no_mangle]
+unsafe extern "C" fn polyover_traced_free_32(traced: *mut Traced<i32>) {
+    // SAFETY: the caller's word.
+    unsafe { free_traced(traced) }
 }
 
 // ---- what it is made of

@@ -1,9 +1,11 @@
 //! What several tests use.
 
 use polyover::core::fill_rule::FillRule;
+use polyover::core::integer::OverlayInt;
 use polyover::core::overlay_rule::OverlayRule;
 use polyover::i_float::int::number::int::IntNumber;
 use polyover::i_float::int::point::IntPoint;
+use polyover::vector::edge::{VectorPath, VectorShape};
 
 pub const RULES: [OverlayRule; 7] = [
     OverlayRule::Subject,
@@ -56,6 +58,15 @@ impl Random {
 pub fn of<T: From<i16> + IntNumber>(contours: &[Vec<[i16; 2]>]) -> Vec<Vec<IntPoint<T>>> {
     let contour = |it: &Vec<[i16; 2]>| it.iter().map(|it| it.map(T::from).into()).collect();
     contours.iter().map(contour).collect()
+}
+
+/// The contours of shapes, each from that edge on which is the first one in order.
+pub fn turned<I: OverlayInt>(shapes: &[VectorShape<I>]) -> Vec<VectorShape<I>> {
+    let contour = |it: &VectorPath<I>| {
+        let first = (0..it.len()).min_by_key(|&at| (it[at].a, it[at].b)).unwrap_or(0);
+        [&it[first..], &it[..first]].concat()
+    };
+    shapes.iter().map(|it| it.iter().map(contour).collect()).collect()
 }
 
 /// A square, counterclockwise from its low corner.

@@ -8,7 +8,7 @@ use crate::core::hierarchy::{ChildLink, FlatShapeHierarchy};
 use crate::core::integer::OverlayInt;
 use crate::core::overlay_rule::OverlayRule;
 use crate::core::solver::Solver;
-use crate::engine::lists::{listed, make_room_instead, points_of, ranges, shapes_of};
+use crate::engine::lists::{edges_in, listed, make_room_instead, points_of, ranges, shapes_of};
 use crate::engine::options::Options;
 use crate::engine::width::Query;
 use crate::error::{answered, OverlayError};
@@ -105,12 +105,7 @@ impl<I: OverlayInt> Query for Listed<I> {
 
 /// The edges of an answer.
 pub(crate) fn edges_of<I: OverlayInt, E: Engine>(held: &Held<E>) -> Result<Vec<DataVectorEdge<I>>, OverlayError> {
-    let mut ends = points_of(held.coordinates());
-    let edge = |&fill: &u8| {
-        let (a, b, data) = (ends.next()?, ends.next()?, ());
-        Some(DataVectorEdge { a, b, fill, data })
-    };
-    listed(held.fills().len(), held.fills().iter().map_while(edge))
+    edges_in(held.coordinates(), held.fills())
 }
 
 /// The edges of a graph.
