@@ -6,7 +6,7 @@ from array import array
 from fractions import Fraction
 from itertools import islice
 from math import ceil
-from operator import sub
+from operator import index, sub
 from typing import Any, Callable, Iterable, Sequence
 
 from . import calls, piecewise, quick, relations, small
@@ -105,7 +105,7 @@ class Scaled(RulesAtScale):
         self.scale = fraction_of(scale, "the scale")
         if self.scale <= 0:
             raise BadInput(f"the scale {scale} is not above 0")
-        if len(origin) != 2:
+        if not hasattr(origin, "__len__") or len(origin) != 2:
             raise BadInput(f"the origin {origin!r} is no point of two numbers")
         self.origin = tuple(fraction_of(value, "the origin") for value in origin)
         across, up = self.origin
@@ -126,8 +126,11 @@ class Scaled(RulesAtScale):
 
     @classmethod
     def of_digits(cls, digits: int, origin: Sequence[Any] = (0, 0)) -> Scaled:
-        """Returns the scale with `digits` digits behind the decimal point."""
-        return cls(Fraction(10) ** digits, origin)
+        """Returns the scale with `digits` digits behind the decimal point, a whole number."""
+        try:
+            return cls(Fraction(10) ** index(digits), origin)
+        except TypeError:
+            raise BadInput(f"{digits!r} is no whole number of digits") from None
 
     @property
     def lost(self) -> float:

@@ -49,6 +49,15 @@ class ScaledFloats(unittest.TestCase):
         with self.assertRaisesRegex(polyover.BadInput, "the scale '10' is no finite number"):
             polyover.Scaled("10")
 
+    def test_digits_and_origins(self):
+        self.assertEqual(polyover.Scaled.of_digits(-1).scale, Fraction(1, 10))
+        for digits in (2.5, "3", None):
+            with self.assertRaisesRegex(polyover.BadInput, "is no whole number of digits"):
+                polyover.Scaled.of_digits(digits)
+        for origin in (None, 3, (0, 0, 0), (1,)):
+            with self.assertRaisesRegex(polyover.BadInput, "is no point of two numbers"):
+                polyover.Scaled(1, origin)
+
     @unittest.skipIf(numpy is None, "no python3 here has NumPy (Debian's python3-numpy)")
     def test_columns_are_the_same_numbers(self):
         chance, far = random.Random(8), 2.0**60
