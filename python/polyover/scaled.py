@@ -440,7 +440,10 @@ class Scaled(RulesAtScale):
 
     def sides(self, width: Any, height: Any) -> WholePoint:
         """The whole width and height of a cell."""
-        return Scaled(self.scale).whole_point((width, height))
+        found = Scaled(self.scale).whole_point((width, height))
+        if min(found) < 1:
+            raise BadInput(f"cells of {width} by {height} do not fit: at least a unit of the scale wide and high")
+        return found
 
     def is_resolved(self, shape: Group) -> bool:
         """As `polyover.is_resolved`."""

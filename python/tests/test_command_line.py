@@ -261,7 +261,7 @@ class Polygons(unittest.TestCase):
         self.assertIn("a.geojson: feature 2: its member crs is another", said)
 
     def test_words_that_stand_for_nothing(self):
-        for words, fault in ((["simplify", "a", "--min-area", "1/0"], "--min-area: invalid number from 0 on value: '1/0'"),
+        for words, fault in ((["simplify", "a", "--min-area", "1/0"], "--min-area: invalid number from 0 on value"),
                              (["tiles", "a", "1", "1/0"], "HIGH: invalid number"),
                              (["simplify", "a", "--out", ""], "--out: invalid name of a file"),
                              (["simplify", "a", "--svg", ""], "--svg: invalid name of a file"),

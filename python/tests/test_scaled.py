@@ -49,6 +49,11 @@ class ScaledFloats(unittest.TestCase):
         with self.assertRaisesRegex(polyover.BadInput, "the scale '10' is no finite number"):
             polyover.Scaled("10")
 
+    def test_cells_that_are_too_small(self):
+        for width, height in ((0.04, 1), (1, 0), (1, -3)):
+            with self.assertRaisesRegex(polyover.BadInput, f"cells of {width} by {height} do not fit: at least a unit"):
+                polyover.Scaled(10).tiles([[(0, 0), (1, 0), (1, 1)]], width, height)
+
     def test_digits_and_origins(self):
         self.assertEqual(polyover.Scaled.of_digits(-1).scale, Fraction(1, 10))
         for digits in (2.5, "3", None):
