@@ -14,9 +14,9 @@ from .geojson import collection
 
 # (up to which number decimals of few digits are written, and floats are whole units exactly)
 Limits = tuple[float, float]
-# (floats hold all whole numbers up to this one)
+# (floats hold all whole numbers below this one, which stands for the next one too)
 WHOLE = 2.0**53
-ROUNDED = "coordinates of the answer over 2^53 units of the last digit from 0 are given as the nearest floats"
+ROUNDED = "coordinates of the answer 2^53 units of the last digit from 0, or more, are given as the nearest floats"
 # (decimals of this many digits are texts of different floats, and Python makes them soonest)
 DIGITS = 14
 POINT = f"[{{:.{DIGITS}}}, {{:.{DIGITS}}}], "
@@ -111,12 +111,12 @@ def parted(feature: dict[str, Any], digits: int) -> tuple[dict[str, Any], str]:
 
 
 def path_text(path: Sequence[Any], limits: Limits) -> str:
-    """The text of points of floats; by `json` where one is not below the first limit. Says where one is above the
-    second: more than one whole number of units has that float."""
+    """The text of points of floats; by `json` where one is not below the first limit. Says where one is not below
+    the second: more than one whole number of units has that float."""
     numbers = list(chain.from_iterable(path))
     least, most = min(numbers), max(numbers)
     if not -limits[0] < least <= most < limits[0]:
-        if max(-least, most) > limits[1]:
+        if max(-least, most) >= limits[1]:
             warnings.warn(ROUNDED, PolyoverWarning, stacklevel=2)
         return json.dumps(path)
     return f"[{(POINT * len(path))[:-2]}]".format(*numbers)

@@ -54,12 +54,12 @@ class Written(unittest.TestCase):
         self.assertEqual(writing.feature_text(one, 7), json.dumps(one))
 
     def test_units_that_floats_do_not_hold(self):
-        for digits, most in ((0, 2.0**53), (3, 9007199254740.992), (-3, 9007199254740992000.0)):
+        for digits, most in ((0, 2.0**53 - 1), (3, 9007199254740.99), (-3, 9007199254740990000.0)):
             with warnings.catch_warnings():
                 warnings.simplefilter("error")
                 self.check(feature("MultiLineString", [[(0.0, -most), (most, 0.0)]]), digits=digits)
-            for point in ((2 * most, 0.0), (0.0, -2 * most)):
-                with self.assertWarnsRegex(PolyoverWarning, "coordinates of the answer over 2\\^53 units"):
+            for point in ((2.0**53 / 10.0**digits, 0.0), (0.0, -2 * most)):
+                with self.assertWarnsRegex(PolyoverWarning, "coordinates of the answer 2\\^53 units"):
                     self.check(feature("MultiLineString", [[(0.0, 0.0), point]]), digits=digits)
 
     def test_numbers_that_json_does_not_hold(self):
