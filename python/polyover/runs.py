@@ -25,11 +25,13 @@ from .reading import Lines, Polygons, check_range
 from .scaled import Scaled
 from .systems import DEFAULT, DEGREES
 from .together import Asked, Pair, Points
+from .told import counted
 from .words import fill_of, groups_of, look_of, paths_of, polygons_of, rings_of, rows_of
 from .writing import json_text
 
 KEEPING = ("intersect", "difference")
 LOCATION = "location"
+POINTLESS = counted("# [feature without a point is|features without a point are] left out")
 
 
 @contextmanager
@@ -293,7 +295,8 @@ def run_locate(given: Any) -> None:
         for name in ("inside", "boundary", "outside"):
             picture.add_points(name, [point for point, place in zip(points, told) if place == name])
     found, moved = iter(told), name_for_own(places)
-    features = [located(each, found, moved) for each in places.features]
+    features = [located(each, found, moved) for each in places.features if each.is_null or has_point(each, places)]
+    places.told.say()
     leave(given, features, picture, places)
 
 
@@ -303,6 +306,13 @@ def whole_points_of(scaled: Scaled, places: File, points: Sequence[Any]) -> Whol
     parts = [part for each in places.features for part in each.parts]
     check_range(places.name, [(part.place, [point]) for part, point in zip(parts, found)])
     return found
+
+
+def has_point(each: Feature, places: File) -> bool:
+    """Whether a feature has a point; one that has none is counted."""
+    if not each.parts:
+        places.told.add(POINTLESS, each.place)
+    return bool(each.parts)
 
 
 def name_for_own(places: File) -> str:

@@ -210,6 +210,15 @@ class Polygons(unittest.TestCase):
         self.assertEqual(left["features"][1]["id"], 7)
         self.assertEqual(left["features"][0]["geometry"], {"type": "Point", "coordinates": [1, 1, 8]})
 
+    def test_locate_leaves_out_what_has_no_point(self):
+        area = collection(feature("Polygon", [square(0, 0, 4, 4)]))
+        null = {"type": "Feature", "properties": {}, "geometry": None}
+        points = collection(feature("Polygon", [square(0, 0, 1, 1)]), null, feature("Point", [1, 1]),
+                            feature("MultiPoint", []))
+        _, left, said, _ = ran("locate", area, points)
+        self.assertEqual(left["features"], [null, feature("Point", [1, 1], location="inside")])
+        self.assertIn("b.geojson: 2 features without a point are left out (the first: feature 1)", said)
+
     def test_locate_keeps_a_property_of_that_name(self):
         area = collection(feature("Polygon", [square(0, 0, 4, 4)]))
         points = collection(feature("Point", [1, 1], location="Rome", name="a"), feature("Point", [9, 9], name="b"))
