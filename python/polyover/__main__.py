@@ -252,8 +252,8 @@ def parsed(words: Sequence[str] | None) -> argparse.Namespace:
             add_files(command, name)
         add_answers(command, name)
     add_options(commands.choices)
-    of_run = {"help": run_program.__doc__, "description": f"{run_program.__doc__}: docs/PROGRAM.md has its grammar."}
-    commands.add_parser("run", **of_run).set_defaults(run=run_program)
+    about = f"{run_program.__doc__}: docs/PROGRAM.md has its grammar."
+    commands.add_parser("run", help=run_program.__doc__, description=about).set_defaults(run=run_program)
     add_play(commands)
     return parser.parse_args(with_keep(sys.argv[1:] if words is None else words))
 
