@@ -8,8 +8,19 @@ from typing import Any, Callable, Iterable, Iterator, Sequence
 
 from .contour import points_in
 from .flat import parted
-from .geojson import LINES, LISTS, POINTS, POLYGONS, Feature, Part, Place, PlainLine, PlainPolygon, Reader
-from .geojson import plain_numbers
+from .geojson import (
+    LINES,
+    LISTS,
+    POINTS,
+    POLYGONS,
+    Feature,
+    Part,
+    Place,
+    PlainLine,
+    PlainPolygon,
+    Reader,
+    plain_numbers,
+)
 
 # (of more the points leave the processor's cache)
 AT_ONCE = 200
