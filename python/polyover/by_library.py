@@ -11,8 +11,8 @@ from typing import Any, Callable
 from .errors import LibraryMissing, NotResolved
 from .flat import Flat, FlatShapes, address_of, parted
 from .grid import grid_lines
-from .library import BYTES, COORDINATES, ClipOptions, Contours, EdgeList, Held, HeldGraph, HeldShape, HeldTrace
-from .library import Library, Options, SliceOptions, Status, check
+from .library import BYTES, COORDINATES, ClipOptions, Contours, EdgeList, Held, HeldExactly, HeldGraph, HeldShape
+from .library import HeldTrace, Library, Options, SliceOptions, Status, check
 from .library import library as found_library
 from .text import FILLS, RELATION_BITS, RULES, SOLVERS
 
@@ -25,7 +25,8 @@ RESULTS = ("overlay", "hierarchy", "simplify", "edges", "clip", "slice")
 # the function of the library that each call takes
 TAKES = {
     **{name: f"polyover_{name}_result" for name in RESULTS},
-    **{name: f"polyover_{name}" for name in ("relate", "relate_one", "relate_exact", "locate", "prepare", "arrange")},
+    **{name: f"polyover_{name}" for name in ("relate", "relate_one", "relate_exact", "locate", "arrange")},
+    **{name: f"polyover_{name}" for name in ("prepare", "prepare_exact")},
     "tiles": "polyover_slice_result",
     "slice_custom": "polyover_slice_custom_result",
     "is_resolved": "polyover_resolved",
@@ -243,6 +244,12 @@ def prepare(shape: Any, fill: str, solver: str) -> HeldShape:
     """A prepared shape."""
     asked = library()
     return HeldShape(asked, FILL_NUMBERS[fill], SOLVER_NUMBERS[solver], asked.contours(shape))
+
+
+def prepare_exact(shape: Any, fill: str) -> HeldShape:
+    """A shape as it is given."""
+    asked = library()
+    return HeldExactly(asked, FILL_NUMBERS[fill], asked.contours(shape))
 
 
 # ---- an arrangement, and what is asked of it

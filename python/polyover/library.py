@@ -175,6 +175,12 @@ class PreparedShape(Structure):
     ]
 
 
+class ExactShape(PreparedShape):
+    """A shape as it is given, in memory of the library."""
+
+    _fields_ = [("fill", c_uint32)]
+
+
 class Graph(Structure):
     """A graph in memory of the library."""
 
@@ -224,7 +230,7 @@ class Traced(Structure):
 SOURCE = Struct("@NBB0N")
 ARRAY = (c_void_p, c_size_t)
 CONTOURS, RESULT, PREPARED, GRAPH = POINTER(Contours), POINTER(Result), POINTER(PreparedShape), POINTER(Graph)
-TRACED = POINTER(Traced)
+EXACT, TRACED = POINTER(ExactShape), POINTER(Traced)
 TWO = (c_uint32, c_uint32, CONTOURS, CONTOURS)
 OVERLAY = (c_uint32, c_uint32, POINTER(Options), CONTOURS, CONTOURS)
 FUNCTIONS = {
@@ -246,6 +252,9 @@ FUNCTIONS = {
     "polyover_prepare": (c_uint32, c_uint32, CONTOURS, PREPARED),
     "polyover_prepared_locate": (PREPARED, *ARRAY, *ARRAY),
     "polyover_prepared_free": (PREPARED,),
+    "polyover_prepare_exact": (c_uint32, CONTOURS, EXACT),
+    "polyover_exact_locate": (EXACT, *ARRAY, *ARRAY),
+    "polyover_exact_free": (EXACT,),
     "polyover_arrange": (c_uint32, *TWO, GRAPH),
     "polyover_graph_overlay_result": (GRAPH, c_uint32, POINTER(Options), RESULT),
     "polyover_graph_hierarchy_result": (GRAPH, c_uint32, POINTER(Options), RESULT),
@@ -254,7 +263,7 @@ FUNCTIONS = {
     "polyover_trace": (c_uint32, c_uint32, c_uint32, POINTER(EdgeList), TRACED),
     "polyover_traced_free": (TRACED,),
 }
-FREES = {"polyover_free", "polyover_prepared_free", "polyover_graph_free", "polyover_traced_free"}
+FREES = {"polyover_free", *(f"polyover_{name}_free" for name in ("prepared", "exact", "graph", "traced"))}
 # (of small calls, which take the addresses of structs and arrays)
 FRAMED = {
     "polyover_resolved": (c_void_p,),
@@ -368,10 +377,13 @@ class Library:
 class HeldShape:
     """A prepared shape, where the library has it: its memory is freed once nothing refers to this."""
 
-    def __init__(self, asked: Library, fill: int, solver: int, contours: Contours) -> None:
-        self.asked, self.shape = asked, PreparedShape()
-        check(asked.call("polyover_prepare", fill, solver, contours, self.shape))
-        finalize(self, asked.functions.polyover_prepared_free, self.shape)
+    TYPE: type[PreparedShape] = PreparedShape
+    MADE, ASKED, FREED = "polyover_prepare", "polyover_prepared_locate", "polyover_prepared_free"
+
+    def __init__(self, asked: Library, *given: Any) -> None:
+        self.asked, self.shape = asked, self.TYPE()
+        check(asked.call(self.MADE, *given, self.shape))
+        finalize(self, getattr(asked.functions, self.FREED), self.shape)
 
     def locate(self, points: Any) -> bytearray:
         """A number for each point, which tells where it lies."""
@@ -379,8 +391,15 @@ class HeldShape:
         found = bytearray(queries.coordinate_count // 2)
         room, _ = address_of(found)
         given = queries.coordinates, queries.coordinate_count
-        check(self.asked.call("polyover_prepared_locate", self.shape, *given, room, len(found)))
+        check(self.asked.call(self.ASKED, self.shape, *given, room, len(found)))
         return found
+
+
+class HeldExactly(HeldShape):
+    """A shape as it is given, where the library has it."""
+
+    TYPE = ExactShape
+    MADE, ASKED, FREED = "polyover_prepare_exact", "polyover_exact_locate", "polyover_exact_free"
 
 
 class HeldGraph:

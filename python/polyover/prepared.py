@@ -2,38 +2,64 @@
 
 from __future__ import annotations
 
+import warnings
 from typing import Any, Literal, overload
 
 from . import by_library, calls
-from .errors import BadInput, LibraryMissing
+from .errors import BadInput, LibraryMissing, PolyoverWarning
 from .library import HeldShape
-from .text import FILLS, LOCATIONS, SNAPPED, Fill, Solver, known
+from .text import AS_GIVEN, FILLS, LOCATIONS, RELATION_SOLVERS, SNAPPED, Fill, RelationSolver, known
 
 MISSING = (
     "no library that has prepared shapes, and the program has none: "
     "the library of this version is in a release's wheel, or scripts/build or make -C c builds it"
 )
+NO_EXACT = (
+    "no library that tells where points lie in contours as they are given: "
+    "the library of this version is in a release's wheel, or scripts/build or make -C c builds it"
+)
+OF_ARRANGEMENT = "points are located in the arrangement of the contours: the library is older"
 IS_INSIDE = bytes(word == "inside" for word in LOCATIONS).ljust(256, b"\0")
+
+
+def solver_of(solver: RelationSolver | None, level: int = 3) -> RelationSolver:
+    """The solver by which a shape is prepared: "exact" if none is asked for, unless the library is older, of which a
+    warning tells the caller at this level. Raises LibraryMissing where "exact" is asked for in vain."""
+    if solver is not None and known(RELATION_SOLVERS, solver, "solver") != AS_GIVEN:
+        return solver
+    if by_library.can("prepare_exact"):
+        return AS_GIVEN
+    if solver is not None:
+        raise LibraryMissing(NO_EXACT)
+    if by_library.can("prepare"):
+        warnings.warn(OF_ARRANGEMENT, PolyoverWarning, stacklevel=level)
+    return SNAPPED
 
 
 class Prepared:
     """A shape that is asked again and again where points lie: what any contours fill under a fill rule.
 
-    The contours may cross themselves and others: their edges are split by the solver. The edges with one filled side
-    are kept, its boundary; a point on one of them lies on the boundary, and any other where the rule fills its winding
-    inside. A question asks these edges alone, so the contours may go.
+    The contours may cross themselves and others. They are taken as they are given, and nothing is rounded: a point lies
+    inside where all points near it off the contours are filled, outside where none is, and else on the boundary. A
+    question asks their edges alone, so the contours may go.
+
+    With a solver it is the shape of their arrangement, and so it is, with a warning, by a library that is older. The
+    solver "exact" asks for the contours as they are given.
 
     Threads may ask at once. Its memory is given back by `close`, at the end of `with`, or else once nothing refers to
     it. The program has no prepared shapes: without the library there is LibraryMissing.
     """
 
-    def __init__(self, shape: Any, fill: Fill = "nonzero", *, solver: Solver = SNAPPED) -> None:
+    def __init__(self, shape: Any, fill: Fill = "nonzero", *, solver: RelationSolver | None = None) -> None:
         self._held: HeldShape | None = None
-        fill, solver, shape = known(FILLS, fill, "fill rule"), calls.solver_of(solver), calls.listed("shape", shape)
-        if not by_library.can("prepare"):
+        fill, solver, shape = known(FILLS, fill, "fill rule"), solver_of(solver), calls.listed("shape", shape)
+        if solver != AS_GIVEN and not by_library.can("prepare"):
             raise LibraryMissing(MISSING)
         with calls.placed(shape=shape):
-            self._held = by_library.prepare(shape, fill, solver)
+            if solver == AS_GIVEN:
+                self._held = by_library.prepare_exact(shape, fill)
+            else:
+                self._held = by_library.prepare(shape, fill, solver)
 
     @overload
     def locate(self, points: Any, *, arrays: Literal[False] = False) -> list[str]: ...

@@ -7,23 +7,25 @@ from fractions import Fraction
 from itertools import count, islice
 from typing import Any, Callable, Iterable, Iterator, Sequence
 
-from . import calls, files, geojson, leaving, together
+from . import by_library, calls, files, geojson, leaving, together
 from .answers import feature_of, leave, null_feature, say
 from .columns import numpy_for
 from .content import File
 from .contour import Row, WholePath
 from .errors import BadInput
-from .flat import flat_rows
+from .flat import Flat, flat_rows
 from .formats import GEOJSON, format_of
 from .geojson import Feature
 from .inputs import picture_of
 from .layers import features_of_both
 from .nearby import LinesNearby, Nearby
 from .picture import Picture
+from .prepared import Prepared
 from .progress import faults_of, long_work
 from .reading import Lines, Polygons, check_range
 from .scaled import Scaled
 from .systems import DEFAULT, DEGREES
+from .text import Fill
 from .together import Asked, Pair, Points
 from .told import counted
 from .words import fill_of, groups_of, look_of, paths_of, polygons_of, rings_of, rows_of
@@ -286,9 +288,8 @@ def run_locate(given: Any) -> None:
     scaled = Scaled.of_digits(given.digits)
     with work_on_two(given, f"places of {places.count} features in {rings_of(area)} rings", area, places):
         contours = flat_rows(scaled.whole_rows(polygons_of(given, area)))
-        shapes = calls.overlay(contours, (), "subject", fill_of(given), arrays=True)
         points = [point[:2] for path in paths_of(places) for point in path]
-        told = calls.locate(shapes.contours, whole_points_of(scaled, places, points))
+        told = told_in(contours, whole_points_of(scaled, places, points), fill_of(given))
     picture = Picture("points, located")
     if given.svg:
         picture.add_contours("subject", paths_of(area))
@@ -298,6 +299,14 @@ def run_locate(given: Any) -> None:
     features = [located(each, found, moved) for each in places.features if each.is_null or has_point(each, places)]
     places.told.say()
     leave(given, features, picture, places)
+
+
+def told_in(contours: Flat, points: WholePath, fill: Fill) -> list[str]:
+    """Where points lie in contours: as these are given, or, where the library can't tell that, once edges are split."""
+    if by_library.can("prepare_exact"):
+        return Prepared(contours, fill).locate(points)
+    shapes = calls.overlay(contours, (), "subject", fill, arrays=True)
+    return calls.locate(shapes.contours, points)
 
 
 def whole_points_of(scaled: Scaled, places: File, points: Sequence[Any]) -> WholePath:

@@ -9,7 +9,7 @@ from math import ceil
 from operator import index, sub
 from typing import Any, Callable, Iterable, Sequence
 
-from . import calls, piecewise, quick, relations, small
+from . import by_library, calls, piecewise, quick, relations, small
 from .columns import ERROR, EXACT, LEAST, row_of_points, whole_points
 from .contour import Row, WholePath, WholePoint, points_in, row_of
 from .errors import BadInput
@@ -17,7 +17,7 @@ from .flat import Flat, FlatFloats, FlatShapes, copied, flat_rows, parted
 from .geojson import is_geometry, points_of
 from .library import library
 from .numbers import ratio_of
-from .prepared import Prepared
+from .prepared import Prepared, solver_of
 from .progress import faults_of
 from .reading import Lines, Polygons, lines_in, polygons_in
 from .rules import listed_groups
@@ -450,12 +450,15 @@ class Scaled(RulesAtScale):
         return calls.is_resolved(self._taken("shape", shape))
 
     def locate(self, shape: Group, points: Any, **options: Any) -> Any:
-        """As `polyover.locate`; the polygons of a geometry are joined first."""
+        """As `polyover.locate`; of a geometry in what its polygons cover, as they are taken at this scale. Where the
+        library can't tell that, they are joined first."""
+        if covers(shape) and by_library.can("prepare_exact"):
+            return self.prepared(shape).locate(points, **options)
         region = self.region("shape", shape, "evenodd")
         return calls.locate(region, self.whole_points(points), **options)
 
-    def prepared(self, shape: Group, fill: Fill = "nonzero", *, solver: Solver = SNAPPED) -> Prepared:
-        """As `polyover.Prepared`, asked by points of floats."""
+    def prepared(self, shape: Group, fill: Fill = "nonzero", *, solver: RelationSolver | None = None) -> Prepared:
+        """As `polyover.Prepared`, of the coordinates as they are taken at this scale, asked by points of floats."""
         return PreparedAtScale(self, shape, fill, solver)
 
     def whole_points(self, points: Any) -> WholePath:
@@ -466,9 +469,12 @@ class Scaled(RulesAtScale):
 class PreparedAtScale(Prepared):
     """A prepared shape whose contours and points are floats, taken as whole numbers at a scale."""
 
-    def __init__(self, scaled: Scaled, shape: Group, fill: Fill, solver: Solver) -> None:
-        region = scaled.region("shape", shape, fill, solver)
-        super().__init__(region, fill, solver=solver)
+    def __init__(self, scaled: Scaled, shape: Group, fill: Fill, solver: RelationSolver | None) -> None:
+        fill, solver = known(FILLS, fill, "fill rule"), solver_of(solver, 4)
+        # (where nothing is rounded, nonzero fills what a geometry covers without joining its polygons)
+        if solver == AS_GIVEN and covers(shape):
+            fill = "nonzero"
+        super().__init__(scaled.region("shape", shape, fill, relations.splitting(solver)), fill, solver=solver)
         self._scaled = scaled
 
     def _whole(self, points: Any) -> Any:

@@ -1,4 +1,5 @@
-"""Relations of two shapes as they are given, by their definition: an arrangement in fractions, in which no point moves.
+"""Relations of two shapes as they are given, by their definition: an arrangement in fractions, in which no point moves;
+and where points lie in a shape.
 
 A shape is the closure of the points off its contours that its rule fills. Contours are cut at all their meeting points.
 Off the pieces the plane falls into faces, and each face has a side of some piece: so windings at one point beside each
@@ -6,6 +7,7 @@ side of each piece tell of all faces.
 """
 
 from fractions import Fraction
+from functools import cmp_to_key
 from itertools import combinations
 
 FILLED = {
@@ -114,3 +116,32 @@ def relations(pieces, fill):
         "disjoint": not meets_at_a_point,
         "covers": interiors and (False, True) not in faces,
     }
+
+
+def angle_order(u, v):
+    """Whether a direction comes before another: counterclockwise, from that to the right on."""
+    is_low, is_other_low = (y < 0 or (y == 0 and x < 0) for x, y in (u, v))
+    return is_low - is_other_low or turn((0, 0), v, u)
+
+
+def directions_between(steps, p):
+    """Directions from p into each of the parts in which steps through p, and lines along the axes, leave a small disc
+    round it."""
+    ways = [(1, 0), (0, 1), (-1, 0), (0, -1)]
+    for q, r in steps:
+        if turn(q, r, p) == 0 and min(q, r) <= p <= max(q, r):
+            ways += [(end[0] - p[0], end[1] - p[1]) for end in (q, r) if end != p]
+    ways.sort(key=cmp_to_key(angle_order))
+    for u, v in zip(ways, ways[1:] + ways[:1]):
+        if angle_order(u, v):
+            yield u[0] + v[0], u[1] + v[1]
+
+
+def location(contours, fill, p):
+    """Where a point lies in a shape: inside where all points near it off the contours are filled, outside where none
+    is, and on the boundary where there are both however near."""
+    steps, seen = steps_of(contours), set()
+    for x, y in directions_between(steps, p):
+        way = p[0] + x, p[1] + y
+        seen.add(FILLED[fill](winding(steps, point_between(p, way, clear_part(p, way, steps)))))
+    return "boundary" if len(seen) == 2 else "inside" if True in seen else "outside"

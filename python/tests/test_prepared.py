@@ -10,7 +10,7 @@ from unittest import mock
 
 import polyover
 from polyover import library
-from polyover.text import FILLS, SOLVERS
+from polyover.text import FILLS, RELATION_SOLVERS
 
 from .rows import FRAME, HALL, NESTED, OTHER, SQUARE, UNSETTLED
 from .there import ask_library_alone, asked_alone, with_library
@@ -41,7 +41,7 @@ class ByHand(unittest.TestCase):
 
     def located(self, shape, expected, *given, **options):
         """That points lie where they should: a dictionary."""
-        for solver in SOLVERS:
+        for solver in (None, *RELATION_SOLVERS):
             prepared = polyover.Prepared(shape, *given, solver=solver, **options)
             self.assertEqual(prepared.locate(list(expected)), list(expected.values()))
             self.assertEqual(prepared.contains(list(expected)), [word == IN for word in expected.values()])
@@ -192,11 +192,11 @@ class Refused(unittest.TestCase):
         for owner in (polyover.Prepared, polyover.Scaled(1).prepared):
             with self.assertRaisesRegex(polyover.BadInput, "unknown fill rule 'odd'"):
                 owner([SQUARE], "odd")
-            with self.assertRaisesRegex(polyover.BadInput, "unknown solver 'exact'"):
-                owner([SQUARE], solver="exact")
+            with self.assertRaisesRegex(polyover.BadInput, "unknown solver 'snap'"):
+                owner([SQUARE], solver="snap")
         with self.assertRaisesRegex(polyover.NotSettled, "64 rounds"):
             polyover.Prepared(UNSETTLED, solver="rounds")
-        self.assertEqual(polyover.Prepared(UNSETTLED).locate([(2, 67)]), [OUT])
+        self.assertEqual(polyover.Prepared(UNSETTLED, solver="snapped").locate([(2, 67)]), [OUT])
 
     @with_library
     def test_points(self):
@@ -229,7 +229,8 @@ class Refused(unittest.TestCase):
     @with_library
     def test_an_older_library(self):
         ask_library_alone(self)
-        with mock.patch.object(library.library(), "names", library.library().names - {"polyover_prepare"}):
+        names = library.library().names - {"polyover_prepare", "polyover_prepare_exact"}
+        with mock.patch.object(library.library(), "names", names):
             with self.assertRaisesRegex(polyover.LibraryMissing, "no library that has prepared shapes"):
                 polyover.Prepared([SQUARE])
 
@@ -242,10 +243,11 @@ class Memory(unittest.TestCase):
         ask_library_alone(self)
         self.freed = []
         functions = library.library().functions
-        free = functions.polyover_prepared_free
-        patch = mock.patch.object(functions, "polyover_prepared_free", lambda it: self.freed.append(free(it)))
-        patch.start()
-        self.addCleanup(patch.stop)
+        for name in ("polyover_prepared_free", "polyover_exact_free"):
+            free = getattr(functions, name)
+            patch = mock.patch.object(functions, name, lambda it, free=free: self.freed.append(free(it)))
+            patch.start()
+            self.addCleanup(patch.stop)
 
     def test_closed(self):
         prepared = polyover.Prepared(FRAME)
