@@ -48,7 +48,19 @@ const OPTIONS = 32;
 const CLIP_OPTIONS = 12;
 const SLICE_OPTIONS = 24;
 const RESULT = 2 * SIZE * ARRAYS.length;
-const PREPARED = 6 * SIZE;
+/** Shapes that are asked again and again, of an arrangement and as they are given: the size of each, and its calls. */
+const ARRANGED = {
+  size: 6 * SIZE,
+  prepare: "polyover_prepare",
+  locate: "polyover_prepared_locate",
+  free: "polyover_prepared_free",
+};
+const AS_GIVEN = {
+  size: 7 * SIZE,
+  prepare: "polyover_prepare_exact",
+  locate: "polyover_exact_locate",
+  free: "polyover_exact_free",
+};
 const GRAPH = 4 * SIZE;
 const MOST_64 = 2n ** 64n - 1n;
 
@@ -386,41 +398,51 @@ export class Library {
     });
   }
 
-  /** The address of a prepared shape, of coordinates of 64 bits; `freePrepared` gives its memory back. */
+  /** A prepared shape, of coordinates of 64 bits; `freePrepared` gives its memory back. */
   prepare({ groups: [shape], grid }, fill, solver) {
+    return this.prepared(ARRANGED, shape, grid, [fill, solver]);
+  }
+
+  /** The same of contours as they are given: nothing is rounded. */
+  prepareExact({ groups: [shape], grid }, fill) {
+    return this.prepared(AS_GIVEN, shape, grid, [fill]);
+  }
+
+  /** The address of a shape that a call prepares, and its calls; the first arguments of the call are given. */
+  prepared(calls, shape, grid, given) {
     return this.hold((held) => {
       const contours = this.contours(held, shape, grid);
-      const at = this.calls.malloc(BigInt(PREPARED));
+      const at = this.calls.malloc(BigInt(calls.size));
       if (at === 0n) {
         throw new OutOfMemory();
       }
       try {
-        check(this.calls.polyover_prepare(fill, solver, contours, at));
+        check(this.calls[calls.prepare](...given, contours, at));
       } catch (fault) {
         this.calls.free(at);
         throw fault;
       }
-      return Number(at);
+      return { at, calls };
     });
   }
 
   /** A number for each point of 64 bits, which tells where it lies in a prepared shape: its place in LOCATIONS. */
-  preparedLocate(at, { groups: [points], grid }) {
+  preparedLocate({ at, calls }, { groups: [points], grid }) {
     return this.hold((held) => {
       const numbers = this.numbers(held, points, grid);
       const found = new Row(held, Uint8Array, numbers.count / 2);
-      check(this.calls.polyover_prepared_locate(BigInt(at), ...numbers.arguments, ...found.arguments));
+      check(this.calls[calls.locate](at, ...numbers.arguments, ...found.arguments));
       return found.view().slice();
     });
   }
 
-  /** The same of a shape that is prepared for these points alone. */
-  regionLocate({ groups: [shape, points], grid }, fill, solver) {
-    const at = this.prepare({ groups: [shape], grid }, fill, solver);
+  /** The same of contours as they are given, for these points alone. */
+  regionLocate({ groups: [shape, points], grid }, fill) {
+    const prepared = this.prepareExact({ groups: [shape], grid }, fill);
     try {
-      return this.preparedLocate(at, { groups: [points], grid });
+      return this.preparedLocate(prepared, { groups: [points], grid });
     } finally {
-      this.freePrepared(at);
+      this.freePrepared(prepared);
     }
   }
 
@@ -469,8 +491,8 @@ export class Library {
   }
 
   /** Gives the memory of a prepared shape back. */
-  freePrepared(at) {
-    this.calls.polyover_prepared_free(BigInt(at));
-    this.calls.free(BigInt(at));
+  freePrepared({ at, calls }) {
+    this.calls[calls.free](at);
+    this.calls.free(at);
   }
 }

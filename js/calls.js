@@ -6,7 +6,7 @@ import { Arrangement } from "./arrangement.js";
 import { BadInput } from "./errors.js";
 import { misfit, sideOf } from "./cells.js";
 import { isGeometry, partsOf } from "./geojson.js";
-import { EXACT, alike, askedOf, chosen, chosenToRelate, grouped, listed, pointsOf } from "./given.js";
+import { EXACT, alike, askedOf, chosen, chosenAsGiven, grouped, listed, pointsOf } from "./given.js";
 import { Prepared } from "./prepared.js";
 import { shown } from "./shown.js";
 
@@ -89,7 +89,7 @@ export class Polyover {
    * With another solver than "exact" they are those of an arrangement, told at the finest scale in the range.
    */
   relate(subject, clip, options = {}) {
-    const { fill, solver } = chosenToRelate(options);
+    const { fill, solver } = chosenAsGiven(options);
     const isExact = solver === EXACT;
     // (the regions of two geometries are the same under each rule: no polygons need be joined)
     const rule = isExact && [subject, clip].every(isGeometry) ? NONZERO : fill;
@@ -137,12 +137,18 @@ export class Polyover {
     });
   }
 
-  /** The shape that contours fill, made ready to be asked again and again where points lie: a `Prepared`. */
+  /**
+   * The shape that contours fill as they are given, nothing rounded, made ready to be asked again and again where
+   * points lie: a `Prepared`. With another solver than "exact" it is that of their arrangement.
+   */
   prepare(shape, options = {}) {
-    const { fill, solver } = chosen(options, ["fill", "solver"]);
-    return this.#filled({ shape }, { fill, solver }, "lists", (asked) => {
-      const groups = alike(asked.groups, Float64Array, asked.grid);
-      return new Prepared(this.#library, this.#library.prepare({ ...asked, groups }, fill, solver), this.#grid);
+    const { fill, solver } = chosenAsGiven(options);
+    const isExact = solver === EXACT;
+    const rule = isExact && isGeometry(shape) ? NONZERO : fill;
+    return this.#filled({ shape }, { fill: rule, solver: isExact ? SNAPPED : solver }, "lists", (asked) => {
+      const whole = { ...asked, groups: alike(asked.groups, Float64Array, asked.grid) };
+      const found = isExact ? this.#library.prepareExact(whole, rule) : this.#library.prepare(whole, fill, solver);
+      return new Prepared(this.#library, found, this.#grid);
     });
   }
 
@@ -213,7 +219,7 @@ export class Polyover {
   /** Where points lie in the region that the contours of a geometry wind round. */
   #inRegion(asked) {
     const groups = alike(asked.groups, Float64Array, asked.grid);
-    return this.#library.regionLocate({ ...asked, groups }, NONZERO, SNAPPED);
+    return this.#library.regionLocate({ ...asked, groups }, NONZERO);
   }
 
   /** The contours of a geometry for a fill rule. (By even-odd none would be where two polygons are.) */

@@ -35,9 +35,9 @@ const OPTIONS = {
   answer: [undefined, (value) => (value === undefined ? value : ANSWERS[placeIn(ANSWERS, "answer")(value)])],
 };
 
-/** The number of the solver "exact", which relations have beside the others: it makes no arrangement. */
+/** The number of the solver "exact", which relations and prepared shapes have: it makes no arrangement. */
 export const EXACT = SOLVERS.length;
-const RELATING = { ...OPTIONS, solver: ["exact", placeIn([...SOLVERS, "exact"], "solver")] };
+const AS_GIVEN = { ...OPTIONS, solver: ["exact", placeIn([...SOLVERS, "exact"], "solver")] };
 
 /** The options of a call, each of which has one of these names, with the defaults of those not given. */
 export function chosen(options, names, grid, table = OPTIONS) {
@@ -46,9 +46,9 @@ export function chosen(options, names, grid, table = OPTIONS) {
   return Object.fromEntries(values.map(([name, value]) => [name, table[name][1](value, grid)]));
 }
 
-/** The options of a call for relations. */
-export function chosenToRelate(options) {
-  return chosen(options, ["fill", "solver"], undefined, RELATING);
+/** The options of a call that tells of contours as they are given, if no other solver is asked for. */
+export function chosenAsGiven(options) {
+  return chosen(options, ["fill", "solver"], undefined, AS_GIVEN);
 }
 
 // ---- groups

@@ -39,7 +39,7 @@ export type Rule = "subject" | "clip" | "intersect" | "union" | "difference" | "
 export type Fill = "evenodd" | "nonzero" | "positive" | "negative";
 /** How edges that cross are split: by snap rounding, or in rounds, which needles may refuse with `NotSettled`. */
 export type Solver = "snapped" | "rounds";
-/** How relations are told: of the contours as they are given, or of an arrangement by a solver. */
+/** How relations are told, and points located: in the contours as they are given, or an arrangement by a solver. */
 export type RelationSolver = "exact" | Solver;
 /** The form of an answer; that of the first group where none is named. */
 export type Form = "lists" | "arrays" | "geojson";
@@ -58,7 +58,7 @@ export interface FillOptions extends SolverOptions {
 export interface RelateOptions {
   /** "nonzero" if it is not given. A geometry is its region under each rule. */
   fill?: Fill;
-  /** "exact" if it is not given; with another one relations are those of an arrangement, at the finest scale. */
+  /** "exact" if it is not given; with another one it is told of an arrangement, of relations at the finest scale. */
   solver?: RelationSolver;
 }
 export interface AnswerOptions<F extends Form> {
@@ -240,8 +240,8 @@ export class Polyover {
     points: P,
     options?: AnswerOptions<F>,
   ): LocationsAs[F];
-  /** The shape that the contours fill, made ready to be asked again and again where points lie. */
-  prepare(shape: Paths, options?: FillOptions): Prepared;
+  /** The shape that the contours fill as they are given, made ready to be asked again and again where points lie. */
+  prepare(shape: Paths, options?: RelateOptions): Prepared;
   /** Two groups of contours, whose edges are split where they meet once, to be asked for any overlay of them. */
   arrangement<P extends Paths, Q extends Paths = []>(
     subject: P,
@@ -354,7 +354,7 @@ export class RemotePolyover {
     points: P,
     options?: AnswerOptions<F>,
   ): Promise<LocationsAs[F]>;
-  prepare(shape: Paths, options?: FillOptions): Promise<RemotePrepared>;
+  prepare(shape: Paths, options?: RelateOptions): Promise<RemotePrepared>;
   arrangement<P extends Paths, Q extends Paths = []>(
     subject: P,
     clip?: Q,

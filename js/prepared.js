@@ -13,14 +13,14 @@ const forgotten = new FinalizationRegistry((held) => held.free());
 
 /** A prepared shape in the memory of the module, which is given back once. */
 class Held {
-  constructor(library, at) {
-    Object.assign(this, { library, at });
+  constructor(library, shape) {
+    Object.assign(this, { library, shape });
   }
 
   free() {
-    if (this.at !== 0) {
-      this.library.freePrepared(this.at);
-      this.at = 0;
+    if (this.shape) {
+      this.library.freePrepared(this.shape);
+      this.shape = undefined;
     }
   }
 }
@@ -33,8 +33,8 @@ export class Prepared {
   #held;
   #grid;
 
-  constructor(library, at, grid) {
-    this.#held = new Held(library, at);
+  constructor(library, shape, grid) {
+    this.#held = new Held(library, shape);
     this.#grid = grid;
     forgotten.register(this, this.#held, this);
   }
@@ -61,13 +61,13 @@ export class Prepared {
   #located(points, options, answered) {
     const { answer } = chosen(options, ["answer"]);
     const held = this.#held;
-    if (held.at === 0) {
+    if (!held.shape) {
       throw new BadInput(FREED);
     }
     const queries = pointsOf(points);
     return askedOf([queries], this.#grid, answer ?? queries.form, (asked, form) => {
       const groups = alike(asked.groups, Float64Array, asked.grid);
-      return answered(held.library.preparedLocate(held.at, { ...asked, groups }), form);
+      return answered(held.library.preparedLocate(held.shape, { ...asked, groups }), form);
     });
   }
 }

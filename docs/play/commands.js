@@ -132,12 +132,9 @@ export const OF = { contours: { label: "Contours" }, arrangement: { label: "Arra
 const ARRANGED =
   "How they lie to each other in the arrangement, whose points are rounded, at the finest scale in the range.";
 
-/**
- * Whether a command has an option. No solver is asked for relations of contours as drawn, nor where points lie in
- * contours that are joined by exclusive or.
- */
-export function isOption(/** @type {Asked} */ { command, fill, of }, /** @type {string} */ name) {
-  const isExact = command === "relate" ? of === "contours" : command === "locate" && fill === "evenodd";
+/** Whether a command has an option. No solver is asked for relations of contours as drawn, nor where points lie. */
+export function isOption(/** @type {Asked} */ { command, of }, /** @type {string} */ name) {
+  const isExact = command === "relate" ? of === "contours" : command === "locate";
   return COMMANDS[command].options.includes(name) && !(isExact && name === "solver");
 }
 

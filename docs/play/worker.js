@@ -34,9 +34,9 @@ const shapes = (found) => ({ kind: "shapes", ...paths(found.contours), shapeEnds
 const triples = (links) => Array.from({ length: links.length / 3 }, (_, at) => [...links.slice(3 * at, 3 * at + 3)]);
 
 /** Where points lie: in contours that are joined by exclusive or, or in what another rule fills, which is prepared. */
-function located(library, subject, points, fill, solver) {
+function located(library, subject, points, fill) {
   if (fill === "evenodd") return library.locate(subject, points, { answer: "lists" });
-  const prepared = library.prepare(subject, { fill, solver });
+  const prepared = library.prepare(subject, { fill });
   try {
     return prepared.locate(points, { answer: "lists" });
   } finally {
@@ -59,9 +59,9 @@ const ANSWERED = {
   clip: (library, { subject, line }, options) => ({ kind: "paths", ...paths(library.clip(subject, line, options)) }),
   slice: (library, { subject, line }, options) => shapes(library.slice(subject, line, options)),
   tiles: (library, { subject }, { width, height, ...how }) => shapes(library.tiles(subject, width, height, how)),
-  locate: (library, { subject, point }, { fill, solver }) => ({
+  locate: (library, { subject, point }, { fill }) => ({
     kind: "locations",
-    locations: located(library, subject, point.coordinates, fill, solver),
+    locations: located(library, subject, point.coordinates, fill),
   }),
   edges: (library, { subject, clip }, options) => ({ kind: "edges", ...library.edges(subject, clip, options) }),
 };

@@ -24,7 +24,7 @@ const WORDS = [OUT, ON, IN, OUT];
 
 /** That points lie in a shape where they should. */
 function located(shape, points, words, options = {}) {
-  for (const solver of ["snapped", "rounds"]) {
+  for (const solver of [undefined, "exact", "snapped", "rounds"]) {
     const prepared = polyover.prepare(shape, { ...options, solver });
     assert.deepEqual(prepared.locate(points), words);
     assert.deepEqual(prepared.contains(points), words.map((word) => word === IN));
@@ -72,6 +72,30 @@ test("each fill rule", () => {
     located([BOW], [[1, 2], [3, 2], [2, 2], [2, 3]], halves[fill], { fill });
   }
   located(WOUND, points, expected.nonzero);
+});
+
+test("contours as they are given", () => {
+  const told = (shape, points, options) => polyover.prepare(shape, options).locate(points);
+  // (lower edges of two triangles cross in (1, 1/3), above (1, 0))
+  const thirds = [[[0, 0], [3, 1], [0, 3]], [[0, 1], [3, -1], [3, 1]]];
+  const atThirds = [[1, 0], [2, 0], [1, 1], [2, 1], [0, 1], [0, 0], [3, 1], [2, 2]];
+  assert.deepEqual(told(thirds, atThirds), [OUT, IN, IN, IN, ON, ON, ON, OUT]);
+  assert.deepEqual(told(thirds, atThirds, { fill: "evenodd" }), [OUT, IN, ON, ON, ON, ON, ON, OUT]);
+  // (upper edges cross in (3, 6/7), below (3, 1); the second triangle runs clockwise)
+  const sevenths = [[[0, 0], [7, -3], [7, 2]], [[-3, 0], [4, 1], [4, -4]]];
+  const atSevenths = [[3, 1], [3, 0], [4, 1], [4, 0], [5, 1], [-1, 0], [-3, 0], [7, 2]];
+  assert.deepEqual(told(sevenths, atSevenths, { fill: "positive" }), [OUT, OUT, ON, ON, IN, OUT, OUT, ON]);
+  assert.deepEqual(told(sevenths, atSevenths, { fill: "negative" }), [OUT, OUT, OUT, OUT, OUT, IN, ON, OUT]);
+  // ((3, 1) is inside a sliver that rounding loses)
+  const sliver = [[[0, 0], [7, 2], [5, 2]], [[-3, 0], [4, -4], [4, 1]]];
+  assert.deepEqual(told(sliver, [[3, 1], [2, 1], [6, 2]]), [IN, OUT, ON]);
+  assert.deepEqual(told(sliver, [[3, 1]], { solver: "snapped" }), [ON]);
+  const polygons = sliver.map(([first, ...others]) => [[first, ...others, first]]);
+  const geometry = { type: "MultiPolygon", coordinates: polygons };
+  for (const fill of ["evenodd", "nonzero", "positive", "negative"]) {
+    assert.deepEqual(told(geometry, [[3, 1], [2, 1], [2, 0]], { fill }), [IN, OUT, IN]);
+  }
+  assert.deepEqual(polyover.locate(geometry, [[3, 1], [2, 1], [2, 0]]), [IN, OUT, IN]);
 });
 
 test("contours that meet, and none", () => {
@@ -138,7 +162,7 @@ test("what is refused", () => {
   refused(() => polyover.prepare(3), "shape: 3 in the place of a list of contours");
   refused(() => polyover.prepare([SQUARE, [[0.5, 0], [1, 0], [1, 1]]]), "shape: contour 2, point 1: 0.5 is no whole");
   refused(() => polyover.prepare([SQUARE], { fill: "odd" }), 'unknown fill rule "odd"');
-  refused(() => polyover.prepare([SQUARE], { solver: "exact" }), 'unknown solver "exact"');
+  refused(() => polyover.prepare([SQUARE], { solver: "snap" }), 'unknown solver "snap"');
   refused(() => polyover.prepare([SQUARE], { answer: "lists" }), 'unknown option "answer": one of fill, solver');
   const wide = new Flat(new BigInt64Array([0n, 0n, 1n, LIMIT + 1n, 5n, 5n]), [3]);
   refused(() => polyover.prepare(wide), "shape: contour 1, point 2: 4611686018427387904 is out of range");

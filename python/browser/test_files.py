@@ -117,7 +117,7 @@ class Files(unittest.TestCase):
         for question in (
             "run=overlay+Xor+EvenOdd+ogc+clockwise+keep+min+3",
             "run=locate",
-            "run=locate&fill=negative&solver=rounds",
+            "run=locate&fill=negative",
             "run=clip+Positive+invert+boundary",
             "run=simplify+Negative",
             "run=tiles+NonZero+3+2&solver=rounds",

@@ -64,7 +64,7 @@ const shapes = (/** @type {string} */ call, /** @type {number} */ room, links = 
 ];
 
 /** The lines that locate some points: in contours that are joined by exclusive or, or in a prepared shape. */
-const located = (asked, /** @type {string} */ fill, /** @type {string} */ solver, /** @type {number} */ count) =>
+const located = (asked, /** @type {string} */ fill, /** @type {number} */ count) =>
   asked.fill === "evenodd"
     ? [
         "    size_t unresolved;",
@@ -73,11 +73,11 @@ const located = (asked, /** @type {string} */ fill, /** @type {string} */ solver
         "    if (status != POLYOVER_OK) return 1;",
       ]
     : [
-        "    polyover_prepared prepared;",
-        `    if (polyover_prepare(${fill}, ${solver}, &subject, &prepared) != POLYOVER_OK) return 1;`,
-        `    polyover_status status = polyover_prepared_locate(&prepared, points, ${2 * count},`,
+        "    polyover_exact shape;",
+        `    if (polyover_prepare_exact(${fill}, &subject, &shape) != POLYOVER_OK) return 1;`,
+        `    polyover_status status = polyover_exact_locate(&shape, points, ${2 * count},`,
         `        locations, ${count});`,
-        "    polyover_prepared_free(&prepared);",
+        "    polyover_exact_free(&shape);",
         "    if (status != POLYOVER_OK) return 1;",
       ];
 
@@ -139,7 +139,7 @@ export function cOf(/** @type {import("../state.js").Drawing} */ { figures, aske
       ...group("subject", figures.subject),
       `    const int64_t points[] = {${figures.point.flat(2).map(literal).join(", ") || "0"}};`,
       `    polyover_location locations[${figures.point.length || 1}];`,
-      ...located(asked, fill, solver, figures.point.length),
+      ...located(asked, fill, figures.point.length),
       `    for (size_t at = 0; at < ${figures.point.length}; at++) printf("%u\\n", locations[at]);`,
     ],
     edges: () => [

@@ -37,7 +37,7 @@ export function javascriptOf(/** @type {import("../state.js").Drawing} */ { figu
   const both = [given("subject"), given("clip")];
   const lines = [given("subject"), given("line")];
   const points = `const points = [${figures.point.map(([[x, y]]) => `[${x}, ${y}]`).join(", ")}];`;
-  const prepared = `polyover.prepare(${["subject", ...optionsOf(asked, ["fill", "solver"])].join(", ")})`;
+  const prepared = `polyover.prepare(${["subject", ...optionsOf(asked, ["fill"])].join(", ")})`;
   const locate = asked.fill === "evenodd" ? "polyover.locate(subject, " : `${prepared}.locate(`;
   const located = `console.log(${locate}points));`;
   const parts = {

@@ -33,7 +33,7 @@ export function pythonOf(/** @type {import("../state.js").Drawing} */ { figures,
   const points = `points = [${figures.point.map(([[x, y]]) => `(${x}, ${y})`).join(", ")}]`;
   const call = (/** @type {string} */ name, ...words) => `print(polyover.${name}(${words.join(", ")}))`;
   const clipped = ["invert", "boundary"].filter((name) => asked[name]).map((name) => `${name}=True`);
-  const prepared = `polyover.Prepared(${["subject", fill, ...solver].join(", ")})`;
+  const prepared = `polyover.Prepared(subject, ${fill})`;
   const located = `print(${asked.fill === "evenodd" ? "polyover.locate(subject, " : `${prepared}.locate(`}points))`;
   const parts = {
     overlay: [...both, call("overlay", "subject", "clip", quoted(asked.rule), fill, ...look)],

@@ -62,7 +62,7 @@ const located = (figures) => [
 
 /** The lines that locate points in a prepared shape. */
 const preparedLocated = (figures, asked) => [
-  `let prepared = PreparedShape::new(alloc, &shape, ${fillOf(asked)}, ${solverOf(asked)})?;`,
+  `let prepared = ExactShape::new(alloc, &shape, ${fillOf(asked)})?;`,
   "let mut places = Vec::new(alloc);",
   ...figures.point.map(([point]) => `places.push(prepared.locate(${points([point]).slice(1, -1)}))?;`),
   "Ok(places)",
@@ -156,6 +156,7 @@ const PATHS = {
   ContourDirection: "i_overlay::overlay::ContourDirection",
   DataVectorEdge: "i_overlay::vector::edge::DataVectorEdge",
   ExactPredicates: "overlay_predicates::exact_predicates::ExactPredicates",
+  ExactShape: "overlay_located::exact_shape::ExactShape",
   FillRule: "i_overlay::fill_rule::FillRule",
   FlatShapeHierarchy: "i_overlay::hierarchy::FlatShapeHierarchy",
   Grid: "i_overlay::tiles::Grid",
@@ -168,7 +169,6 @@ const PATHS = {
   OverlayError: "i_overlay::error::OverlayError",
   OverlayRule: "i_overlay::overlay_rule::OverlayRule",
   PointLocation: "i_overlay::point_location::PointLocation",
-  PreparedShape: "i_overlay::point_location::PreparedShape",
   PredicateOverlay: "i_overlay::relate::PredicateOverlay",
   Relations: "i_overlay::relate::Relations",
   ShapeType: "i_overlay::overlay::ShapeType",
