@@ -20,7 +20,7 @@ use polyover::core::simplify::Simplify;
 use polyover::core::solver::Solver;
 use polyover::float::overlay::FloatOverlay;
 use polyover::i_float::int::point::IntPoint;
-use polyover::prepared::PreparedShape;
+use polyover::prepared::{ExactShape, PreparedShape};
 use polyover::string::overlay::StringOverlay;
 use std::thread::scope;
 
@@ -33,6 +33,7 @@ fn all_may_be_shared() {
     is_shared::<FloatOverlay<[f32; 2]>>();
     is_shared::<OverlayAnswer<i32>>();
     is_shared::<PreparedShape<i32>>();
+    is_shared::<ExactShape<i32>>();
 }
 
 #[test]

@@ -24,7 +24,7 @@ use polyover::i_float::int::point::IntPoint;
 use polyover::i_shape::flat::buffer::FlatContoursBuffer;
 use polyover::i_shape::int::area::Area;
 use polyover::i_shape::int::shape::IntShapes;
-use polyover::prepared::PreparedShape;
+use polyover::prepared::{ExactShape, PreparedShape};
 
 fn numbers<T: IntNumber + Into<i64>>(shapes: &IntShapes<T>) -> IntShapes<i64> {
     let point = |it: &IntPoint<T>| IntPoint::new(it.x.into(), it.y.into());
@@ -105,6 +105,8 @@ fn all_i16_and_i32_are_in_range() {
     let prepared = PreparedShape::new(&all, FillRule::NonZero, Solver::default()).unwrap();
     let inside_and_boundary = [PointLocation::Inside, PointLocation::Boundary];
     assert_eq!(prepared.try_locate(&points).unwrap(), inside_and_boundary);
+    let exact = ExactShape::new(&all, FillRule::NonZero).unwrap();
+    assert_eq!(exact.try_locate(&points).unwrap(), inside_and_boundary);
     let all = square(i16::MIN, i16::MAX);
     assert_eq!(
         all.simplify(FillRule::NonZero, IntOverlayOptions::default()),
@@ -120,6 +122,8 @@ fn points_far_from_a_shape_at_32_bits_lie_outside() {
     let points = [[i32::MAX, 5], [5, 5], [i32::MIN, i32::MIN]].map(IntPoint::from);
     let expected = [PointLocation::Outside, PointLocation::Inside, PointLocation::Outside];
     assert_eq!(shape.try_locate(&points).unwrap(), expected);
+    let exact = ExactShape::new(&square(0, 10), FillRule::NonZero).unwrap();
+    assert_eq!(exact.try_locate(&points).unwrap(), expected);
 }
 
 #[test]

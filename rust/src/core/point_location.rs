@@ -63,7 +63,7 @@ fn located<I: OverlayInt, R: IntShapeResource<I> + ?Sized>(
 /// Where points lie, in one call: in a contour, in contours that are one shape, or in any of several shapes.
 ///
 /// Contours are resolved: none meets itself elsewhere than in its corners, as those of answers. For others there is
-/// [`PreparedShape`](crate::prepared::PreparedShape).
+/// [`ExactShape`](crate::prepared::ExactShape).
 ///
 /// ```
 /// use polyover::core::point_location::{IntPointContainment, PointLocation};

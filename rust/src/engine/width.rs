@@ -2,7 +2,7 @@
 
 use crate::engine::lists::turned;
 use crate::error::OverlayError;
-use crate::ffi::{Engine, Given, Narrow, Prepared, Ready, Wide};
+use crate::ffi::{Engine, Given, Narrow, Prepared, Raw, Ready, Wide};
 use crate::i_float::int::number::int::IntNumber;
 
 /// A question about two lists of paths, at whichever width.
@@ -31,7 +31,11 @@ pub trait Native: IntNumber {
     fn ask<Q: Query>(query: &Q, first: Given<'_, Self>, second: Given<'_, Self>) -> Result<Q::Answer, OverlayError>;
     /// Writes where points lie in a prepared shape.
     #[doc(hidden)]
-    fn ask_prepared(shape: &Prepared, points: &[Self], locations: &mut [u8]) -> Result<(), OverlayError>;
+    fn ask_prepared<S: Raw<Narrow> + Raw<Wide>>(
+        shape: &Prepared<S>,
+        points: &[Self],
+        locations: &mut [u8],
+    ) -> Result<(), OverlayError>;
 }
 
 /// Asks with coordinates in another type.
@@ -47,8 +51,8 @@ fn ask_turned<Q: Query, E: Engine, I: IntNumber + Into<E::C>>(
 }
 
 /// Asks a shape at 32 bits for points of any coordinates: those out of its range lie outside.
-fn ask_narrow<C: Copy + TryInto<i32>>(
-    shape: &Ready<Narrow>,
+fn ask_narrow<C: Copy + TryInto<i32>, S: Raw<Narrow>>(
+    shape: &Ready<Narrow, S>,
     points: &[C],
     locations: &mut [u8],
 ) -> Result<(), OverlayError> {
@@ -82,7 +86,11 @@ impl Native for i64 {
         query.ask::<Wide>(first, second)
     }
 
-    fn ask_prepared(shape: &Prepared, points: &[Self], locations: &mut [u8]) -> Result<(), OverlayError> {
+    fn ask_prepared<S: Raw<Narrow> + Raw<Wide>>(
+        shape: &Prepared<S>,
+        points: &[Self],
+        locations: &mut [u8],
+    ) -> Result<(), OverlayError> {
         match shape {
             Prepared::Wide(shape) => shape.ask(points, locations),
             Prepared::Narrow(shape) => ask_narrow(shape, points, locations),
@@ -110,7 +118,11 @@ impl Native for i32 {
         }
     }
 
-    fn ask_prepared(shape: &Prepared, points: &[Self], locations: &mut [u8]) -> Result<(), OverlayError> {
+    fn ask_prepared<S: Raw<Narrow> + Raw<Wide>>(
+        shape: &Prepared<S>,
+        points: &[Self],
+        locations: &mut [u8],
+    ) -> Result<(), OverlayError> {
         match shape {
             Prepared::Narrow(shape) => match shape.ask(points, locations) {
                 Err(OverlayError::OutOfRange) => ask_narrow(shape, points, locations),
@@ -137,7 +149,11 @@ impl Native for i16 {
         ask_turned::<Q, Narrow, Self>(query, first, second)
     }
 
-    fn ask_prepared(shape: &Prepared, points: &[Self], locations: &mut [u8]) -> Result<(), OverlayError> {
+    fn ask_prepared<S: Raw<Narrow> + Raw<Wide>>(
+        shape: &Prepared<S>,
+        points: &[Self],
+        locations: &mut [u8],
+    ) -> Result<(), OverlayError> {
         match shape {
             Prepared::Narrow(shape) => shape.ask(&turned(points, i32::from)?, locations),
             Prepared::Wide(shape) => shape.ask(&turned(points, i64::from)?, locations),

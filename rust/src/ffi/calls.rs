@@ -114,10 +114,20 @@ pub(crate) trait Engine: 'static + Sized {
     fn locate(shape: Given<'_, Self::C>, points: &[Self::C], locations: &mut [u8]) -> Result<(), OverlayError>;
 
     /// Prepares a shape.
-    fn prepare(fill: FillRule, solver: Solver, contours: Given<'_, Self::C>) -> Result<Prepared, OverlayError>;
+    fn prepare(
+        fill: FillRule,
+        solver: Solver,
+        contours: Given<'_, Self::C>,
+    ) -> Result<Prepared<sys::Prepared>, OverlayError>;
 
     /// Writes where points lie in a prepared shape.
     fn ask(prepared: &sys::Prepared, points: &[Self::C], locations: &mut [u8]) -> Result<(), OverlayError>;
+
+    /// Prepares a shape as it is given.
+    fn prepare_exact(fill: FillRule, contours: Given<'_, Self::C>) -> Result<Prepared<sys::Exact>, OverlayError>;
+
+    /// Writes where points lie in a shape as it is given.
+    fn ask_exact(shape: &sys::Exact, points: &[Self::C], locations: &mut [u8]) -> Result<(), OverlayError>;
 
     /// Arranges a subject and a clip, with points on one line or without these.
     fn arrange(
@@ -152,6 +162,9 @@ pub(crate) trait Engine: 'static + Sized {
 
     /// Frees a prepared shape, which is without a boundary then.
     fn free_prepared(prepared: &mut sys::Prepared);
+
+    /// Frees a shape as it is given, which is without edges then.
+    fn free_exact(shape: &mut sys::Exact);
 
     /// Frees a graph, which is without edges then.
     fn free_graph(graph: &mut sys::Graph);
@@ -347,7 +360,11 @@ macro_rules! engine {
                 }
             }
 
-            fn prepare(fill: FillRule, solver: Solver, contours: Given<'_, $c>) -> Result<Prepared, OverlayError> {
+            fn prepare(
+                fill: FillRule,
+                solver: Solver,
+                contours: Given<'_, $c>,
+            ) -> Result<Prepared<sys::Prepared>, OverlayError> {
                 let (fill, solver, contours) = (fill.number(), solver.number(), contours.raw());
                 // SAFETY: as said above.
                 let ready = unsafe { Ready::of(|to| sys::$width::prepare(fill, solver, &contours, to)) };
@@ -358,6 +375,19 @@ macro_rules! engine {
                 let (at, count, room) = (points.as_ptr(), points.len(), to.len());
                 // SAFETY: as said above; the shape is one that `prepare` left.
                 done(unsafe { sys::$width::prepared_locate(prepared, at, count, to.as_mut_ptr(), room) })
+            }
+
+            fn prepare_exact(fill: FillRule, contours: Given<'_, $c>) -> Result<Prepared<sys::Exact>, OverlayError> {
+                let (fill, contours) = (fill.number(), contours.raw());
+                // SAFETY: as said above.
+                let ready = unsafe { Ready::of(|to| sys::$width::prepare_exact(fill, &contours, to)) };
+                Ok(Prepared::$engine(ready?))
+            }
+
+            fn ask_exact(shape: &sys::Exact, points: &[$c], to: &mut [u8]) -> Result<(), OverlayError> {
+                let (at, count, room) = (points.as_ptr(), points.len(), to.len());
+                // SAFETY: as said above; the shape is one that `prepare_exact` left.
+                done(unsafe { sys::$width::exact_locate(shape, at, count, to.as_mut_ptr(), room) })
             }
 
             fn arrange(
@@ -420,6 +450,11 @@ macro_rules! engine {
             fn free_prepared(prepared: &mut sys::Prepared) {
                 // SAFETY: the shape is one that the library left.
                 unsafe { sys::$width::prepared_free(prepared) }
+            }
+
+            fn free_exact(shape: &mut sys::Exact) {
+                // SAFETY: the shape is one that the library left.
+                unsafe { sys::$width::exact_free(shape) }
             }
 
             fn free_graph(graph: &mut sys::Graph) {

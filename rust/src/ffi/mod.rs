@@ -16,5 +16,5 @@ pub(crate) use calls::{is_proved, text_of, Engine, Narrow, Wide};
 pub(crate) use given::{coordinates_of, Given};
 pub(crate) use graph::Graph;
 pub(crate) use held::Held;
-pub(crate) use ready::{Prepared, Ready};
+pub(crate) use ready::{Prepared, Raw, Ready};
 pub(crate) use traced::Source;

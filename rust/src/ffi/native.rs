@@ -137,6 +137,21 @@ unsafe fn free_shape(prepared: *mut sys::Prepared) {
     }
 }
 
+/// Frees the arrays of a shape as it is given, and leaves it without edges.
+///
+/// # Safety
+/// The pointer is to such a shape of the library.
+unsafe fn free_exact(shape: *mut sys::Exact) {
+    // SAFETY: the caller's word.
+    unsafe {
+        let it = &mut *shape;
+        free_array(it.edges, it.edge_count);
+        free_array(it.blocks, it.block_count);
+        free_array(it.groups, it.group_count);
+        *it = ::core::mem::zeroed();
+    }
+}
+
 /// Frees the edges of a graph, and leaves it without one.
 ///
 /// # Safety
@@ -172,6 +187,18 @@ unsafe extern "C" fn polyover_prepared_free(prepared: *mut sys::Prepared) {
 unsafe extern "C" fn polyover_prepared_free_32(prepared: *mut sys::Prepared) {
     // SAFETY: the caller's word.
     unsafe { free_shape(prepared) }
+}
+
+#[no_mangle]
+unsafe extern "C" fn polyover_exact_free(shape: *mut sys::Exact) {
+    // SAFETY: the caller's word.
+    unsafe { free_exact(shape) }
+}
+
+#[no_mangle]
+unsafe extern "C" fn polyover_exact_free_32(shape: *mut sys::Exact) {
+    // SAFETY: the caller's word.
+    unsafe { free_exact(shape) }
 }
 
 #[no_mangle]

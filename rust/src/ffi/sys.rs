@@ -105,6 +105,18 @@ pub(crate) struct Prepared {
     pub(crate) group_count: usize,
 }
 
+/// `polyover_exact`, the same at both widths.
+#[repr(C)]
+pub(crate) struct Exact {
+    pub(crate) edges: *const u8,
+    pub(crate) edge_count: usize,
+    pub(crate) blocks: *const u8,
+    pub(crate) block_count: usize,
+    pub(crate) groups: *const u8,
+    pub(crate) group_count: usize,
+    pub(crate) fill: u32,
+}
+
 /// `polyover_graph`, the same at both widths.
 #[repr(C)]
 pub(crate) struct Graph {
@@ -245,6 +257,16 @@ macro_rules! calls {
                     locations: *mut u8,
                     location_room: usize,
                 ) -> Status;
+                #[link_name = concat!("polyover_prepare_exact", $suffix)]
+                pub(crate) fn prepare_exact(fill: u32, contours: *const Contours<$c>, shape: *mut Exact) -> Status;
+                #[link_name = concat!("polyover_exact_locate", $suffix)]
+                pub(crate) fn exact_locate(
+                    shape: *const Exact,
+                    coordinates: *const $c,
+                    coordinate_count: usize,
+                    locations: *mut u8,
+                    location_room: usize,
+                ) -> Status;
                 #[link_name = concat!("polyover_arrange", $suffix)]
                 pub(crate) fn arrange(
                     fill: u32,
@@ -274,6 +296,8 @@ macro_rules! calls {
                 pub(crate) fn free(result: *mut Answer<$c>);
                 #[link_name = concat!("polyover_prepared_free", $suffix)]
                 pub(crate) fn prepared_free(prepared: *mut Prepared);
+                #[link_name = concat!("polyover_exact_free", $suffix)]
+                pub(crate) fn exact_free(shape: *mut Exact);
                 #[link_name = concat!("polyover_graph_free", $suffix)]
                 pub(crate) fn graph_free(graph: *mut Graph);
             }
