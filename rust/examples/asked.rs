@@ -2,9 +2,11 @@
 //! options as numbers, and a line for each of two lists of paths, as `x,y x,y;x,y`.
 #![allow(missing_docs, clippy::unwrap_used, clippy::indexing_slicing, clippy::panic)]
 
+use polyover::core::edge_data::{EdgeDataMerge, OverlayEdgeData};
+use polyover::core::edge_overlay::{EdgeOverlay, InputEdge};
 use polyover::core::exact::ExactPredicates;
 use polyover::core::fill_rule::FillRule;
-use polyover::core::overlay::{ContourDirection, IntOverlayOptions, Overlay};
+use polyover::core::overlay::{ContourDirection, IntOverlayOptions, Overlay, ShapeType};
 use polyover::core::overlay_rule::OverlayRule;
 use polyover::core::point_location::{IntPointContainment, PointLocation};
 use polyover::core::relate::{PredicateOverlay, Relations};
@@ -12,9 +14,33 @@ use polyover::core::solver::Solver;
 use polyover::error::OverlayError;
 use polyover::i_float::int::point::IntPoint;
 use polyover::prepared::PreparedShape;
+use polyover::segm::boolean::ShapeCountBoolean;
 use polyover::string::{clip::ClipRule, overlay::StringOverlay};
 
 type Path = Vec<IntPoint<i64>>;
+
+/// Given steps on which an edge lies, a bit for each: of these those that were cut, and those that run against it.
+#[derive(Clone, Copy, PartialEq)]
+struct Lies([u128; 3]);
+
+impl OverlayEdgeData for Lies {
+    type Store = ();
+
+    fn merge(merge: EdgeDataMerge<ShapeCountBoolean, Self>, _: &mut ()) -> Self {
+        let (Lies([a, b, c]), Lies([d, e, f])) = (merge.lhs_data, merge.rhs_data);
+        Lies([a | d, b | e, c | f])
+    }
+
+    fn split(self, _: &mut ()) -> Self {
+        let Lies([on, _, against]) = self;
+        Lies([on, on, against])
+    }
+
+    fn reversed(self, _: &mut ()) -> Self {
+        let Lies([on, cut, against]) = self;
+        Lies([on, cut, on ^ against])
+    }
+}
 
 const FILLS: [FillRule; 4] = [
     FillRule::EvenOdd,
@@ -112,6 +138,21 @@ fn relations(it: Relations) -> String {
     all(&holds, ToString::to_string)
 }
 
+/// The steps of paths on both sides, each with a bit of its own.
+fn steps(subject: &[Path], clip: &[Path]) -> EdgeOverlay<i64, Lies> {
+    let (mut overlay, mut bit) = (EdgeOverlay::new(0), 1);
+    for (paths, side) in [(subject, ShapeType::Subject), (clip, ShapeType::Clip)] {
+        for path in paths {
+            for (&a, &b) in path.iter().zip(path.iter().cycle().skip(1)) {
+                let data = Lies([bit, 0, 0]);
+                overlay.add_edge(InputEdge { a, b, data }, side);
+                bit <<= 1;
+            }
+        }
+    }
+    overlay
+}
+
 /// The answer, or the name of the refusal in Python.
 fn answer(it: &Request) -> Result<String, OverlayError> {
     let (one, other, fill, solver) = (&it.first, &it.second, it.fill, it.solver);
@@ -131,6 +172,14 @@ fn answer(it: &Request) -> Result<String, OverlayError> {
         "edges" => all(&overlay.try_build_separate_vectors(fill)?, |it| {
             format!("[{},{},{}]", point(&it.a), point(&it.b), it.fill)
         }),
+        "trace" => {
+            let mut edges = steps(one, other);
+            edges.solver = solver;
+            all(&edges.try_build_vectors(it.rule, fill)?, |it| {
+                let ([on, cut, against], ends) = (it.data.0, format!("{},{}", point(&it.a), point(&it.b)));
+                format!("[{ends},{},{on},{cut},{against}]", it.fill)
+            })
+        }
         "relate" => {
             let relate = PredicateOverlay::from_subj_and_clip_custom(one, other, fill, solver);
             relations(relate.try_relations()?)

@@ -23,7 +23,7 @@ from polyover import by_library  # noqa: E402
 from polyover.text import FILLS, RULES, SOLVERS  # noqa: E402
 
 # the calls that the example answers
-CALLS = ("overlay", "hierarchy", "simplify", "relate", "exact", "clip", "slice", "locate", "edges", "prepare")
+CALLS = ("overlay", "trace", "hierarchy", "simplify", "relate", "exact", "clip", "slice", "locate", "edges", "prepare")
 
 
 def paths(given: Any) -> str:
@@ -54,10 +54,23 @@ def told(value: Any) -> str:
     return str(value).lower() if isinstance(value, bool) else str(value)
 
 
+def traced(given: list[Any], options: dict[str, Any]) -> list[Any]:
+    """Edges, each with sums of bits of the given steps on which it lies: of all, of those that were cut, and of those
+    that run against it."""
+    edges, _ = by_library.trace(*given, options["rule"], options["fill"], options["solver"], True)
+    found = []
+    for a, b, fill, sources in edges:
+        bits = [(1 << step, is_cut << step, is_reversed << step) for step, is_cut, is_reversed in sources]
+        found.append([a, b, fill, *map(sum, zip(*bits))])
+    return found
+
+
 def answer(call: str, given: list[Any], options: dict[str, Any]) -> str:
     """What the library for C answers, or why it is refused: of `relate` relations of the arrangement, of `exact` those
     of the contours as they are."""
     try:
+        if call == "trace":
+            return told(traced(given, options))
         if call == "relate":
             return told(list(by_library.relate(*given, options["fill"], "snapped").values()))
         if call == "exact":
@@ -76,8 +89,7 @@ def main() -> int:
     asked: list[tuple[str, str]] = []
     while len(asked) < count:
         call, given, options, _ = made.made(random)
-        if call == "relate":
-            call = random.choice(("relate", "exact"))
+        call = random.choice({"relate": ("relate", "exact"), "overlay": ("overlay", "trace")}.get(call, (call,)))
         if call in CALLS:
             asked.append((request(call, given, options), answer(call, given, options)))
     text = "".join(it for it, _ in asked)
