@@ -96,6 +96,18 @@ impl OverlayEdgeData for Kind {
     }
 }
 
+/// The place of a square. No edges of two squares are merged to one that stays.
+#[derive(Debug, Clone, Copy, PartialEq, Eq)]
+struct Place(i32);
+
+impl OverlayEdgeData for Place {
+    type Store = ();
+
+    fn merge(_: EdgeDataMerge<ShapeCountBoolean, Self>, _: &mut ()) -> Self {
+        Place(-1)
+    }
+}
+
 #[test]
 fn kinds_of_edges() {
     use Kind::{Green, Neither, Red};
@@ -237,6 +249,32 @@ fn edges_are_joined() {
         let none = overlay.build_vector_shapes(OverlayRule::Subject, FillRule::NonZero);
         assert!(none.is_empty());
     }
+}
+
+/// A row of squares, whose sides within it run there and back: the steps round it come from as many squares.
+#[test]
+fn many_edges() {
+    const COUNT: i32 = 5000;
+    let mut overlay = EdgeOverlay::new(20_000);
+    let mut bare = EdgeOverlay::new(20_000);
+    for x in 0..COUNT {
+        let corners = [[x, 0], [x + 1, 0], [x + 1, 1], [x, 1]];
+        overlay.add_edges(round(corners, Place(x)), ShapeType::Subject);
+        bare.add_edges(round(corners, ()), ShapeType::Subject);
+    }
+    overlay.options = IntOverlayOptions::default();
+    bare.options = IntOverlayOptions::default();
+    let shapes = overlay.build_vector_shapes(OverlayRule::Subject, FillRule::NonZero);
+    assert_eq!((shapes.len(), shapes[0].len()), (1, 1));
+    // (each square has two of these steps, and the first and the last one have three)
+    assert_eq!(shapes[0][0].len(), 10_002);
+    assert!(shapes[0][0]
+        .iter()
+        .all(|it| it.data.0 == it.a.x.min(it.b.x).min(COUNT - 1)));
+    assert_eq!(
+        bare.build_vector_shapes(OverlayRule::Subject, FillRule::NonZero)[0][0].len(),
+        4
+    );
 }
 
 /// A contour that crosses itself, and one that shares a corner with it.
