@@ -57,7 +57,7 @@ def told(value: Any) -> str:
 def traced(given: list[Any], options: dict[str, Any]) -> list[Any]:
     """Edges, each with sums of bits of the given steps on which it lies: of all, of those that were cut, and of those
     that run against it."""
-    edges, _ = by_library.trace(*given, options["rule"], options["fill"], options["solver"], True)
+    edges, _ = by_library.trace(given[0], given[1], options["rule"], options["fill"], options["solver"], True)
     found = []
     for a, b, fill, sources in edges:
         bits = [(1 << step, is_cut << step, is_reversed << step) for step, is_cut, is_reversed in sources]
@@ -72,9 +72,9 @@ def answer(call: str, given: list[Any], options: dict[str, Any]) -> str:
         if call == "trace":
             return told(traced(given, options))
         if call == "relate":
-            return told(list(by_library.relate(*given, options["fill"], "snapped").values()))
+            return told(list(by_library.relate(given[0], given[1], options["fill"], "snapped").values()))
         if call == "exact":
-            return told(list(by_library.relate_exact(*given, options["fill"]).values()))
+            return told(list(by_library.relate_exact(given[0], given[1], options["fill"]).values()))
         return told(made.answer_of(call, given, options))
     except polyover.PolyoverError as error:
         return type(error).__name__
