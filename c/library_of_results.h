@@ -1,5 +1,5 @@
 /* The results of library_results.c at one width, by the names at it: CONTOURS, PATHS, OPTIONS, RESULT,
- * PREPARED, GRAPH, TRACED, SLICE_OPTIONS, NAME(call). */
+ * PREPARED, EXACT, GRAPH, TRACED, SLICE_OPTIONS, NAME(call). */
 
 /* (these are proved) */
 polyover_status NAME(polyover_overlay_result_with)(polyover_rule rule, polyover_fill fill, const OPTIONS *options,
@@ -91,6 +91,16 @@ void NAME(polyover_prepared_free)(PREPARED *prepared) {
     free_array(prepared->blocks, prepared->block_count);
     free_array(prepared->groups, prepared->group_count);
     *prepared = (PREPARED){0};
+}
+
+void NAME(polyover_exact_free)(EXACT *shape) {
+    if (shape == NULL) {
+        return;
+    }
+    free_array(shape->edges, shape->edge_count);
+    free_array(shape->blocks, shape->block_count);
+    free_array(shape->groups, shape->group_count);
+    *shape = (EXACT){0};
 }
 
 polyover_status NAME(polyover_arrange)(polyover_fill fill, polyover_solver solver, uint32_t keep_given,

@@ -1,5 +1,5 @@
 /* The part of results in C: it replaces null options by the defaults, a null clip by an empty one, and frees the arrays
- * of a result, of a prepared shape, of a graph and of traced edges. */
+ * of a result, of a prepared shape, of a shape as it is given, of a graph and of traced edges. */
 #include <stdlib.h>
 
 #include "polyover.h"
@@ -16,6 +16,7 @@ static void free_array(const void *items, size_t count) {
 #define OPTIONS polyover_options
 #define RESULT polyover_result
 #define PREPARED polyover_prepared
+#define EXACT polyover_exact
 #define GRAPH polyover_graph
 #define TRACED polyover_traced
 #define SLICE_OPTIONS polyover_slice_options
@@ -27,6 +28,7 @@ static void free_array(const void *items, size_t count) {
 #undef OPTIONS
 #undef RESULT
 #undef PREPARED
+#undef EXACT
 #undef GRAPH
 #undef TRACED
 #undef SLICE_OPTIONS
@@ -36,6 +38,7 @@ static void free_array(const void *items, size_t count) {
 #define OPTIONS polyover_options_32
 #define RESULT polyover_result_32
 #define PREPARED polyover_prepared_32
+#define EXACT polyover_exact_32
 #define GRAPH polyover_graph_32
 #define TRACED polyover_traced_32
 #define SLICE_OPTIONS polyover_slice_options_32

@@ -217,6 +217,26 @@ void prepared_shapes() {
 }
 
 template <class Coordinate>
+void shapes_as_given() {
+    const given<Coordinate> it;
+    /* (the edges cross in (1, 1/3), above (1, 0)) */
+    const std::vector<Coordinate> crossing = {0, 0, 3, 1, 0, 3, 0, 1, 3, -1, 3, 1}, points = {1, 0, 2, 0, 0, 1};
+    const std::vector<std::size_t> ends = {3, 6};
+    auto shape = value_of(prepare_exact(fill::non_zero, polyover::basic_contours<Coordinate>(crossing, ends)));
+    std::vector<location> room(3, location::outside);
+    CHECK(is(value_of(shape.locate(points, room)), {location::outside, location::inside, location::boundary}));
+    CHECK(is_refused(status::too_small, [&] { return shape.locate(points, {room.data(), 2}); }));
+    const polyover::basic_exact<Coordinate> moved = std::move(shape);
+    CHECK(shape.edge_count() == 0 && moved.edge_count() == 6);
+    CHECK(is(value_of(moved.locate({points.data() + 2, 2}, room)), {location::inside}));
+    CHECK(is(value_of(shape.locate({points.data() + 2, 2}, room)), {location::outside}));
+    shape = value_of(prepare_exact(fill::non_zero, it.subject));
+    shape = value_of(prepare_exact(fill::non_zero, it.clip));
+    polyover::basic_exact<Coordinate> given_back(shape.release());
+    CHECK(shape.edge_count() == 0 && given_back.edge_count() > 0 && given_back.raw().fill == POLYOVER_NON_ZERO);
+}
+
+template <class Coordinate>
 void graphs() {
     const given<Coordinate> it;
     auto both = value_of(arrange(fill::non_zero, it.subject, it.clip));
@@ -372,6 +392,7 @@ void memory() {
     static_assert(std::is_nothrow_move_constructible_v<result> && std::is_nothrow_move_assignable_v<result>);
     static_assert(sizeof(result) == sizeof(typename result::raw_type));
     static_assert(!std::is_copy_constructible_v<polyover::basic_prepared<Coordinate>>);
+    static_assert(!std::is_copy_constructible_v<polyover::basic_exact<Coordinate>>);
     static_assert(!std::is_copy_constructible_v<polyover::basic_graph<Coordinate>>);
     static_assert(!std::is_copy_constructible_v<polyover::basic_traced<Coordinate>>);
     const given<Coordinate> it;
@@ -390,6 +411,7 @@ void memory() {
     std::array<location, 1> room;
     const std::array<Coordinate, 2> point = {3, 3};
     (void)value_of(value_of(prepare(fill::non_zero, it.subject)).locate(point, room));
+    (void)value_of(value_of(prepare_exact(fill::non_zero, it.subject)).locate(point, room));
     CHECK(room[0] == location::inside && taken == before);
 }
 
@@ -427,6 +449,7 @@ void all() {
     relating<Coordinate>();
     locating<Coordinate>();
     prepared_shapes<Coordinate>();
+    shapes_as_given<Coordinate>();
     graphs<Coordinate>();
     tracing<Coordinate>();
     slices_by_options<Coordinate>();

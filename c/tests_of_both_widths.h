@@ -30,6 +30,7 @@ static int told(const char *tests) {
 #define OPTIONS polyover_options
 #define RESULT polyover_result
 #define PREPARED polyover_prepared
+#define EXACT polyover_exact
 #define GRAPH polyover_graph
 #define SLICE_OPTIONS polyover_slice_options
 #define SMALLEST(area) {.min_area_low = area}
@@ -43,6 +44,7 @@ static int told(const char *tests) {
 #undef OPTIONS
 #undef RESULT
 #undef PREPARED
+#undef EXACT
 #undef GRAPH
 #undef SLICE_OPTIONS
 #undef SMALLEST
@@ -54,6 +56,7 @@ static int told(const char *tests) {
 #define OPTIONS polyover_options_32
 #define RESULT polyover_result_32
 #define PREPARED polyover_prepared_32
+#define EXACT polyover_exact_32
 #define GRAPH polyover_graph_32
 #define SLICE_OPTIONS polyover_slice_options_32
 #define SMALLEST(area) {.min_area = area}

@@ -216,6 +216,27 @@ static polyover_status prepare(const asked *of, room *to) {
     return status;
 }
 
+/* The same of the subject as it is given. */
+static polyover_status prepare_exact(const asked *of, room *to) {
+    static const int64_t points[] = {1, 1, 9, 9, 0, 0};
+    polyover_location locations[3];
+    polyover_exact shape;
+    (void)to;
+    polyover_status status = polyover_prepare_exact(of->fill, &of->subject, &shape);
+    size_t items = shape.edge_count + shape.block_count + shape.group_count, left = granted;
+    check((items == 0) == (status != POLYOVER_OK), "a shape has edges where it is made", granted, __LINE__);
+    granted = 0;
+    check(polyover_exact_locate(&shape, points, 6, locations, 3) == POLYOVER_OK, "it is asked without memory", left,
+          __LINE__);
+    granted = left;
+    check(status != POLYOVER_OK || (locations[0] == POLYOVER_INSIDE && locations[1] == POLYOVER_OUTSIDE &&
+                                    locations[2] == POLYOVER_BOUNDARY),
+          "points lie as they should", left, __LINE__);
+    polyover_exact_free(&shape);
+    polyover_exact_free(&shape);
+    return status;
+}
+
 /* Arranges the contours, asks the graph for shapes, and frees both. */
 static polyover_status graph_overlay(const asked *of, room *to) {
     polyover_graph graph;
@@ -338,7 +359,7 @@ static void answered(void) {
     const call all[] = {overlay, hierarchy, simplify, slice, clip, relate, edges, locate, resolved, overlay_result,
                         hierarchy_result, simplify_result, slice_result, clip_result, edges_result, prepare,
                         relate_one, tiles_result, graph_overlay, graph_hierarchy, graph_edges, slice_custom_result,
-                        simplify_shape_result, relate_exact, trace};
+                        simplify_shape_result, relate_exact, trace, prepare_exact};
     const call with_more[] = {overlay, hierarchy, simplify, slice, clip, relate, edges, overlay_result,
                               hierarchy_result, simplify_result, slice_result, clip_result, edges_result,
                               relate_one};
@@ -383,7 +404,7 @@ static void numbers(void) {
     const call filled[] = {overlay, hierarchy, simplify, slice, clip, relate, edges, overlay_result,
                            hierarchy_result, simplify_result, slice_result, clip_result, edges_result, prepare,
                            relate_one, tiles_result, graph_overlay, slice_custom_result, simplify_shape_result,
-                           relate_exact};
+                           relate_exact, prepare_exact};
     for (size_t at = 0; at < COUNT(filled); at++) {
         TESTED_FIRST(filled[at], &of, POLYOVER_BAD_FILL);
     }
@@ -394,7 +415,8 @@ static void numbers(void) {
 
 /* Tests contours with faults: those of the subject come first. */
 static void faults(void) {
-    const call one[] = {simplify, locate, resolved, simplify_result, prepare, tiles_result, simplify_shape_result};
+    const call one[] = {simplify, locate, resolved, simplify_result, prepare, tiles_result, simplify_shape_result,
+                        prepare_exact};
     const call two[] = {overlay, hierarchy, slice, clip, relate, edges, overlay_result, hierarchy_result,
                         slice_result, clip_result, edges_result, relate_one, graph_overlay, slice_custom_result,
                         relate_exact};

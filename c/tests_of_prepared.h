@@ -36,7 +36,7 @@ static void TEST(lie)(const PREPARED *prepared, const NUMBER *points, size_t cou
     }
 }
 
-/* Prepares the contours by both solvers, and checks that points lie so: a letter for each. */
+/* Prepares the contours by both solvers, and as they are given, and checks that points lie so: a letter for each. */
 static void TEST(lie_in)(polyover_fill fill, const CONTOURS *contours, const NUMBER *points, const char *wanted,
                          int line) {
     for (polyover_solver solver = POLYOVER_SNAPPED; solver <= POLYOVER_ROUNDS; solver++) {
@@ -45,6 +45,7 @@ static void TEST(lie_in)(polyover_fill fill, const CONTOURS *contours, const NUM
         TEST(lie)(&prepared, points, 2 * strlen(wanted), wanted, line);
         TEST(let_go)(&prepared);
     }
+    TEST(lie_exactly_in)(fill, contours, points, wanted, line);
 }
 
 #define LIE_IN(fill, contours, points, wanted) TEST(lie_in)(fill, &contours, points, wanted, __LINE__)

@@ -1,5 +1,5 @@
-/* Tests at one width of prepared shapes of some 50,000 edges; the names are those of tests_of_sizes.h, and PREPARED is
- * the type of prepared shapes. */
+/* Tests at one width of prepared shapes of some 50,000 edges; the names are those of tests_of_sizes.h, PREPARED is the
+ * type of prepared shapes, and EXACT that of shapes as they are given. */
 
 /* Prepares the subject; a prepared shape has edges where it is answered. */
 static polyover_status TEST(prepare)(const TEST(question) *of, RESULT *result) {
@@ -9,6 +9,15 @@ static polyover_status TEST(prepare)(const TEST(question) *of, RESULT *result) {
     CHECK((prepared.edge_count == 0) == (status != POLYOVER_OK));
     NAME(polyover_prepared_free)(&prepared);
     return status;
+}
+
+/* Checks that the first `count` locations are these in turn. */
+static void TEST(told_by_turns)(const polyover_location *wanted, size_t turn, size_t count) {
+    int same = 1;
+    for (size_t at = 0; same && at < count; at++) {
+        same = TEST(fills)[at] == wanted[at % turn];
+    }
+    CHECK(same);
 }
 
 /* Checks that the points lie so, as the locations in turn. */
@@ -24,12 +33,18 @@ static void TEST(lie_by_turns)(polyover_solver solver, const TEST(made) *shape, 
           POLYOVER_TOO_SMALL);
     CHECK(NAME(polyover_prepared_locate)(&prepared, points->coordinates, points->count, TEST(fills), count) ==
           POLYOVER_OK);
-    int same = 1;
-    for (size_t at = 0; same && at < count; at++) {
-        same = TEST(fills)[at] == wanted[at % turn];
-    }
-    CHECK(same);
+    TEST(told_by_turns)(wanted, turn, count);
     NAME(polyover_prepared_free)(&prepared);
+    EXACT exact;
+    CHECK(NAME(polyover_prepare_exact)(POLYOVER_NON_ZERO, &given, &exact) == POLYOVER_OK);
+    CHECK(exact.edge_count >= edges && exact.block_count == (exact.edge_count + 63) / 64);
+    CHECK(exact.group_count == (exact.edge_count + 4095) / 4096);
+    memset(TEST(fills), 77, count);
+    CHECK(NAME(polyover_exact_locate)(&exact, points->coordinates, points->count, TEST(fills), count - 1) ==
+          POLYOVER_TOO_SMALL);
+    CHECK(NAME(polyover_exact_locate)(&exact, points->coordinates, points->count, TEST(fills), count) == POLYOVER_OK);
+    TEST(told_by_turns)(wanted, turn, count);
+    NAME(polyover_exact_free)(&exact);
 }
 
 /* Squares in a grid: of each cell a point inside its square, one on an edge of it, one on a corner and one beside. */

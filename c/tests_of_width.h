@@ -292,6 +292,8 @@ static void TEST(simplifying)(void) {
 
 #include "tests_of_tiles.h"
 
+#include "tests_of_exact.h"
+
 #include "tests_of_prepared.h"
 
 #include "tests_of_graphs.h"
@@ -338,6 +340,14 @@ static void TEST(all)(void) {
     TEST(far_tiles)();
     TEST(tiles_refused)();
     TEST(tiles_not_settled)();
+    TEST(crossing_at_thirds)();
+    TEST(crossing_at_sevenths)();
+    TEST(slivers)();
+    TEST(crossing_itself)();
+    TEST(sharing_a_border)();
+    TEST(at_the_ends)();
+    TEST(exact_refused)();
+    TEST(exact_asking_refused)();
     TEST(prepared_under_rules)();
     TEST(prepared_contours)();
     TEST(prepared_bare)();

@@ -14,10 +14,10 @@
  * calls but `polyover_in_range`, `polyover_resolved` and `polyover_locate`, and where options keep them.
  *
  * All arrays and structs are the caller's, and nothing is kept after a call; only what a `polyover_result`, a
- * `polyover_prepared`, a `polyover_graph` or a `polyover_traced` holds is to be freed. Each array behind a `const` is
- * only read. An array of length 0 may be a null pointer. So may options, for which the default ones are taken then, and
- * the clip beside a subject, which has no contours then. Another struct may be where its call says so. What a call
- * writes to lies apart from all else that it is given.
+ * `polyover_prepared`, a `polyover_exact`, a `polyover_graph` or a `polyover_traced` holds is to be freed. Each array
+ * behind a `const` is only read. An array of length 0 may be a null pointer. So may options, for which the default ones
+ * are taken then, and the clip beside a subject, which has no contours then. Another struct may be where its call says
+ * so. What a call writes to lies apart from all else that it is given.
  *
  * No call keeps a state, so calls on several threads are safe, as long as nothing is written to what one of them reads.
  * Memory is taken by malloc, realloc and free, so no call is for a signal handler.
@@ -585,6 +585,54 @@ polyover_status polyover_prepared_locate_32(const polyover_prepared_32 *prepared
  * A null pointer is taken, and so is a prepared shape that is all zero. */
 void polyover_prepared_free(polyover_prepared *prepared);
 void polyover_prepared_free_32(polyover_prepared_32 *prepared);
+
+/* A shape as it is given, made ready to be asked again and again where points lie: the edges of its contours, and what
+ * finds those that matter. All fields are only read, and not to be set. `polyover_exact_free` gives the memory back.
+ * One that is all zero is a shape without edges. */
+typedef struct {
+    const void *edges; /* with counts */
+    size_t edge_count;
+    const void *blocks; /* of 64 edges each */
+    size_t block_count;
+    const void *groups; /* of 4096 edges each */
+    size_t group_count;
+    polyover_fill fill;
+} polyover_exact;
+
+/* The same at 32 bits. */
+typedef struct {
+    const void *edges;
+    size_t edge_count;
+    const void *blocks;
+    size_t block_count;
+    const void *groups;
+    size_t group_count;
+    polyover_fill fill;
+} polyover_exact_32;
+
+/* Makes the shape of the contours under the fill rule. They may cross themselves and each other: nothing is split or
+ * rounded. After any status but POLYOVER_OK *shape is a shape without edges. So it may always be freed. What *shape was
+ * before is neither read nor freed.
+ *
+ * Tested first, in this order: POLYOVER_BAD_FILL; POLYOVER_BAD_ENDS and POLYOVER_OUT_OF_RANGE. POLYOVER_TOO_MANY_EDGES
+ * and POLYOVER_MEMORY are left. */
+polyover_status polyover_prepare_exact(polyover_fill fill, const polyover_contours *contours, polyover_exact *shape);
+polyover_status polyover_prepare_exact_32(polyover_fill fill, const polyover_contours_32 *contours,
+                                          polyover_exact_32 *shape);
+
+/* Where each point lies in the shape as it is given: POLYOVER_INSIDE where all points near it off the contours are
+ * filled, POLYOVER_OUTSIDE where none is, and POLYOVER_BOUNDARY where there are both however near. Without edges all
+ * points are outside. What is written, and the statuses, are as of `polyover_prepared_locate`. */
+polyover_status polyover_exact_locate(const polyover_exact *shape, const int64_t *coordinates,
+                                      size_t coordinate_count, polyover_location *locations, size_t location_room);
+polyover_status polyover_exact_locate_32(const polyover_exact_32 *shape, const int32_t *coordinates,
+                                         size_t coordinate_count, polyover_location *locations,
+                                         size_t location_room);
+
+/* Gives back the memory of such a shape, by free, and leaves it without edges: to free it twice does no harm. A null
+ * pointer is taken, and so is a shape that is all zero. */
+void polyover_exact_free(polyover_exact *shape);
+void polyover_exact_free_32(polyover_exact_32 *shape);
 
 /* A graph: the arrangement of a subject and of a clip under a fill rule, made once, to be asked for any overlay. All
  * fields are only read, and not to be set. `polyover_graph_free` gives the memory back. One that is all zero is a graph

@@ -292,6 +292,7 @@ struct width<std::int64_t> {
     using options = polyover::options;
     using result = polyover_result;
     using prepared = polyover_prepared;
+    using exact = polyover_exact;
     using graph = polyover_graph;
     using edge_list = polyover_edge_list;
     using traced = polyover_traced;
@@ -318,6 +319,8 @@ struct width<std::int64_t> {
     static constexpr auto locate = polyover_locate;
     static constexpr auto prepare = polyover_prepare;
     static constexpr auto prepared_locate = polyover_prepared_locate;
+    static constexpr auto prepare_exact = polyover_prepare_exact;
+    static constexpr auto exact_locate = polyover_exact_locate;
     static constexpr auto arrange = polyover_arrange;
     static constexpr auto graph_overlay = polyover_graph_overlay_result;
     static constexpr auto graph_hierarchy = polyover_graph_hierarchy_result;
@@ -325,6 +328,7 @@ struct width<std::int64_t> {
     static constexpr auto trace = polyover_trace;
     static constexpr auto free_result = polyover_free;
     static constexpr auto free_prepared = polyover_prepared_free;
+    static constexpr auto free_exact = polyover_exact_free;
     static constexpr auto free_graph = polyover_graph_free;
     static constexpr auto free_traced = polyover_traced_free;
 
@@ -344,6 +348,7 @@ struct width<std::int32_t> {
     using options = polyover::options_32;
     using result = polyover_result_32;
     using prepared = polyover_prepared_32;
+    using exact = polyover_exact_32;
     using graph = polyover_graph_32;
     using edge_list = polyover_edge_list_32;
     using traced = polyover_traced_32;
@@ -370,6 +375,8 @@ struct width<std::int32_t> {
     static constexpr auto locate = polyover_locate_32;
     static constexpr auto prepare = polyover_prepare_32;
     static constexpr auto prepared_locate = polyover_prepared_locate_32;
+    static constexpr auto prepare_exact = polyover_prepare_exact_32;
+    static constexpr auto exact_locate = polyover_exact_locate_32;
     static constexpr auto arrange = polyover_arrange_32;
     static constexpr auto graph_overlay = polyover_graph_overlay_result_32;
     static constexpr auto graph_hierarchy = polyover_graph_hierarchy_result_32;
@@ -377,6 +384,7 @@ struct width<std::int32_t> {
     static constexpr auto trace = polyover_trace_32;
     static constexpr auto free_result = polyover_free_32;
     static constexpr auto free_prepared = polyover_prepared_free_32;
+    static constexpr auto free_exact = polyover_exact_free_32;
     static constexpr auto free_graph = polyover_graph_free_32;
     static constexpr auto free_traced = polyover_traced_free_32;
 
@@ -583,6 +591,49 @@ private:
 
 using prepared = basic_prepared<std::int64_t>;
 using prepared_32 = basic_prepared<std::int32_t>;
+
+/// A shape as it is given, made ready to be asked again and again where points lie; `prepare_exact` makes it. Nothing
+/// is rounded. The destructor gives its memory back. After a move the shape that was moved has no edges.
+template <class Coordinate>
+class basic_exact {
+public:
+    using raw_type = typename detail::width<Coordinate>::exact;
+
+    /// A shape without edges: all points are outside.
+    basic_exact() noexcept = default;
+    /// Takes over the memory of such a shape of polyover.h.
+    explicit basic_exact(raw_type taken) noexcept : raw_(taken) {}
+    basic_exact(basic_exact &&other) noexcept : raw_(other.release()) {}
+    basic_exact &operator=(basic_exact &&other) noexcept {
+        basic_exact taken(std::move(other));
+        std::swap(raw_, taken.raw_);
+        return *this;
+    }
+    ~basic_exact() { detail::width<Coordinate>::free_exact(&raw_); }
+
+    /// Returns how many edges the contours have.
+    [[nodiscard]] std::size_t edge_count() const noexcept { return raw_.edge_count; }
+
+    /// Writes where each point lies, and is refused, as `basic_prepared::locate`.
+    returned<span<location>> locate(span<const Coordinate> points, span<location> locations) const {
+        const polyover_status ended = detail::width<Coordinate>::exact_locate(
+            &raw_, points.data(), points.size(), reinterpret_cast<polyover_location *>(locations.data()),
+            locations.size());
+        return detail::answered(ended, span<location>(locations.data(), points.size() / 2));
+    }
+
+    /// Returns the struct of polyover.h, whose memory stays with this object.
+    [[nodiscard]] const raw_type &raw() const noexcept { return raw_; }
+
+    /// Returns the struct of polyover.h, whose memory the caller frees from now on; this shape has no edges then.
+    [[nodiscard]] raw_type release() noexcept { return std::exchange(raw_, raw_type{}); }
+
+private:
+    raw_type raw_{};
+};
+
+using exact = basic_exact<std::int64_t>;
+using exact_32 = basic_exact<std::int32_t>;
 
 /// How a subject and a clip lie to each other. The closed region of each is its filled points, and the edges with a
 /// filled side.
@@ -1139,6 +1190,17 @@ template <class Coordinate>
     const polyover_status ended =
         detail::width<Coordinate>::prepare(detail::number(fill), detail::number(solver), &shape.raw(), &found);
     return detail::answered(ended, basic_prepared<Coordinate>(found));
+}
+
+/// Returns the shape of the contours under the fill rule, as they are given, made ready to be asked where points lie.
+/// They may cross themselves and each other. Refused with `bad_fill`, `bad_ends`, `out_of_range`, `too_many_edges` and
+/// `memory`.
+template <class Coordinate>
+[[nodiscard]] returned<basic_exact<Coordinate>> prepare_exact(polyover::fill fill, basic_contours<Coordinate> shape) {
+    typename detail::width<Coordinate>::exact found;
+    const polyover_status ended =
+        detail::width<Coordinate>::prepare_exact(detail::number(fill), &shape.raw(), &found);
+    return detail::answered(ended, basic_exact<Coordinate>(found));
 }
 
 } // inline namespace

@@ -4,6 +4,7 @@ pub mod NearSectors
 pub mod NearTells
 pub mod NearTests
 pub mod OneLocation
+pub mod PlacedForms
 pub mod SectorPoints
 pub mod SectorsTell
 pub mod SeenSectors

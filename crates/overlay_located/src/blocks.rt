@@ -1,6 +1,6 @@
 //! Blocks of counted edges that stand in a row, each with numbers between which its edges lie.
 
-ghost use Rattle.std.specs.Prelude.{◌≡◌, ◌<◌, ◌≤◌, ◌≤ℤ◌, int_lt, length, All, IfOk};
+ghost use Rattle.std.specs.Prelude.{◌≡◌, ◌<◌, ◌≤◌, ◌≤ℤ◌, int_lt, length, map, All, IfOk};
 ghost use Rattle.overlay_geom.specs.Edges.{ends_of};
 ghost use Rattle.overlay_geom.specs.Points.{plain_point};
 ghost use Rattle.overlay_order.specs.Content.{plain_edge, plain_edges};
@@ -12,6 +12,7 @@ use overlay_geom::point::IntPoint;
 use overlay_order::count::EdgeCount;
 use overlay_order::edge::CountedEdge;
 use overlay_relate::blocks::Block;
+use overlay_relate::form::FormOf;
 use std::alloc::{AllocError, Allocator};
 
 /// Number of edges in a block.
@@ -88,16 +89,21 @@ fn widened<I: IntNumber, C: EdgeCount>(block: Block<I>, e: &CountedEdge<I, C>) -
 
 // Returns a place behind edges that are below no sector round the point and do not lead from it. The block of that size
 // tells it that begins at the given place; where it does not, the place stays.
-fn passed<I: IntNumber>(blocks: &[Block<I>], size: usize, at: usize, p: IntPoint<I>) -> usize
+fn passed<I: IntNumber, B: FormOf<Block<I>>>(
+    blocks: &[B],
+    size: usize,
+    at: usize,
+    p: IntPoint<I>,
+) -> usize
     requires { 0 < size }
-    ensures { (es : _) → All (IsBlockOf es) (plain_blocks I.whole blocks.now)
+    ensures { (es : _) → All (IsBlockOf es) (plain_blocks I.whole (map B.meant blocks.now))
         → AreAside es (plain_point I.whole p) at result }
 {
     let place = at / size;
     if at % size != 0 || place >= blocks.len() {
         return at;
     }
-    let block = blocks[place];
+    let block = blocks[place].value();
     if block.start == at && is_clear(p, block) {
         block.end
     } else {
@@ -107,14 +113,14 @@ fn passed<I: IntNumber>(blocks: &[Block<I>], size: usize, at: usize, p: IntPoint
 
 /// Returns the place up to which no edge from a place on is below a sector round the point or leads from it, as groups
 /// or blocks tell; or this place itself.
-pub(crate) fn passed_from<I: IntNumber>(
-    blocks: &[Block<I>],
-    groups: &[Block<I>],
+pub(crate) fn passed_from<I: IntNumber, B: FormOf<Block<I>>>(
+    blocks: &[B],
+    groups: &[B],
     at: usize,
     p: IntPoint<I>,
 ) -> usize
-    ensures { (es : _) → AreBlocked es (plain_blocks I.whole blocks.now) (plain_blocks I.whole groups.now)
-        → AreAside es (plain_point I.whole p) at result }
+    ensures { (es : _) → AreBlocked es (plain_blocks I.whole (map B.meant blocks.now))
+        (plain_blocks I.whole (map B.meant groups.now)) → AreAside es (plain_point I.whole p) at result }
 {
     let next = passed(groups, GROUP, at, p);
     if at < next {

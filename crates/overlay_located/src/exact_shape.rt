@@ -32,11 +32,11 @@ pub struct ExactShape<I: OverlayInt, A: Allocator> {
     // which windings fill the shape
     fill_rule: FillRule,
     // the edges of the contours
-    core: BuilderCore<I, ShapeCountBoolean, A>,
+    pub(crate) core: BuilderCore<I, ShapeCountBoolean, A>,
     // blocks of 64 of them
-    blocks: Vec<Block<I>, A>,
+    pub(crate) blocks: Vec<Block<I>, A>,
     // and of 4096
-    groups: Vec<Block<I>, A>,
+    pub(crate) groups: Vec<Block<I>, A>,
 }
 
 impl<I: OverlayInt, A: Allocator> Model for ExactShape<I, A> {

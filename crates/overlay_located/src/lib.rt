@@ -4,8 +4,10 @@
 mod blocks;
 pub mod exact_shape;
 mod flank;
+pub mod form;
 pub mod laws;
-mod located;
+pub mod located;
 mod near;
 pub mod only_locations;
+pub mod parts;
 mod seen;

@@ -1,6 +1,6 @@
 //! The windings of the sectors round a point.
 
-ghost use Rattle.std.specs.Prelude.{◌≡◌, ◌&&◌, ◌^◌, ◌+ℤ◌, ◌≤ℤ◌, ◌<ℤ◌, pos, int_lt, int_le, true, cond};
+ghost use Rattle.std.specs.Prelude.{◌≡◌, ◌&&◌, ◌^◌, ◌+ℤ◌, ◌≤ℤ◌, ◌<ℤ◌, pos, int_lt, int_le, true, cond, map};
 ghost use Rattle.std.specs.Ordering.{int_eq, is_eq, is_gt};
 ghost use Rattle.overlay_geom.specs.Edges.{ends_of, subj_of};
 ghost use Rattle.overlay_geom.specs.Numbers.{Within};
@@ -16,6 +16,7 @@ ghost use Rattle.overlay_located.specs.Sectors.{is_under_near, is_below_near, wi
 
 use crate::blocks::passed_from;
 use crate::flank::Flank;
+use crate::form::EdgeForm;
 use overlay_geom::edge::IntEdge;
 use overlay_geom::number::{IntNumber, WideIntNumber};
 use overlay_geom::point::IntPoint;
@@ -23,23 +24,24 @@ use overlay_geom::vector::cross_at;
 use overlay_order::count::EdgeCount;
 use overlay_order::edge::CountedEdge;
 use overlay_relate::blocks::Block;
+use overlay_relate::form::FormOf;
 use std::cmp::Ordering;
 
 /// Returns the winding of the subject in a sector of the flank of the point: the lowest, or that next above the edge
 /// `ray`, which leads from the point.
-pub(crate) fn winding_near<I: IntNumber, C: EdgeCount>(
-    edges: &[CountedEdge<I, C>],
-    blocks: &[Block<I>],
-    groups: &[Block<I>],
+pub(crate) fn winding_near<I: IntNumber, C: EdgeCount, E: EdgeForm<I, C>, B: FormOf<Block<I>>>(
+    edges: &[E],
+    blocks: &[B],
+    groups: &[B],
     p: IntPoint<I>,
     flank: Flank,
     ray: Option<IntEdge<I>>,
 ) -> i64
-    requires content { IsContent I.limit (plain_edges I.whole C.counts edges.now) }
-    requires blocked { AreBlocked (plain_edges I.whole C.counts edges.now)
-        (plain_blocks I.whole blocks.now) (plain_blocks I.whole groups.now) }
+    requires content { IsContent I.limit (plain_edges I.whole C.counts (map E.meant edges.now)) }
+    requires blocked { AreBlocked (plain_edges I.whole C.counts (map E.meant edges.now))
+        (plain_blocks I.whole (map B.meant blocks.now)) (plain_blocks I.whole (map B.meant groups.now)) }
     requires ray { IsRayHeld I.limit (plain_ray I.whole ray) }
-    ensures { result ≡ winding_near flank subj_of (plain_edges I.whole C.counts edges.now)
+    ensures { result ≡ winding_near flank subj_of (plain_edges I.whole C.counts (map E.meant edges.now))
         (in_plane (plain_point I.whole p)) (is_low flank (plain_ray I.whole ray)) }
 {
     let mut counted = Counted { sum: 0 };
@@ -49,7 +51,8 @@ pub(crate) fn winding_near<I: IntNumber, C: EdgeCount>(
         if at < next {
             at = next;
         } else {
-            counted = counted_with(counted, &edges[at], p, flank, ray);
+            let edge = edges[at].edge();
+            counted = counted_with(counted, &edge, p, flank, ray);
             at += 1;
         }
     }

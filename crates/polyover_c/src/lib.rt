@@ -8,6 +8,7 @@ pub mod graph;
 pub mod held;
 pub mod hierarchy;
 pub mod locate;
+pub mod located;
 pub mod overlay;
 pub mod prepared;
 pub mod relate;

@@ -1,5 +1,6 @@
 -- What is told of the edges is told of the paths that give them.
-use Rattle.std.proofs.Common.{sym, ap, subst, ◌∙◌}
+use Rattle.std.proofs.Common.{map, sym, ap, subst, ◌∙◌}
+use Rattle.std.proofs.lemmas.List.{map-id}
 use Rattle.overlay_geom.specs.Plane.{in_plane}
 use Rattle.overlay_geom.specs.Points.{plain_point}
 use Rattle.overlay_geom.specs.Rules.{is_filled}
@@ -16,13 +17,16 @@ pub locate-requires-clause-blocked : goal.locate-requires-clause-blocked
 locate-requires-clause-blocked g c =
     let whole = g.I.IntNumber.whole in
     let shape = c.self.inside in
-    let es = plain_edges whole boolean_counts c.edges.result.now in
-    subst (λ bs. AreBlocked es (plain_blocks whole bs) (plain_blocks whole c.deref-2.result.now))
-    (sym c.deref.ensures.value)
+    let plain = plain_edges whole boolean_counts in
+    let es = plain c.edges.result.now in
+    subst (λ fs. AreBlocked (plain fs) (plain_blocks whole (map (λ b. b) c.deref.result.now))
+    (plain_blocks whole (map (λ b. b) c.deref-2.result.now))) (sym (map-id c.edges.result.now))
+    (subst (λ bs. AreBlocked es (plain_blocks whole bs) (plain_blocks whole (map (λ b. b) c.deref-2.result.now)))
+    (sym (map-id c.deref.result.now ∙ c.deref.ensures.value))
     (subst (λ gs. AreBlocked es (plain_blocks whole shape.blocks.items) (plain_blocks whole gs))
-    (sym c.deref-2.ensures.value)
+    (sym (map-id c.deref-2.result.now ∙ c.deref-2.ensures.value))
     (subst (λ fs. AreBlocked fs (plain_blocks whole shape.blocks.items) (plain_blocks whole shape.groups.items))
-    (sym (c.edges.ensures.plain ∙ ap edges_in c.content.ensures.edges)) c.self.invariant))
+    (sym (c.edges.ensures.plain ∙ ap edges_in c.content.ensures.edges)) c.self.invariant)))
 
 pub returns : goal.returns
 returns g c =
@@ -32,4 +36,6 @@ returns g c =
     tells_location c.args.self.now p c.locate.result
     (subst (λ s. LiesIn (is_filled s.fill_rule) s.edges p c.locate.result) c.self.view_is
     (subst (λ es. LiesIn (is_filled shape.fill_rule) es p c.locate.result)
-    (c.edges.ensures.plain ∙ ap edges_in c.content.ensures.edges) c.locate.ensures))
+    (c.edges.ensures.plain ∙ ap edges_in c.content.ensures.edges)
+    (subst (λ fs. LiesIn (is_filled shape.fill_rule) (plain_edges whole boolean_counts fs) p c.locate.result)
+    (map-id c.edges.result.now) c.locate.ensures)))

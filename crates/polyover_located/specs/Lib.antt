@@ -1,0 +1,4 @@
+pub mod Asked
+pub mod Held
+pub mod Laws
+pub mod Prepared
