@@ -5,6 +5,7 @@ pub mod Crossings
 pub mod FirstSteps
 pub mod LeftSteps
 pub mod MoreSides
+pub mod NearTests
 pub mod PlacesBy
 pub mod PlacesWalked
 pub mod Ranges

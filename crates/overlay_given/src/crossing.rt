@@ -1,13 +1,13 @@
 //! Contacts that one edge tells: one of a shape that crosses an edge of the other shape.
 
-ghost use Rattle.std.specs.Prelude.{◌≡◌, ◌<◌, length, All, IfOk, IfSome};
+ghost use Rattle.std.specs.Prelude.{◌≡◌, ◌↔◌, ◌<◌, length, All, IsTrue, IfOk, IfSome};
 ghost use Rattle.overlay_geom.specs.Edges.{ends_of};
 ghost use Rattle.overlay_geom.specs.Rules.{is_filled};
 ghost use Rattle.overlay_plane.specs.Balance.{HasBalancedCounts};
 ghost use Rattle.overlay_order.specs.Content.{plain_edge, plain_edges, IsHeld, IsAscending};
 ghost use Rattle.overlay_pairs.specs.Near.{AreNear};
 ghost use Rattle.overlay_pairs.specs.Strips.{AreHeldStripsOf};
-ghost use Rattle.overlay_given.specs.Crossing.{cross, crosses_line};
+ghost use Rattle.overlay_given.specs.Crossing.{cross, crosses_line, are_of_two, cross_of_two, PassesAtSome};
 ghost use Rattle.overlay_given.specs.Relations.{AreContacts};
 
 use crate::relations::{Contacts, found_in};
@@ -82,20 +82,32 @@ fn crosses_some<I: IntNumber, C: EdgeCount>(
     requires held { All (IsHeld I.limit) (plain_edges I.whole C.counts edges.now) }
     requires within { i < length edges.now }
     requires near { AreNear (plain_edges I.whole C.counts edges.now) i near.now }
+    ensures { IsTrue result ↔ PassesAtSome cross_of_two (plain_edges I.whole C.counts edges.now) i near.now }
 {
     let e = &edges[i];
     for k in 0..near.len() {
         let j = near[k];
         let f = &edges[j];
-        if are_of_two(e, f) && cross(e, f) {
+        if cross_of_two(e, f) {
             return true;
         }
     }
     false
 }
 
+// Returns whether the edges cross, one with counts of the subject alone and the other of the clip alone.
+fn cross_of_two<I: IntNumber, C: EdgeCount>(e: &CountedEdge<I, C>, f: &CountedEdge<I, C>) -> bool
+    requires one { IsHeld I.limit (plain_edge I.whole C.counts e.now) }
+    requires other { IsHeld I.limit (plain_edge I.whole C.counts f.now) }
+    ensures { result ≡ cross_of_two (plain_edge I.whole C.counts e.now) (plain_edge I.whole C.counts f.now) }
+{
+    are_of_two(e, f) && cross(e, f)
+}
+
 // Returns whether one edge has counts of the subject alone, and the other of the clip alone.
-fn are_of_two<I, C: EdgeCount>(e: &CountedEdge<I, C>, f: &CountedEdge<I, C>) -> bool {
+fn are_of_two<I: IntNumber, C: EdgeCount>(e: &CountedEdge<I, C>, f: &CountedEdge<I, C>) -> bool
+    ensures { result ≡ are_of_two (plain_edge I.whole C.counts e.now) (plain_edge I.whole C.counts f.now) }
+{
     let of_subj = e.count.clip() == 0 && f.count.subj() == 0;
     let of_clip = e.count.subj() == 0 && f.count.clip() == 0;
     of_subj || of_clip
