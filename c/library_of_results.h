@@ -23,6 +23,8 @@ polyover_status NAME(polyover_graph_hierarchy_result_with)(const GRAPH *graph, p
                                                            const OPTIONS *options, RESULT *result);
 polyover_status NAME(polyover_edges_result_with)(polyover_fill fill, polyover_solver solver, const CONTOURS *subject,
                                                  const CONTOURS *clip, RESULT *result);
+polyover_status NAME(polyover_vectors_result_with)(polyover_rule rule, polyover_fill fill, const OPTIONS *options,
+                                                   const CONTOURS *subject, const CONTOURS *clip, RESULT *result);
 
 polyover_status NAME(polyover_overlay_result)(polyover_rule rule, polyover_fill fill, const OPTIONS *options,
                                               const CONTOURS *subject, const CONTOURS *clip, RESULT *result) {
@@ -69,6 +71,14 @@ polyover_status NAME(polyover_edges_result)(polyover_fill fill, polyover_solver 
                                             const CONTOURS *clip, RESULT *result) {
     const CONTOURS none = {0};
     return NAME(polyover_edges_result_with)(fill, solver, subject, clip ? clip : &none, result);
+}
+
+polyover_status NAME(polyover_vectors_result)(polyover_rule rule, polyover_fill fill, const OPTIONS *options,
+                                              const CONTOURS *subject, const CONTOURS *clip, RESULT *result) {
+    const OPTIONS by_default = {0};
+    const CONTOURS none = {0};
+    return NAME(polyover_vectors_result_with)(rule, fill, options ? options : &by_default, subject,
+                                              clip ? clip : &none, result);
 }
 
 void NAME(polyover_free)(RESULT *result) {

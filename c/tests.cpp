@@ -264,6 +264,22 @@ void graphs() {
                      [&] { return arrange(fill::non_zero, it.needles, it.more_needles, solver::rounds); }));
 }
 
+/* The square that both have in common, wherever it begins. */
+template <class Coordinate>
+void vectors_of_shapes() {
+    const given<Coordinate> it;
+    const auto shared = value_of(vectors(rule::intersect, fill::non_zero, it.subject, it.clip));
+    CHECK(is(shared.contour_ends(), {4}) && is(shared.shape_ends(), {1}) && shared.fills().size() == 4);
+    /* (counter-clockwise the sides of the clip begin in (2, 4) and (2, 2)) */
+    for (std::size_t at = 0; at < 4; at++) {
+        CHECK(shared.fills()[at] == (shared.coordinates()[2 * at] == 2 ? 7 : 13));
+    }
+    typename given<Coordinate>::options unknown;
+    unknown.solver = static_cast<solver>(2);
+    CHECK(is_refused(status::bad_rule, [&] { return vectors(static_cast<rule>(7), fill::non_zero, it.subject); }));
+    CHECK(is_refused(status::bad_option, [&] { return vectors(rule::xor_, fill::non_zero, it.subject, {}, unknown); }));
+}
+
 /* A level edge of the subject, and one of the clip that runs back over its right half, named by its pieces. */
 template <class Coordinate>
 void tracing() {
@@ -452,6 +468,7 @@ void all() {
     shapes_as_given<Coordinate>();
     graphs<Coordinate>();
     tracing<Coordinate>();
+    vectors_of_shapes<Coordinate>();
     slices_by_options<Coordinate>();
     simplified_shapes<Coordinate>();
     arrays<Coordinate>();

@@ -188,6 +188,12 @@ static polyover_status edges_result(const asked *of, room *to) {
     return let_go(polyover_edges_result(of->fill, of->solver, &of->subject, &of->clip, &result), &result);
 }
 
+static polyover_status vectors_result(const asked *of, room *to) {
+    (void)to;
+    polyover_result result;
+    return let_go(polyover_vectors_result(of->rule, of->fill, &of->options, &of->subject, &of->clip, &result), &result);
+}
+
 static polyover_status tiles_result(const asked *of, room *to) {
     (void)to;
     polyover_result result;
@@ -359,7 +365,7 @@ static void answered(void) {
     const call all[] = {overlay, hierarchy, simplify, slice, clip, relate, edges, locate, resolved, overlay_result,
                         hierarchy_result, simplify_result, slice_result, clip_result, edges_result, prepare,
                         relate_one, tiles_result, graph_overlay, graph_hierarchy, graph_edges, slice_custom_result,
-                        simplify_shape_result, relate_exact, trace, prepare_exact};
+                        simplify_shape_result, relate_exact, trace, prepare_exact, vectors_result};
     const call with_more[] = {overlay, hierarchy, simplify, slice, clip, relate, edges, overlay_result,
                               hierarchy_result, simplify_result, slice_result, clip_result, edges_result,
                               relate_one};
@@ -396,7 +402,8 @@ static void numbers(void) {
     choose_solver(&of, 2);
     const call by_solver[] = {overlay, hierarchy, simplify, slice, clip, relate, edges, overlay_result,
                               hierarchy_result, simplify_result, slice_result, clip_result, edges_result, prepare,
-                              relate_one, tiles_result, graph_overlay, slice_custom_result, simplify_shape_result};
+                              relate_one, tiles_result, graph_overlay, slice_custom_result, simplify_shape_result,
+                              vectors_result};
     for (size_t at = 0; at < COUNT(by_solver); at++) {
         TESTED_FIRST(by_solver[at], &of, POLYOVER_BAD_OPTION);
     }
@@ -404,7 +411,7 @@ static void numbers(void) {
     const call filled[] = {overlay, hierarchy, simplify, slice, clip, relate, edges, overlay_result,
                            hierarchy_result, simplify_result, slice_result, clip_result, edges_result, prepare,
                            relate_one, tiles_result, graph_overlay, slice_custom_result, simplify_shape_result,
-                           relate_exact, prepare_exact};
+                           relate_exact, prepare_exact, vectors_result};
     for (size_t at = 0; at < COUNT(filled); at++) {
         TESTED_FIRST(filled[at], &of, POLYOVER_BAD_FILL);
     }
@@ -419,7 +426,7 @@ static void faults(void) {
                         prepare_exact};
     const call two[] = {overlay, hierarchy, slice, clip, relate, edges, overlay_result, hierarchy_result,
                         slice_result, clip_result, edges_result, relate_one, graph_overlay, slice_custom_result,
-                        relate_exact};
+                        relate_exact, vectors_result};
     asked of = squares();
     of.clip = bad;
     for (size_t at = 0; at < COUNT(two); at++) {

@@ -126,6 +126,11 @@ static polyover_status TEST(edges)(const TEST(question) *of, RESULT *result) {
     return NAME(polyover_edges_result)(of->fill, of->solver, &of->subject, &of->clip, result);
 }
 
+static polyover_status TEST(vectors)(const TEST(question) *of, RESULT *result) {
+    const OPTIONS options = TEST(options_of)(of);
+    return NAME(polyover_vectors_result)(of->rule, of->fill, &options, &of->subject, &of->clip, result);
+}
+
 /* Each call with arrays, which have just the room that the result has: POLYOVER_OK where they are filled with the same
  * numbers, and POLYOVER_MEMORY where they are not. */
 static NUMBER TEST(coordinates)[2000000];
@@ -335,6 +340,29 @@ static void TEST(many_edges)(polyover_solver solver) {
     TEST(let_go)(&subject);
 }
 
+/* Squares that each lie in another: a step has both sides of the clip filled, and the left one of the subject. */
+static void TEST(many_vectors)(polyover_solver solver) {
+    TEST(made) subject = TEST(none)(), clip = TEST(none)();
+    TEST(squares)(&subject, SIDE, 4, 1, 2);
+    TEST(squares)(&clip, SIDE, 4, 0, 3);
+    const TEST(question) of = {POLYOVER_INTERSECT, POLYOVER_NON_ZERO, solver, TEST(given)(&subject),
+                               TEST(given)(&clip)};
+    RESULT result;
+    CHECK(TEST(vectors)(&of, &result) == POLYOVER_OK);
+    int same = result.shape_count == SIDE * SIDE && result.contour_count == SIDE * SIDE &&
+               result.fill_count == 4 * SIDE * SIDE && result.coordinate_count == 8 * SIDE * SIDE;
+    for (size_t at = 0; same && at < result.fill_count; at++) {
+        same = result.fills[at] == (POLYOVER_SUBJECT_LEFT | POLYOVER_CLIP_LEFT | POLYOVER_CLIP_RIGHT);
+    }
+    for (size_t at = 0; same && at < result.contour_count; at++) {
+        same = result.contour_ends[at] == 4 * (at + 1) && result.shape_ends[at] == at + 1;
+    }
+    CHECK(same);
+    NAME(polyover_free)(&result);
+    TEST(let_go)(&subject);
+    TEST(let_go)(&clip);
+}
+
 /* Each square is cut in two by a line through its column, and leaves a part of a line through its row. */
 static void TEST(many_lines)(polyover_solver solver) {
     TEST(made) shape = TEST(none)(), columns = TEST(none)(), rows = TEST(none)();
@@ -504,6 +532,7 @@ static void TEST(limits)(polyover_solver solver) {
     TEST(limit_of)(TEST(simplify), solver, 0, 1);
     TEST(limit_of)(TEST(simplify_shape), solver, 0, 1);
     TEST(limit_of)(TEST(edges), solver, 0, 0);
+    TEST(limit_of)(TEST(vectors), solver, 0, 0);
     TEST(limit_of)(TEST(relate), solver, 0, 0);
     TEST(limit_of)(TEST(slice), solver, 1, 0);
     TEST(limit_of)(TEST(slice_custom), solver, 1, 0);
@@ -530,6 +559,7 @@ static void TEST(sizes)(void) {
         TEST(many_squares)(solver);
         TEST(many_islands)(solver);
         TEST(many_edges)(solver);
+        TEST(many_vectors)(solver);
         TEST(many_lines)(solver);
         TEST(many_tiles)(solver);
         TEST(one_contour)(solver);

@@ -304,6 +304,8 @@ static void TEST(simplifying)(void) {
 
 #include "tests_of_traced.h"
 
+#include "tests_of_vectors.h"
+
 static void TEST(all)(void) {
     TEST(ranges)();
     TEST(ends)();
@@ -370,4 +372,8 @@ static void TEST(all)(void) {
     TEST(far_traced)();
     TEST(tracing_refused)();
     TEST(tracing_not_settled)();
+    TEST(vectors)();
+    TEST(vectors_kept)();
+    TEST(vectors_round_holes)();
+    TEST(vectors_refused)();
 }

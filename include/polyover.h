@@ -693,6 +693,20 @@ polyover_status polyover_graph_edges_result_32(const polyover_graph_32 *graph, p
 void polyover_graph_free(polyover_graph *graph);
 void polyover_graph_free_32(polyover_graph_32 *graph);
 
+/* The shapes round the region of `polyover_overlay`, with the sides that each step fills. Contours may touch themselves
+ * in points, whatever `touching` is. A point on one line with its two neighbours is dropped only where the steps before
+ * and behind it have equal filled sides; with 1 in `keep` none is. In what point a contour begins is left open.
+ *
+ * On POLYOVER_OK *result has the coordinates, the contours, the shapes, and in `fills` for each point, in order, the
+ * sides of the step that begins there, seen on the way along it. Statuses are those of `polyover_overlay_result`, and
+ * so is *result after any other one. */
+polyover_status polyover_vectors_result(polyover_rule rule, polyover_fill fill, const polyover_options *options,
+                                        const polyover_contours *subject, const polyover_contours *clip,
+                                        polyover_result *result);
+polyover_status polyover_vectors_result_32(polyover_rule rule, polyover_fill fill, const polyover_options_32 *options,
+                                           const polyover_contours_32 *subject, const polyover_contours_32 *clip,
+                                           polyover_result_32 *result);
+
 /* Stands for all edges in the place of an overlay rule, in `polyover_trace`. */
 enum { POLYOVER_ALL_EDGES = 7 };
 

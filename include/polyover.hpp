@@ -313,6 +313,7 @@ struct width<std::int64_t> {
     static constexpr auto clip_result = polyover_clip_result;
     static constexpr auto edges = polyover_edges;
     static constexpr auto edges_result = polyover_edges_result;
+    static constexpr auto vectors_result = polyover_vectors_result;
     static constexpr auto relate = polyover_relate;
     static constexpr auto relate_one = polyover_relate_one;
     static constexpr auto relate_exact = polyover_relate_exact;
@@ -369,6 +370,7 @@ struct width<std::int32_t> {
     static constexpr auto clip_result = polyover_clip_result_32;
     static constexpr auto edges = polyover_edges_32;
     static constexpr auto edges_result = polyover_edges_result_32;
+    static constexpr auto vectors_result = polyover_vectors_result_32;
     static constexpr auto relate = polyover_relate_32;
     static constexpr auto relate_one = polyover_relate_one_32;
     static constexpr auto relate_exact = polyover_relate_exact_32;
@@ -515,7 +517,7 @@ public:
     [[nodiscard]] span<const std::size_t> shape_ends() const noexcept { return {raw_.shape_ends, raw_.shape_count}; }
     /// Returns which shapes lie in which holes: of `hierarchy`.
     [[nodiscard]] span<const link> links() const noexcept { return {raw_.links, raw_.link_count}; }
-    /// Returns for each edge the sum of the bits of its filled sides (`side`): of `edges`.
+    /// Returns for each edge, or step, the sum of the bits of its filled sides (`side`): of `edges` and `vectors`.
     [[nodiscard]] span<const std::uint8_t> fills() const noexcept { return {raw_.fills, raw_.fill_count}; }
 
     /// Returns all contours, or paths, as calls take them: a view, for as long as this result holds its memory.
@@ -821,6 +823,18 @@ template <class Coordinate>
                                                        polyover::solver solver = polyover::solver::snapped) {
     return detail::result_of<Coordinate>(detail::width<Coordinate>::edges_result, detail::number(fill),
                                          detail::number(solver), &subject.raw(), &clip.raw());
+}
+
+/// Returns the shapes round the region of `overlay`, and in `fills()` for each point the bits of the sides that
+/// the step which begins there fills. Contours may touch themselves in points. Refused as `overlay` is.
+template <class Coordinate>
+[[nodiscard]] returned<basic_result<Coordinate>>
+vectors(polyover::rule rule, polyover::fill fill, basic_contours<Coordinate> subject,
+        detail::contours_of<Coordinate> clip = {}, const detail::options_of<Coordinate> &options = {}) {
+    using width = detail::width<Coordinate>;
+    const auto how = width::raw(options);
+    return detail::result_of<Coordinate>(width::vectors_result, detail::number(rule), detail::number(fill), &how,
+                                         &subject.raw(), &clip.raw());
 }
 
 // ---- one arrangement, asked for any overlay

@@ -20,3 +20,4 @@ pub mod slice_custom;
 pub mod test;
 pub mod tiles;
 pub mod traced;
+pub mod vectors;

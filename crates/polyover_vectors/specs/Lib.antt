@@ -1,0 +1,3 @@
+pub mod Flattened
+pub mod Held
+pub mod Vectors
