@@ -5,7 +5,7 @@ use crate::error::OverlayError;
 use crate::ffi::{Engine, Held};
 use crate::i_float::int::point::IntPoint;
 use crate::i_shape::int::shape::{IntContour, IntShapes};
-use crate::vector::edge::DataVectorEdge;
+use crate::vector::edge::{DataVectorEdge, VectorPath, VectorShape};
 use ::core::mem::replace;
 use ::core::ops::Range;
 use alloc::vec::Vec;
@@ -88,16 +88,42 @@ pub(crate) fn contours_of<I: Native, E: Engine>(held: &Held<E>) -> Result<Vec<In
     Ok(contours)
 }
 
-/// The shapes of an answer.
-pub(crate) fn shapes_of<I: Native, E: Engine>(held: &Held<E>) -> Result<IntShapes<I>, OverlayError> {
+/// The steps of a contour whose points have these numbers among all, with their filled sides.
+fn steps_of<I: Native, C: Copy + Into<i64>>(
+    coordinates: &[C],
+    fills: &[u8],
+    range: Range<usize>,
+) -> Result<VectorPath<I>, OverlayError> {
+    let points: IntContour<I> = path_of(coordinates, range.clone())?;
+    let ends = points.iter().zip(points.iter().skip(1).chain(points.first()));
+    let steps = ends.zip(fills.get(range).unwrap_or_default());
+    let step = |((&a, &b), &fill)| DataVectorEdge { a, b, fill, data: () };
+    listed(points.len(), steps.map(step))
+}
+
+/// The shapes of an answer, whose contours are made of the numbers of their points.
+fn made_shapes<T, E: Engine>(
+    held: &Held<E>,
+    contour: impl Fn(Range<usize>) -> Result<T, OverlayError>,
+) -> Result<Vec<Vec<T>>, OverlayError> {
     let mut contours = ranges(held.contour_ends());
     let mut shapes = with_room(held.shape_ends().len())?;
     for range in ranges(held.shape_ends()) {
         let mut shape = with_room(range.len())?;
-        for contour in contours.by_ref().take(range.len()) {
-            shape.push(path_of(held.coordinates(), contour)?);
+        for points in contours.by_ref().take(range.len()) {
+            shape.push(contour(points)?);
         }
         shapes.push(shape);
     }
     Ok(shapes)
+}
+
+/// The shapes of an answer.
+pub(crate) fn shapes_of<I: Native, E: Engine>(held: &Held<E>) -> Result<IntShapes<I>, OverlayError> {
+    made_shapes(held, |points| path_of(held.coordinates(), points))
+}
+
+/// The shapes of an answer as edges with their filled sides.
+pub(crate) fn vectors_of<I: Native, E: Engine>(held: &Held<E>) -> Result<Vec<VectorShape<I>>, OverlayError> {
+    made_shapes(held, |points| steps_of(held.coordinates(), held.fills(), points))
 }

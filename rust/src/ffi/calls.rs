@@ -37,6 +37,15 @@ pub(crate) trait Engine: 'static + Sized {
         clip: Given<'_, Self::C>,
     ) -> Result<Held<Self>, OverlayError>;
 
+    /// The shapes of an overlay, with the filled sides of each step.
+    fn vectors(
+        rule: OverlayRule,
+        fill: FillRule,
+        options: &Options,
+        subject: Given<'_, Self::C>,
+        clip: Given<'_, Self::C>,
+    ) -> Result<Held<Self>, OverlayError>;
+
     /// The shapes to which contours are simplified.
     fn simplify(fill: FillRule, options: &Options, contours: Given<'_, Self::C>) -> Result<Held<Self>, OverlayError>;
 
@@ -230,6 +239,19 @@ macro_rules! engine {
                 let (subject, clip) = (subject.raw(), clip.raw());
                 // SAFETY: as said above.
                 unsafe { Held::of(|to| sys::$width::hierarchy(rule, fill, &options, &subject, &clip, to)) }
+            }
+
+            fn vectors(
+                rule: OverlayRule,
+                fill: FillRule,
+                options: &Options,
+                subject: Given<'_, $c>,
+                clip: Given<'_, $c>,
+            ) -> Result<Held<Self>, OverlayError> {
+                let (rule, fill, options) = (rule.number(), fill.number(), options.$width());
+                let (subject, clip) = (subject.raw(), clip.raw());
+                // SAFETY: as said above.
+                unsafe { Held::of(|to| sys::$width::vectors(rule, fill, &options, &subject, &clip, to)) }
             }
 
             fn simplify(

@@ -153,6 +153,15 @@ macro_rules! calls {
                     clip: *const Contours<$c>,
                     result: *mut Answer<$c>,
                 ) -> Status;
+                #[link_name = concat!("polyover_vectors_result", $suffix)]
+                pub(crate) fn vectors(
+                    rule: u32,
+                    fill: u32,
+                    options: *const $options,
+                    subject: *const Contours<$c>,
+                    clip: *const Contours<$c>,
+                    result: *mut Answer<$c>,
+                ) -> Status;
                 #[link_name = concat!("polyover_simplify_result", $suffix)]
                 pub(crate) fn simplify(
                     fill: u32,

@@ -8,7 +8,7 @@ use crate::core::hierarchy::{ChildLink, FlatShapeHierarchy};
 use crate::core::integer::OverlayInt;
 use crate::core::overlay_rule::OverlayRule;
 use crate::core::solver::Solver;
-use crate::engine::lists::{edges_in, listed, make_room_instead, points_of, ranges, shapes_of};
+use crate::engine::lists::{edges_in, listed, make_room_instead, points_of, ranges, shapes_of, vectors_of};
 use crate::engine::options::Options;
 use crate::engine::width::Query;
 use crate::error::{answered, OverlayError};
@@ -35,6 +35,17 @@ impl<I: OverlayInt> Query for Nested<I> {
 
     fn ask<E: Engine>(&self, first: Given<'_, E::C>, second: Given<'_, E::C>) -> Result<IntShapes<I>, OverlayError> {
         shapes_of(&E::overlay(self.0.rule, self.0.fill, &self.0.options, first, second)?)
+    }
+}
+
+/// Shapes as edges with their filled sides.
+struct Vectors<I>(Asked, PhantomData<I>);
+
+impl<I: OverlayInt> Query for Vectors<I> {
+    type Answer = Vec<VectorShape<I>>;
+
+    fn ask<E: Engine>(&self, first: Given<'_, E::C>, second: Given<'_, E::C>) -> Result<Self::Answer, OverlayError> {
+        vectors_of(&E::vectors(self.0.rule, self.0.fill, &self.0.options, first, second)?)
     }
 }
 
@@ -252,10 +263,7 @@ impl<I: OverlayInt> Overlay<I> {
         fill_rule: FillRule,
         overlay_rule: OverlayRule,
     ) -> Result<Vec<VectorShape<I>>, OverlayError> {
-        match self.try_build_graph_view(fill_rule)? {
-            Some(view) => view.try_extract_vector_shapes(overlay_rule),
-            None => Ok(Vec::new()),
-        }
+        self.ask(&Vectors(self.asked(overlay_rule, fill_rule), PhantomData))
     }
 
     /// The shapes of an overlay, as edges with their filled sides, as of [`Self::try_build_shape_vectors`].
