@@ -62,8 +62,8 @@ static void TEST(crossing_at_thirds)(void) {
 }
 
 /* The upper edges of two triangles, y = 2x/7 and y = (x + 3)/7, cross in (3, 6/7), below (3, 1), which is outside both.
- * (3, 0) is in both; (4, 1) and (4, 0) are in the first and on the second; (5, 1) is in the first alone, and (-1, 0) in
- * the second, of which (-3, 0) is a corner. */
+ * (3, 0) is in both; (4, 1) and (4, 0) are in the first and on the second; (5, 1) is in the first alone. (-1, 0) is in
+ * the second, whose corner is (-3, 0). */
 static void TEST(crossing_at_sevenths)(void) {
     const NUMBER along[] = {0, 0, 7, -3, 7, 2, -3, 0, 4, -4, 4, 1};
     const NUMBER against[] = {0, 0, 7, -3, 7, 2, -3, 0, 4, 1, 4, -4};

@@ -760,9 +760,9 @@ typedef struct {
 
 /* The edges of the arrangement of the given ones where the rule holds on exactly one side, or, by POLYOVER_ALL_EDGES,
  * all of them. They are cut, ordered, filled and left out as those of `polyover_edges`, and the first end of each is
- * the smaller one. An edge between equal points is none. The sources of an edge are the given edges that were merged to
- * it, or of which it is a piece; their order is left open. Where edges make no contours, the windings beside one are
- * those of the edges below, and the time grows with the square of their number.
+ * the smaller one. An edge between equal points is none. The sources of an edge are the given edges that lie on it
+ * once they are cut and merged, in any order. Where edges make no contours, the windings beside one are those of the
+ * edges below, and the time grows with the square of their number.
  *
  * On POLYOVER_OK *traced is that answer; after any other status none of its arrays has an item. So it may always be
  * freed. What *traced was before is neither read nor freed.

@@ -85,7 +85,7 @@ The contracts leave open:
 
 - which of several collinear points is dropped first in paths that are added, so where a path with spikes begins;
 - by rounds, to which of two equally near whole points a point is rounded;
-- whether two answers to the same arguments are equal of edges with data, but of one arrangement;
+- whether two answers to the same arguments are equal of edges with data or filled sides, but of one arrangement;
 - which neighbours are joined first among edges with data, and where a joined contour begins;
 - whether a point on an edge is contained (`contains_points`);
 - the answer of a look-up by an order that does not rise, which ended edges are held, and how many are visited;

@@ -42,8 +42,8 @@ def floats_of(numpy: Any, points: Sequence[Any]) -> Any:
 
 
 def nearest_of(numpy: Any, axis: Any, values: Any) -> tuple[Any, Any]:
-    """The whole numbers of a column, and of which of them floats tell them surely: not of those near a half or large,
-    in the place of which there are zeros."""
+    """The whole numbers of a column, and which of them floats tell surely: none that is near a half or large. Zeros
+    stand in the place of these."""
     start, scale = axis.floats
     with numpy.errstate(all="ignore"):
         found = (values - start) * scale

@@ -90,8 +90,8 @@ def lines_of(lines: Sequence[Any]) -> list[Row] | None:
 
 
 def polygons_of(polygons: Sequence[Any]) -> list[list[Row]] | None:
-    """The coordinates of the rings of polygons in rows, if their points are plain; without the first point again at
-    the end, of which three are left at least."""
+    """The coordinates of the rings of polygons in rows, if their points are plain. The first point does not come again
+    at the end, and three are left at least."""
     rows = rows_of(list(chain.from_iterable(polygons)), RING)
     if rows is None:
         return None

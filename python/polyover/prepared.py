@@ -23,8 +23,8 @@ IS_INSIDE = bytes(word == "inside" for word in LOCATIONS).ljust(256, b"\0")
 
 
 def solver_of(solver: RelationSolver | None, level: int = 3) -> RelationSolver:
-    """The solver by which a shape is prepared: "exact" if none is asked for, unless the library is older, of which a
-    warning tells the caller at this level. Raises LibraryMissing where "exact" is asked for in vain."""
+    """The solver by which a shape is prepared: "exact" if none is asked for, unless the library is older. A warning
+    tells the caller so at this level. Raises LibraryMissing where "exact" is asked for in vain."""
     if solver is not None and known(RELATION_SOLVERS, solver, "solver") != AS_GIVEN:
         return solver
     if by_library.can("prepare_exact"):
