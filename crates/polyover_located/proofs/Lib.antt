@@ -1,5 +1,5 @@
 pub mod Asking
 pub mod Bare
+pub mod Endings
 pub mod OneTelling
-pub mod Preparing
 pub mod ToldPoints

@@ -42,7 +42,7 @@ pub fn locate_exactly<I: OverlayInt, E: EdgeForm<I, ShapeCountBoolean>, B: FormO
 }
 
 // Tests whether the coordinates are points, and whether there is a place for each.
-#[tactic(auto, using(crate::proofs::Asking::odd_count, crate::proofs::Asking::out_of_range, crate::proofs::Asking::no_room))]
+#[tactic(auto, using(crate::proofs::Asking::odd_count, crate::proofs::Asking::out_of_range))]
 fn tested_room<I: OverlayInt>(points: &[I], locations: &[u8]) -> Result<(), Status>
     ensures { MatchResult result
         (λ _. ArePoints I.whole I.limit points.now × HaveRoom points.now locations.now)

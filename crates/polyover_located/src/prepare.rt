@@ -45,7 +45,7 @@ struct FormedShape<E, B> {
 }
 
 /// Returns the parts of the shape that the contours make under the fill rule with the number, in memory that stays.
-#[tactic(auto, using(crate::proofs::Preparing::prepared_ends, crate::proofs::Preparing::unprepared_ends))]
+#[tactic(auto, using(crate::proofs::Endings::prepared_ends, crate::proofs::Endings::unprepared_ends))]
 pub fn shape_held<
     'a,
     I: OverlayInt,
@@ -82,7 +82,7 @@ pub fn shape_held<
 }
 
 // Returns the parts in these forms, or why there are none.
-#[tactic(auto, using(crate::proofs::Preparing::contours_unprepared, crate::proofs::Preparing::preparing_refused, crate::proofs::Preparing::without_memory))]
+#[tactic(auto, using(crate::proofs::Endings::misread, crate::proofs::Endings::refused, crate::proofs::Endings::short))]
 fn formed_shape<I: OverlayInt, E: FormOf<CountedEdge<I, ShapeCountBoolean>>, B: FormOf<Block<I>>>(
     alloc: Global,
     fill: u32,

@@ -2,7 +2,7 @@
 use Rattle.polyover_calls.specs.Given.{contours_of}
 use Rattle.polyover_calls.specs.Prepared.{block_of_64}
 use Rattle.polyover_located.specs.Held.{parts_of, parts_at_64, edge_of_64}
-use Rattle.polyover_located.proofs.Preparing.{handed_out}
+use Rattle.polyover_located.proofs.Endings.{handed_out}
 use Rattle.polyover_c.proofs.located.polyover_prepare_exact.Goals as goal
 
 pub returns : goal.returns

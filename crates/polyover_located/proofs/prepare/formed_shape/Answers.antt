@@ -4,7 +4,7 @@ use Rattle.overlay_geom.specs.Flat.{paths_in}
 use Rattle.overlay_order.specs.Content.{plain_edges}
 use Rattle.overlay_order.specs.Counts.{boolean_counts}
 use Rattle.polyover_calls.specs.Given.{contours_of}
-use Rattle.polyover_located.proofs.Preparing.{parts_formed}
+use Rattle.polyover_located.proofs.Endings.{parts_formed}
 use Rattle.polyover_located.proofs.prepare.formed_shape.Goals as goal
 
 pub returns : goal.returns

@@ -56,16 +56,16 @@ module _ {I : Type 0} (whole : I → ℤ) (limit fill : ℕ) (given : Contours I
 
   -- ---- refusals
 
-  pub contours_unprepared : (f : Fault) → fill < 4 → HaveFault whole limit given.coordinates given.ends f →
+  pub misread : (f : Fault) → fill < 4 → HaveFault whole limit given.coordinates given.ends f →
       IsExactPreparingRefused whole limit fill given (status_of_fault f)
-  contours_unprepared fault.Memory known are = (known, (are, tt))
-  contours_unprepared fault.Ends known faulty = (known, faulty)
-  contours_unprepared fault.Range known faulty = (known, faulty)
+  misread fault.Memory known are = (known, (are, tt))
+  misread fault.Ends known faulty = (known, faulty)
+  misread fault.Range known faulty = (known, faulty)
 
-  pub preparing_refused : (e : OverlayError) (q : List (List Point)) → fill < 4 → AreGiven whole limit given →
+  pub refused : (e : OverlayError) (q : List (List Point)) → fill < 4 → AreGiven whole limit given →
       q ≡ paths_of whole given → MayRefuseBuilder (added_paths false (paths_for Subject q)) e →
       IsExactPreparingRefused whole limit fill given (status_of_error e)
-  preparing_refused e q known are same may = by e
+  refused e q known are same may = by e
       (subst (λ y. MayRefuseBuilder (added_paths false (paths_for Subject y)) e) same may)
     where
       by : (x : OverlayError) → MayRefuseBuilder (added_paths false (paths_for Subject (paths_of whole given))) x →
@@ -75,9 +75,9 @@ module _ {I : Type 0} (whole : I → ℤ) (limit fill : ℕ) (given : Contours I
       by error.TooManyEdges refused = (known, (are, refused))
       by error.Failed refused = absurd refused
 
-  pub without_memory : (s : Status) → fill < 4 → AreGiven whole limit given → s ≡ Memory →
+  pub short : (s : Status) → fill < 4 → AreGiven whole limit given → s ≡ Memory →
       IsExactPreparingRefused whole limit fill given s
-  without_memory s known are same =
+  short s known are same =
       subst (IsExactPreparingRefused whole limit fill given) (sym same) (known, (are, tt))
 
   -- ---- parts
