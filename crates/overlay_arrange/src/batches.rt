@@ -15,6 +15,7 @@ ghost use Rattle.overlay_arrange.specs.Stores.{IsStoreReached};
 
 use crate::content::{Content, reaches_limit};
 use crate::cut::push_pieces;
+use crate::limits::next_limit;
 use overlay_geom::error::OverlayError;
 use overlay_geom::number::IntNumber;
 use overlay_geom::point::IntPoint;
@@ -23,7 +24,7 @@ use overlay_order::edge::CountedEdge;
 use std::alloc::{AllocError, Allocator};
 
 // How many times as long a list with few equal pieces may grow before they are joined again.
-const FEW: usize = 8;
+const MOST_GROWTH: usize = 8;
 
 /// Pieces of edges. Equal pieces may be joined.
 #[derive(Drop)]
@@ -105,16 +106,7 @@ impl<I: IntNumber, C: EdgeCount, A: Allocator + Clone> Pieces<I, C, A> {
         let weight = self.content.weight();
         self.content.join_runs(store)?;
         self.away += weight - self.content.weight();
-        self.most = next_limit(count, self.content.len(), self.least);
+        self.most = next_limit(count, self.content.len(), self.least, MOST_GROWTH);
         Ok(())
-    }
-}
-
-// Returns the number of pieces from which on equal ones are joined again, once `left` of `count` are left.
-fn next_limit(count: usize, left: usize, least: usize) -> usize {
-    if left > count / 2 {
-        left.saturating_mul(FEW)
-    } else {
-        left.saturating_mul(2).max(least)
     }
 }

@@ -26,6 +26,7 @@ ghost use Rattle.overlay_arrange.specs.Stores.{IsStoreReached};
 use crate::batches::Pieces;
 use crate::content::Content;
 use crate::crossing::is_end_of;
+use crate::limits::first_limit;
 use crate::meetings::{Meeting, run_at, sort_meetings};
 use crate::whole::are_whole;
 use overlay_geom::error::OverlayError;
@@ -36,11 +37,6 @@ use overlay_order::edge::{CountedEdge, compare_points};
 use std::alloc::{AllocError, Allocator};
 use std::cmp::Ordering;
 use std::mem;
-
-// Least number of pieces from which on equal ones are joined before all are cut.
-const LEAST: usize = 1048576;
-// Number of pieces of an edge, on average, from which on equal ones are joined before all are cut.
-const MANY: usize = 64;
 
 impl<I: IntNumber, C: EdgeCount, A: Allocator> Content<I, C, A> {
     /// Cuts each edge into the pieces of the chain through its meeting points, and may join equal pieces. Returns
@@ -124,7 +120,7 @@ fn cut_edges<I: IntNumber, C: EdgeCount, A: Allocator + Clone>(
 {
     // (each meeting makes one piece more at most)
     let room = edges.len().saturating_add(meetings.len());
-    let mut pieces = Pieces::new(alloc.clone()?, room, many_pieces(edges.len()))?;
+    let mut pieces = Pieces::new(alloc.clone()?, room, first_limit(edges.len()))?;
     let mut points = Vec::new(alloc);
     let mut near = 0;
     for (i, e) in edges.iter().enumerate() {
@@ -132,11 +128,6 @@ fn cut_edges<I: IntNumber, C: EdgeCount, A: Allocator + Clone>(
         pieces.add(e, &points, store)?;
     }
     Ok(pieces.content)
-}
-
-// Returns the number of pieces of `edges` edges from which on equal pieces are joined.
-fn many_pieces(edges: usize) -> usize {
-    edges.saturating_mul(MANY).max(LEAST)
 }
 
 /// Adds the pieces of an edge along the chain from its smaller to its larger end through the points.

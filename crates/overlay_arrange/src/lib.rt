@@ -7,6 +7,7 @@ mod course;
 mod crossing;
 mod cut;
 mod hot;
+mod limits;
 mod meetings;
 mod merge;
 mod pixel;

@@ -13,7 +13,8 @@ ghost use Rattle.overlay_arrange.specs.Meetings.{plain_meetings, AreByPlace, Are
 ghost use Rattle.overlay_arrange.specs.Meetings.{HasBefore, IsRunAt};
 
 use crate::crossing::push_meetings;
-use crate::repeats::{drop_repeats_from, first_limit};
+use crate::limits::first_limit;
+use crate::repeats::drop_repeats_from;
 use overlay_geom::number::IntNumber;
 use overlay_geom::point::IntPoint;
 use overlay_order::count::EdgeCount;
@@ -142,12 +143,12 @@ pub(crate) fn run_at<I: IntNumber>(meetings: &[Meeting<I>], near: usize, i: usiz
     requires { AreByPlace (plain_meetings I.whole meetings.now) }
     ensures { IsRunAt (plain_meetings I.whole meetings.now) i result.0 result.1 }
 {
-    let low = run_start(meetings, near, i);
-    (low, run_end(meetings, low, i))
+    let low = count_before(meetings, near, i);
+    (low, count_up_to(meetings, low, i))
 }
 
 /// Returns the number of meetings with smaller places than i, which come first. It tries `near`.
-fn run_start<I: IntNumber>(meetings: &[Meeting<I>], near: usize, i: usize) -> usize
+fn count_before<I: IntNumber>(meetings: &[Meeting<I>], near: usize, i: usize) -> usize
     requires { AreByPlace (plain_meetings I.whole meetings.now) }
     ensures within { result ≤ length meetings.now }
     ensures parted { IsPartitionPoint (λ m. nat_lt m.place i ≡ true) (λ m. nat_lt m.place i ≡ false)
@@ -177,7 +178,7 @@ fn is_parted_at<I: IntNumber>(meetings: &[Meeting<I>], at: usize, i: usize) -> b
 }
 
 /// Returns the number of meetings with places up to i, which come first. Those before `low` have smaller places.
-fn run_end<I: IntNumber>(meetings: &[Meeting<I>], low: usize, i: usize) -> usize
+fn count_up_to<I: IntNumber>(meetings: &[Meeting<I>], low: usize, i: usize) -> usize
     requires order { AreByPlace (plain_meetings I.whole meetings.now) }
     requires within { low ≤ length meetings.now }
     requires smaller { AllWithin (λ m. nat_lt m.place i ≡ true) meetings.now 0 low }

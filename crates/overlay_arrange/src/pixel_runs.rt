@@ -22,7 +22,7 @@ use std::alloc::{AllocError, Allocator};
 use std::cmp::Ordering;
 
 // First step, in places, of the search for a point that lies above an edge.
-const FIRST: usize = 8;
+const FIRST_STEP: usize = 8;
 
 /// Adds the points of a strip, from `from` up to `to`, whose pixels the edge may meet. Their x-coordinates lie between
 /// `left` and `right`.
@@ -45,8 +45,8 @@ pub(crate) fn push_run<I: IntNumber, C: EdgeCount, A: Allocator>(
         (plain_points I.whole points.old.items) (plain_points I.whole points.new.items)) }
 {
     let (first, last) = x_along(e, left, right);
-    let low = run_start(strips, e, course, first, from, to);
-    let high = run_end(strips, e, course, last, low, to);
+    let low = near_start(strips, e, course, first, from, to);
+    let high = near_end(strips, e, course, last, low, to);
     push_points(points, strips, low, high, is_less(e.b.y, e.a.y))
 }
 
@@ -143,7 +143,7 @@ fn x_within<I: IntNumber, C: EdgeCount>(e: &CountedEdge<I, C>, x: I) -> I
 }
 
 /// Returns a place as [`place_not_below`] does: the guessed place, if it is right.
-fn run_start<I: IntNumber, C: EdgeCount>(
+fn near_start<I: IntNumber, C: EdgeCount>(
     strips: &[IntPoint<I>],
     e: &CountedEdge<I, C>,
     course: &Course<I>,
@@ -191,7 +191,7 @@ fn guessed_start<I: IntNumber>(
 }
 
 /// Returns a place as [`place_above`] does: the guessed place, if it is right.
-fn run_end<I: IntNumber, C: EdgeCount>(
+fn near_end<I: IntNumber, C: EdgeCount>(
     strips: &[IntPoint<I>],
     e: &CountedEdge<I, C>,
     course: &Course<I>,
@@ -325,7 +325,7 @@ fn place_over<I: IntNumber, C: EdgeCount>(
         (plain_points I.whole strips.now) result to }
 {
     let mut at = from;
-    let mut step: usize = FIRST;
+    let mut step: usize = FIRST_STEP;
     while at < to {
         if passes_below(e, x, strips[at].y) {
             return at;
@@ -370,12 +370,12 @@ fn is_far_below<I: IntNumber, C: EdgeCount>(e: &CountedEdge<I, C>, v: IntPoint<I
     requires point { InRange I.limit (plain_point I.whole v) }
     ensures { result ≡ is_far_below (ends_of (plain_edge I.whole C.counts e.now)) (plain_point I.whole v) }
 {
-    is_under(order_to_low(e, cross_at(e.a, e.b, v)))
+    is_below_bound(order_to_low(e, cross_at(e.a, e.b, v)))
 }
 
 /// Returns whether a number that compares as `low` with the lower bound of an edge lies below it. A line touches the
 /// pixel where it is equal.
-fn is_under(low: Ordering) -> bool
+fn is_below_bound(low: Ordering) -> bool
     ensures { result ≡ is_lt low }
 {
     low.is_lt()

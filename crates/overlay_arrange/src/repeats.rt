@@ -6,6 +6,7 @@ ghost use Rattle.overlay_geom.specs.Points.{plain_point};
 ghost use Rattle.overlay_arrange.specs.HotPoints.{HaveSameMembers};
 ghost use Rattle.overlay_arrange.specs.Meetings.{plain_meetings};
 
+use crate::limits::{LEAST_LENGTH, next_limit};
 use crate::meetings::Meeting;
 use overlay_geom::edge_pair::is_same;
 use overlay_geom::number::IntNumber;
@@ -13,17 +14,8 @@ use overlay_order::edge::compare_points;
 use std::alloc::{AllocError, Allocator};
 use std::cmp::Ordering;
 
-// Least number of meetings from which on those that repeat are dropped.
-const LEAST: usize = 1048576;
-// Number of meetings of an edge, on average, from which on those that repeat are dropped for the first time.
-const MANY: usize = 64;
 // How many times as long a list with few repeated meetings may grow before they are dropped again.
-const FEW: usize = 16;
-
-/// Returns the number of meetings of `edges` edges from which on those that repeat are dropped for the first time.
-pub(crate) fn first_limit(edges: usize) -> usize {
-    edges.saturating_mul(MANY).max(LEAST)
-}
+const MOST_GROWTH: usize = 16;
 
 /// Drops meetings that repeat, if there are `most` or more of them. Returns the number of meetings from which on this
 /// is to be done again.
@@ -39,16 +31,7 @@ pub(crate) fn drop_repeats_from<I: IntNumber, A: Allocator>(
         return Ok(most);
     }
     drop_repeats(meetings)?;
-    Ok(next_limit(count, meetings.len()))
-}
-
-// Returns the number of meetings from which on repeated ones are dropped again, once `left` of `count` are left.
-fn next_limit(count: usize, left: usize) -> usize {
-    if left > count / 2 {
-        left.saturating_mul(FEW)
-    } else {
-        left.saturating_mul(2).max(LEAST)
-    }
+    Ok(next_limit(count, meetings.len(), LEAST_LENGTH, MOST_GROWTH))
 }
 
 // Drops the meetings that repeat.

@@ -28,10 +28,13 @@ use overlay_pairs::near::on_by;
 use overlay_pairs::strips::{SAMPLES, points_by_strips, strip_width};
 use std::alloc::{AllocError, Allocator};
 
-// Number of points in the span of an edge up to which they are tested one by one; more are searched by strips.
-const FEW: usize = 16;
+// Greatest number of points in the span of an edge that are tested one by one; more are searched by strips.
+const MOST_IN_SPAN: usize = 16;
 // Least number of pieces from which on equal ones are joined before all edges are led.
-const LEAST: usize = 65536;
+const LEAST_PIECES: usize = 65536;
+// Number of pieces for each hot point from which on equal ones are joined. Different pieces meet in ends alone, so that
+// there are fewer than three for each point.
+const PIECES_OF_A_POINT: usize = 6;
 
 /// Returns the pieces of all edges, each along the chain through the hot points whose pixels it meets. Equal pieces may
 /// be joined.
@@ -71,24 +74,23 @@ pub(crate) fn snap_edges<I: IntNumber, C: EdgeCount, A: Allocator + Clone>(
     Ok(pieces.content)
 }
 
-// Returns the number of pieces from which on equal pieces are joined. Different pieces meet in ends alone, so that
-// there are fewer than three for each hot point.
+// Returns the number of pieces of `hot` hot points from which on equal pieces are joined.
 fn many_pieces(hot: usize) -> usize {
-    hot.saturating_mul(6).max(LEAST)
+    hot.saturating_mul(PIECES_OF_A_POINT).max(LEAST_PIECES)
 }
 
-/// Returns how many points beyond `FEW` an edge may still test, all edges together, after one that tested `count`. It
-/// is nothing once strips are made.
+/// Returns how many points beyond `MOST_IN_SPAN` an edge may still test, all edges together, after one that tested
+/// `count`. It is nothing once strips are made.
 fn spare_behind(spare: usize, has_strips: bool, count: usize) -> usize {
     if has_strips {
         0
     } else {
-        spare.saturating_sub(count.saturating_sub(FEW))
+        spare.saturating_sub(count.saturating_sub(MOST_IN_SPAN))
     }
 }
 
 /// Replaces the list by points among which those stand whose pixels the edge meets: all in its span, if there are at
-/// most `FEW` and `spare` of them, or those that strips find. The first `low` points lie left of the edge.
+/// most `MOST_IN_SPAN` and `spare` of them, or those that strips find. The first `low` points lie left of the edge.
 fn take_near<I: IntNumber, C: EdgeCount, A: Allocator + Clone>(
     points: &mut Vec<IntPoint<I>, A>,
     strips: &mut Vec<IntPoint<I>, A>,
@@ -108,7 +110,7 @@ fn take_near<I: IntNumber, C: EdgeCount, A: Allocator + Clone>(
     ensures strips { OnOk result
         (AreStripsIfAny (plain_points I.whole hot.now) width (plain_points I.whole strips.new.items)) }
 {
-    let high = place_up_to(hot, e.b.x, low, spare.saturating_add(FEW));
+    let high = place_up_to(hot, e.b.x, low, spare.saturating_add(MOST_IN_SPAN));
     if goes_on(hot, e.b.x, high) {
         make_strips(strips, hot, width)?;
         take_by_strips(points, hot, width, strips, e, low)

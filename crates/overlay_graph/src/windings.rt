@@ -34,7 +34,7 @@ impl Windings {
 }
 
 /// Returns the bit of a side if it is filled, else 0.
-fn bit_if(is_filled: bool, side: SideFill) -> SideFill
+pub fn bit_if(is_filled: bool, side: SideFill) -> SideFill
     ensures value { result ≡ bit is_filled side }
     ensures at_most { result ≤ side }
 {

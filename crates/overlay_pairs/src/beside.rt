@@ -12,6 +12,7 @@ ghost use Rattle.overlay_pairs.specs.Near.{IsSearchedBy};
 use crate::bundles::{Bundle, Bundles, is_left_of_parallel};
 use crate::extents::{Extent, is_apart, is_less};
 use crate::near::{on_by, push_near};
+use crate::strips::BLOCK_SIZE;
 use overlay_geom::edge::IntEdge;
 use overlay_geom::number::IntNumber;
 use overlay_geom::point::IntPoint;
@@ -19,10 +20,8 @@ use overlay_order::count::EdgeCount;
 use overlay_order::edge::CountedEdge;
 use std::alloc::{AllocError, Allocator};
 
-// Number of boxes that are tested one by one at a time.
-const BLOCK: usize = 8;
 // Size of bundles from which on the box of each is tested. Of smaller bundles only large boxes are tested.
-const BOXED: usize = 64;
+const LEAST_BOXED: usize = 64;
 
 /// Finds the places of the edges whose boxes do not lie apart from `of`, without those in bundles that the edge e
 /// misses.
@@ -46,7 +45,7 @@ pub(crate) fn find_in_bundles<I: IntNumber, C: EdgeCount, A: Allocator>(
         if at < next {
             at = next;
         } else {
-            let end = on_by(at, BLOCK, bundles.edges.len());
+            let end = on_by(at, BLOCK_SIZE, bundles.edges.len());
             push_near(near, of, &bundles.edges, at, end)?;
             at = end;
         }
@@ -140,7 +139,7 @@ fn lies_beside<I: IntNumber, C: EdgeCount>(
 {
     is_apart(of, bundle.extent)
         || is_beyond_line(bundle, e)
-        || (bundle.is_large || BOXED <= size) && is_box_beside(bundle, e)
+        || (bundle.is_large || LEAST_BOXED <= size) && is_box_beside(bundle, e)
 }
 
 /// Returns whether both ends of e lie beyond one of the bundle's lines.

@@ -20,7 +20,7 @@ use overlay_order::edge::CountedEdge;
 use std::alloc::{AllocError, Allocator};
 
 // How many times as large as an edge a much larger box is.
-const MUCH: u64 = 4;
+const TIMES_LARGER: u64 = 4;
 
 /// Some edges of a list: their box, and two parallel lines between which they lie.
 #[derive(Clone, Copy)]
@@ -160,7 +160,7 @@ fn widened<I: IntNumber, C: EdgeCount>(
         west,
         east,
         longest,
-        is_large: longest < size / MUCH,
+        is_large: longest < size / TIMES_LARGER,
         ..reached
     }
 }

@@ -75,7 +75,7 @@ pub(crate) fn is_apart<I: IntNumber>(s: Extent<I>, t: Extent<I>) -> bool
 }
 
 /// Returns whether s lies wholly below t.
-pub(crate) fn is_under<I: IntNumber>(s: Extent<I>, t: Extent<I>) -> bool
+pub(crate) fn is_wholly_below<I: IntNumber>(s: Extent<I>, t: Extent<I>) -> bool
     ensures { result ≡ int_lt (I.whole s.high) (I.whole t.low) }
 {
     is_less(s.high, t.low)

@@ -17,21 +17,21 @@ use overlay_order::sort_points::{greater, lesser};
 use std::alloc::{AllocError, Allocator};
 
 // Number of bits of a scaled coordinate, and the scaled coordinate in the middle.
-const BITS: u32 = 30;
+const SCALED_BITS: u32 = 30;
 
-const MIDDLE: u64 = 1 << 29;
+const SCALED_MIDDLE: u64 = 1 << 29;
 // Width and height below which an edge is short, and the bit that tells short edges.
-const SHORT: u64 = 1 << 22;
+const SHORT_SIZE: u64 = 1 << 22;
 
-const IS_SHORT: u64 = 1 << 63;
+const SHORT_MARK: u64 = 1 << 63;
 // Number of bits of a slope, and of those of a height that are left out.
-const SLOPE: u32 = 20;
+const SLOPE_BITS: u32 = 20;
 
-const LOST: u32 = 10;
+const LOST_BITS: u32 = 10;
 // Number of bits of a line, and of the bits of a scaled coordinate that do not tell a cell.
-const LINE: u32 = 44;
+const LINE_BITS: u32 = 44;
 
-const IN_CELL: u32 = 28;
+const CELL_BITS: u32 = 28;
 
 // How coordinates are scaled: less those of the corner, and shifted.
 #[derive(Drop)]
@@ -94,8 +94,8 @@ fn scale_of<I: IntNumber, C: EdgeCount>(edges: &[CountedEdge<I, C>], v: IntPoint
     let bits = u64::BITS.wrapping_sub(size.leading_zeros());
     Scale {
         corner: low,
-        left: BITS.saturating_sub(bits),
-        right: bits.saturating_sub(BITS),
+        left: SCALED_BITS.saturating_sub(bits),
+        right: bits.saturating_sub(SCALED_BITS),
     }
 }
 
@@ -119,11 +119,11 @@ fn number_of<I: IntNumber>(scale: &Scale<I>, a: IntPoint<I>, b: IntPoint<I>) -> 
     };
     let x = middle_of(ax, bx);
     let y = middle_of(ay, by);
-    if dx < SHORT && dy < SHORT {
-        return IS_SHORT | by_turns(x, y);
+    if dx < SHORT_SIZE && dy < SHORT_SIZE {
+        return SHORT_MARK | by_turns(x, y);
     }
-    let cell = by_turns(x.wrapping_shr(IN_CELL), y.wrapping_shr(IN_CELL));
-    cell.wrapping_shl(LINE) | line_of(ax, ay, dx, dy, rises)
+    let cell = by_turns(x.wrapping_shr(CELL_BITS), y.wrapping_shr(CELL_BITS));
+    cell.wrapping_shl(LINE_BITS) | line_of(ax, ay, dx, dy, rises)
 }
 
 // Returns a number for the line that passes the point (x, y), and rises or falls by dy on a width of dx. Its bits are,
@@ -154,7 +154,7 @@ fn middle_of(u: u64, v: u64) -> u64 {
 
 // Returns the number of a direction: `halves` halves of a right angle, and the slope more or less.
 fn turned(halves: u64, is_more: bool, slope: u64) -> u64 {
-    let axis = halves.wrapping_shl(SLOPE);
+    let axis = halves.wrapping_shl(SLOPE_BITS);
     if is_more {
         axis.wrapping_add(slope)
     } else {
@@ -164,7 +164,7 @@ fn turned(halves: u64, is_more: bool, slope: u64) -> u64 {
 
 // Returns the quotient of two lengths as a slope, or 0 where there is none.
 fn slope_of(rise: u64, run: u64) -> u64 {
-    quotient(rise.wrapping_shl(SLOPE), run)
+    quotient(rise.wrapping_shl(SLOPE_BITS), run)
 }
 
 // Returns the quotient, rounded down, or 0 where there is none.
@@ -175,19 +175,19 @@ fn quotient(t: u64, d: u64) -> u64 {
 // Returns the height at which a line passes the middle of the box. It passes the point (x, y), and rises or falls by
 // `rise` on a run.
 fn height_of(x: u64, y: u64, run: u64, rise: u64, rises: bool) -> u64 {
-    let way = if x < MIDDLE {
-        MIDDLE.wrapping_sub(x)
+    let way = if x < SCALED_MIDDLE {
+        SCALED_MIDDLE.wrapping_sub(x)
     } else {
-        x.wrapping_sub(MIDDLE)
+        x.wrapping_sub(SCALED_MIDDLE)
     };
     let change = quotient(way.wrapping_mul(rise), run);
-    let base = y.wrapping_add(MIDDLE).wrapping_add(MIDDLE);
-    let height = if (x < MIDDLE) == rises {
+    let base = y.wrapping_add(SCALED_MIDDLE).wrapping_add(SCALED_MIDDLE);
+    let height = if (x < SCALED_MIDDLE) == rises {
         base.wrapping_add(change)
     } else {
         base.wrapping_sub(change)
     };
-    height.wrapping_shr(LOST)
+    height.wrapping_shr(LOST_BITS)
 }
 
 // Returns the number with the bits of u and v by turns, where they have at most 32.

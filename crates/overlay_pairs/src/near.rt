@@ -11,18 +11,16 @@ ghost use Rattle.overlay_pairs.specs.Near.{run_of, AreApartFrom, AreNearAdded, A
 ghost use Rattle.overlay_pairs.specs.Near.{BeginsApart, IsSearchedTo};
 
 use crate::beside::find_in_bundles;
-use crate::extents::{Extent, extent_of, is_apart, is_less, is_under};
+use crate::extents::{Extent, extent_of, is_apart, is_less, is_wholly_below};
 use crate::spans::{place_right_of, run_end};
-use crate::strips::Strips;
+use crate::strips::{BLOCK_SIZE, Strips};
 use overlay_geom::number::IntNumber;
 use overlay_order::count::EdgeCount;
 use overlay_order::edge::CountedEdge;
 use std::alloc::{AllocError, Allocator};
 
 // Greatest number of edges that are tested one by one. Where there may be more, blocks or bundles are searched.
-const FEW: usize = 112;
-// Number of boxes that are tested one by one at a time.
-const BLOCK: usize = 8;
+const MOST_ONE_BY_ONE: usize = 112;
 
 /// Finds the places of the edges from `from` on that an edge may meet elsewhere than in ends. These are all that start
 /// up to its right end, or those of them whose heights are not apart from its own. The edges ascend; e need not be in
@@ -45,7 +43,7 @@ pub(crate) fn find_near_behind<I: IntNumber, C: EdgeCount, A: Allocator>(
     near.clear();
     let to = place_right_of(edges, from, e.b.x);
     match strips {
-        Some(strips) if FEW < to - from => find_by_strips(near, edges, strips, e, from),
+        Some(strips) if MOST_ONE_BY_ONE < to - from => find_by_strips(near, edges, strips, e, from),
         _ => take_by_heights(near, edges, e, from, to),
     }
 }
@@ -160,7 +158,7 @@ fn find_by_blocks<I: IntNumber, A: Allocator>(
         if at < next {
             at = next;
         } else {
-            let end = on_by(at, BLOCK, stop);
+            let end = on_by(at, BLOCK_SIZE, stop);
             push_near(near, of, &strips.edges, at, end)?;
             at = end;
         }
@@ -199,7 +197,7 @@ fn count_passed<I: IntNumber, A: Allocator>(
 {
     if at % 64 == 0 {
         count_passed_by_blocks(strips, of, at)
-    } else if is_under(of, strips.edges[at]) {
+    } else if is_wholly_below(of, strips.edges[at]) {
         strips.width - at % strips.width
     } else if begins_apart(&strips.of_8, 8, of, at) {
         8
@@ -230,7 +228,7 @@ fn count_passed_by_blocks<I: IntNumber, A: Allocator>(
         4096
     } else if begins_apart(&strips.of_512, 512, of, at) {
         512
-    } else if is_under(of, strips.edges[at]) {
+    } else if is_wholly_below(of, strips.edges[at]) {
         strips.width - at % strips.width
     } else if begins_apart(&strips.of_64, 64, of, at) {
         64

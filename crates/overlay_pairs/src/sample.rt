@@ -14,14 +14,14 @@ use overlay_order::edge::CountedEdge;
 use std::alloc::{AllocError, Allocator};
 
 // Number of edges from which on bundles may be made, of edges in a sample, and of those that are many for such an edge.
-const MANY: usize = 480;
+const LEAST_EDGES: usize = 480;
 
-const SAMPLE: usize = 16;
+const SAMPLE_SIZE: usize = 16;
 
-const FOUND: usize = 128;
+const MANY_FOUND: usize = 128;
 // The edges of a sample lie 1 more than a multiple of this apart. So edges of all kinds are in it where each few edges
 // repeat the kinds.
-const PERIOD: usize = 30;
+const KINDS_PERIOD: usize = 30;
 
 /// Returns whether a quarter of the edges of a sample, or more, find many edges by their boxes and meet few of them.
 /// It only serves as an estimate. Short lists are not tried.
@@ -34,24 +34,24 @@ pub(crate) fn misses_many<I: IntNumber, C: EdgeCount, A: Allocator>(
     requires ascending { IsAscending (plain_edges I.whole C.counts edges.now) }
     requires strips { AreHeldStripsOf I.whole I.limit (plain_edges I.whole C.counts edges.now) strips.now }
 {
-    if edges.len() < MANY {
+    if edges.len() < LEAST_EDGES {
         return Ok(false);
     }
-    let distance = edges.len() / SAMPLE / PERIOD * PERIOD + 1;
+    let distance = edges.len() / SAMPLE_SIZE / KINDS_PERIOD * KINDS_PERIOD + 1;
     let mut near = Vec::new(alloc);
     let mut count: usize = 0;
-    for k in 0..SAMPLE {
+    for k in 0..SAMPLE_SIZE {
         let i = k.saturating_mul(distance);
         if i < edges.len() {
             let e = &edges[i];
             near.clear();
             find_by_strips(&mut near, edges, strips, e, i + 1)?;
-            if near.len() >= FOUND && count_met(edges, e, &near) < near.len() / 4 {
+            if near.len() >= MANY_FOUND && count_met(edges, e, &near) < near.len() / 4 {
                 count = count.saturating_add(1);
             }
         }
     }
-    Ok(count >= SAMPLE / 4)
+    Ok(count >= SAMPLE_SIZE / 4)
 }
 
 /// Returns how many of the edges at the places e meets. Bundles with such edges do not lie beside e.

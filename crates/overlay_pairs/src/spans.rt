@@ -9,7 +9,7 @@ use overlay_order::count::EdgeCount;
 use overlay_order::edge::CountedEdge;
 
 // Length of the first step of the search for the end of a run.
-const FIRST: usize = 16;
+const FIRST_STEP: usize = 16;
 
 /// Returns the place of the first edge from `from` on that starts right of x, or the number of edges. The edges ascend.
 pub(crate) fn run_end<I: IntNumber, C: EdgeCount>(
@@ -40,7 +40,7 @@ pub(crate) fn place_right_of<I: IntNumber, C: EdgeCount>(
         → I.whole x <ℤ f.a.x }
 {
     let mut at = from;
-    let mut step: usize = FIRST;
+    let mut step: usize = FIRST_STEP;
     while at < edges.len() {
         if x.compare(edges[at].a.x).is_lt() {
             return at;

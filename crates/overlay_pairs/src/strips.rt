@@ -21,18 +21,18 @@ use overlay_order::edge::CountedEdge;
 use std::alloc::{AllocError, Allocator};
 
 // Least and greatest number of neighbours in a strip.
-const LEAST: usize = 64;
+const LEAST_WIDTH: usize = 64;
 
-const MOST: usize = 65536;
+const GREATEST_WIDTH: usize = 65536;
 /// Size of the sample for the length of runs.
 pub const SAMPLES: usize = 64;
 // Number of edges up to which no strips are made where runs are short, and the length below which runs are short on
 // average.
-const SMALL: usize = 2048;
+const MOST_EDGES: usize = 2048;
 
-const SHORT: usize = 64;
-// Number of boxes in a block.
-const BLOCK: usize = 8;
+const SHORT_RUN: usize = 64;
+/// Number of boxes in a least block. A search tests the boxes of such a block one by one.
+pub(crate) const BLOCK_SIZE: usize = 8;
 
 /// The boxes of the edges of a list, strip by strip, and the boxes of the blocks of 8, 64, 512, 4096 and 32768 of them.
 /// A block of n begins at each multiple of n. In a strip the boxes are sorted by their least heights, so boxes of a
@@ -69,7 +69,7 @@ pub fn strips_of<I: IntNumber, C: EdgeCount, A: Allocator + Clone>(
         IfSome made (AreHeldStripsOf I.whole I.limit (plain_edges I.whole C.counts edges.now))) }
 {
     let runs = length_of_runs(edges, SAMPLES);
-    if edges.len() <= SMALL && runs < SHORT * SAMPLES {
+    if edges.len() <= MOST_EDGES && runs < SHORT_RUN * SAMPLES {
         return Ok(None);
     }
     let strips = strips_of_boxes(alloc.clone()?, edges, runs)?;
@@ -117,8 +117,8 @@ fn strips_of_boxes<I: IntNumber, C: EdgeCount, A: Allocator + Clone>(
 pub fn strip_width(runs: usize) -> usize
     ensures { 0 < result }
 {
-    let mut width = LEAST;
-    while width < MOST && width * width / 4 < runs {
+    let mut width = LEAST_WIDTH;
+    while width < GREATEST_WIDTH && width * width / 4 < runs {
         width *= 2;
     }
     width
@@ -252,10 +252,10 @@ fn extents_of_blocks<I: IntNumber, A: Allocator>(
 {
     let mut blocks = Vec::new(alloc);
     for (i, extent) in extents.iter().enumerate() {
-        if i % BLOCK == 0 {
+        if i % BLOCK_SIZE == 0 {
             blocks.push(*extent)?;
         } else {
-            let last = i / BLOCK;
+            let last = i / BLOCK_SIZE;
             blocks[last] = joined(blocks[last], *extent);
         }
     }

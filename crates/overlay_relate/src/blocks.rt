@@ -7,10 +7,11 @@ ghost use Rattle.overlay_relate.specs.Blocks.{plain_block, plain_blocks, is_clea
 ghost use Rattle.overlay_relate.specs.Blocks.{LiesBetween, IsBlockOf, AreClear};
 
 use crate::form::FormOf;
-use crate::order::{greater, is_less, lesser};
+use crate::order::{greater, lesser};
 use overlay_geom::edge::IntEdge;
 use overlay_geom::number::IntNumber;
 use overlay_geom::point::IntPoint;
+use overlay_pairs::extents::is_less;
 use std::alloc::{AllocError, Allocator};
 
 /// The edges from one place up to another, and numbers between which they lie.

@@ -8,11 +8,11 @@ ghost use Rattle.overlay_geom.specs.Resolved.{plain_edge, IsLongEdge};
 ghost use Rattle.overlay_relate.specs.Locations.{IsLocatedBy};
 
 use crate::location::PointLocation;
-use crate::order::is_less;
 use overlay_geom::edge::IntEdge;
 use overlay_geom::number::{IntNumber, WideIntNumber};
 use overlay_geom::point::IntPoint;
 use overlay_geom::vector::cross_at;
+use overlay_pairs::extents::is_less;
 use std::cmp::Ordering;
 
 /// Where the point lies by the edge alone: `Boundary` where it is on it, `Inside` where the edge is strictly below it,

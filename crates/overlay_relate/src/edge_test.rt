@@ -11,7 +11,7 @@ use overlay_order::vector::{
 
 /// What the filled sides of an edge are tested for.
 #[derive(Clone, Copy)]
-pub(crate) enum EdgeTest {
+pub enum EdgeTest {
     /// The subject fills a side, and the clip does.
     BothShapes,
     /// Both fill the same side.
@@ -42,8 +42,8 @@ impl FillTest for EdgeTest {
     }
 }
 
-/// Returns whether some edge passes the test. They are looked at in order, up to the first one that does.
-pub(crate) fn some_passes<I, D>(edges: &[DataVectorEdge<I, D>], test: EdgeTest) -> bool
+/// Returns whether some edge passes the test. It looks at them in order, up to the first that does.
+pub fn some_passes<I, D>(edges: &[DataVectorEdge<I, D>], test: EdgeTest) -> bool
     ensures { result ≡ list_any (bits_pass test) (map (λ v. v.fill) edges.now) }
 {
     for edge in edges {
@@ -54,7 +54,7 @@ pub(crate) fn some_passes<I, D>(edges: &[DataVectorEdge<I, D>], test: EdgeTest) 
     false
 }
 
-// Whether sides filled so pass it.
+// Returns whether sides filled so pass the test.
 fn sides_pass(
     test: EdgeTest,
     subj_above: bool,

@@ -1,17 +1,10 @@
-//! The order of coordinates.
+//! The lesser and the greater of two coordinates.
 
-ghost use Rattle.std.specs.Prelude.{◌≡◌, ◌≤ℤ◌, int_lt};
+ghost use Rattle.std.specs.Prelude.{◌≤ℤ◌};
 
 use overlay_geom::number::IntNumber;
 
-/// Whether the first number is less than the second.
-pub(crate) fn is_less<I: IntNumber>(x: I, y: I) -> bool
-    ensures { result ≡ int_lt (I.whole x) (I.whole y) }
-{
-    x.compare(y).is_lt()
-}
-
-/// The lesser of two numbers.
+/// Returns the lesser of two numbers.
 pub(crate) fn lesser<I: IntNumber>(x: I, y: I) -> I
     ensures first { I.whole result ≤ℤ I.whole x }
     ensures second { I.whole result ≤ℤ I.whole y }
@@ -19,7 +12,7 @@ pub(crate) fn lesser<I: IntNumber>(x: I, y: I) -> I
     if y.compare(x).is_lt() { y } else { x }
 }
 
-/// The greater of two numbers.
+/// Returns the greater of two numbers.
 pub(crate) fn greater<I: IntNumber>(x: I, y: I) -> I
     ensures first { I.whole x ≤ℤ I.whole result }
     ensures second { I.whole y ≤ℤ I.whole result }

@@ -16,8 +16,8 @@ use overlay_order::vector::{CLIP_LEFT, CLIP_RIGHT, DataVectorEdge, SUBJ_LEFT, SU
 use std::alloc::{AllocError, Allocator};
 
 /// Returns whether some point is an end of an edge that the subject alone fills on one side alone, and of an edge that
-/// the clip alone fills so.
-pub(crate) fn has_shared_end<I: IntNumber, C: EdgeCount, A: Allocator + Clone>(
+/// the clip alone fills so. It fails where memory runs out.
+pub fn has_shared_end<I: IntNumber, C: EdgeCount, A: Allocator + Clone>(
     graph: &Graph<I, C, A>,
 ) -> Result<bool, AllocError>
     ensures ok { IfOk result (λ b. IsTrue b ↔ HasSharedEnd (is_filled graph.now.fill_rule) (graph_edges graph.now)) }

@@ -12,7 +12,7 @@ use overlay_geom::number::IntNumber;
 use overlay_geom::point::IntPoint;
 use overlay_order::edge::compare_points;
 use overlay_order::sort_points::order_by_points;
-use overlay_walk::next::run_start;
+use overlay_walk::next::count_leaving_below;
 use overlay_walk::onward::{first_near, note_of};
 use overlay_walk::step::Step;
 use std::alloc::{AllocError, Allocator};
@@ -89,7 +89,7 @@ pub(crate) fn first_open_from<I: IntNumber>(
     requires within { All (λ s. s.edge < length taken.now) steps.now }
     ensures { IsFirstFrom I.whole steps.now taken.now (plain_point I.whole point) result }
 {
-    let low = run_start(steps, near, point);
+    let low = count_leaving_below(steps, near, point);
     for i in low..steps.len() {
         let step = steps[i];
         if !compare_points(step.from, point).is_eq() {

@@ -1,9 +1,9 @@
 //! The filled sides of an edge, seen on the way back.
 
-ghost use Rattle.std.specs.Prelude.{◌≡◌, ◌≤◌};
-ghost use Rattle.overlay_geom.specs.Rules.{bit};
+ghost use Rattle.std.specs.Prelude.{◌≡◌};
 ghost use Rattle.overlay_vector.specs.SideFills.{turned_fill};
 
+use overlay_graph::windings::bit_if;
 use overlay_order::vector::{CLIP_LEFT, CLIP_RIGHT, SUBJ_LEFT, SUBJ_RIGHT, SideFill};
 
 /// What can be seen the other way round.
@@ -28,12 +28,4 @@ impl Reverse for SideFill {
             + bit_if(self & CLIP_RIGHT != 0, CLIP_LEFT)
             + bit_if(self & CLIP_LEFT != 0, CLIP_RIGHT)
     }
-}
-
-// The bit of a side where it is filled, and 0 elsewhere.
-fn bit_if(is_filled: bool, side: SideFill) -> SideFill
-    ensures value { result ≡ bit is_filled side }
-    ensures at_most { result ≤ side }
-{
-    if is_filled { side } else { 0 }
 }

@@ -33,7 +33,7 @@ pub(crate) fn place_of_next<I: IntNumber>(
     requires step { IsLong I.limit (plain_step I.whole step) }
     ensures { IsNextPlace (plain_steps I.whole steps.now) taken.now (plain_hand hand) (plain_step I.whole step) result }
 {
-    let low = run_start(steps, near, step.to);
+    let low = count_leaving_below(steps, near, step.to);
     let mut nearest = NearestVector::new(Ray {
         node: step.to,
         start: step.from,
@@ -53,7 +53,7 @@ pub(crate) fn place_of_next<I: IntNumber>(
 }
 
 /// Returns the number of steps that leave a point below p, which come first. It tries the place `near`.
-pub fn run_start<I: IntNumber>(steps: &[Step<I>], near: usize, p: IntPoint<I>) -> usize
+pub fn count_leaving_below<I: IntNumber>(steps: &[Step<I>], near: usize, p: IntPoint<I>) -> usize
     requires { IsByFrom (plain_steps I.whole steps.now) }
     ensures within { result ≤ length steps.now }
     ensures parted { IsPartitionPoint (λ s. point_lt (plain_step I.whole s).from (plain_point I.whole p) ≡ true)

@@ -11,7 +11,7 @@ ghost use Rattle.overlay_walk.specs.Steps.{plain_step, plain_steps};
 use overlay_geom::edge_pair::is_same;
 use overlay_geom::number::IntNumber;
 use overlay_geom::point::IntPoint;
-use overlay_walk::next::run_start;
+use overlay_walk::next::count_leaving_below;
 use overlay_walk::open_steps::sort_steps;
 use overlay_walk::step::Step;
 use std::alloc::{AllocError, Allocator};
@@ -50,7 +50,7 @@ impl<I: IntNumber, A: Allocator + Clone> WalkVisits<I, A> {
             (plain_steps I.whole (path_before result path.now ++ step ∷ [])) }
         ensures steps { self.new.steps.items ≡ self.old.steps.items }
     {
-        let number = run_start(&self.steps, usize::MAX, step.from);
+        let number = count_leaving_below(&self.steps, usize::MAX, step.from);
         let place = self.places[number];
         if leaves_at(path, place, step.from) {
             return Some(place);

@@ -2,5 +2,5 @@
 use Rattle.std.proofs.Common.{inr}
 use Rattle.overlay_pairs.proofs.beside.lies_beside.Goals as goal
 
-pub returns-then-size-ge-BOXED : goal.returns-then-size-ge-BOXED
-returns-then-size-ge-BOXED g c = λ yes. inr (inr (c.is_box_beside.ensures yes))
+pub returns-then-size-ge-LEAST_BOXED : goal.returns-then-size-ge-LEAST_BOXED
+returns-then-size-ge-LEAST_BOXED g c = λ yes. inr (inr (c.is_box_beside.ensures yes))

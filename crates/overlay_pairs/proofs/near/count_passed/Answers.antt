@@ -8,15 +8,15 @@ use Rattle.overlay_pairs.proofs.Entries.{placed_in_mapped}
 use Rattle.overlay_pairs.proofs.StripOrder.{rest_above_apart}
 use Rattle.overlay_pairs.proofs.near.count_passed.Goals as goal
 
-pub returns-then-is_under : goal.returns-then-is_under
-returns-then-is_under g c =
+pub returns-then-is_wholly_below : goal.returns-then-is_wholly_below
+returns-then-is_wholly_below g c =
     let plain = plain_extent g.I.IntNumber.whole in
     let strips = c.args.strips.now in
     rest_above_apart strips.width c.requires.some (plain_extents g.I.IntNumber.whole strips.edges.items)
     (plain c.args.of) c.requires.heights c.args.at (plain c.index.result.now)
     (placed_in_mapped plain strips.edges.items c.args.at c.index.result.now c.requires.within c.index.ensures)
     ((Decides-int_lt (g.I.IntNumber.whole c.args.of.high) (g.I.IntNumber.whole c.index.result.now.low)).0
-    (sym c.is_under.ensures ∙ c.if-is_under.true))
+    (sym c.is_wholly_below.ensures ∙ c.if-is_wholly_below.true))
 
 pub begins_apart-requires-clause-within : goal.begins_apart-requires-clause-within
 begins_apart-requires-clause-within g c =

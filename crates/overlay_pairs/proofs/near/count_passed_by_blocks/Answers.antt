@@ -63,21 +63,21 @@ returns-then-begins_apart-3 g c =
     (subst (λ (xs : List _). BeginsApart (plain xs) 512 of c.args.at)
     c.deref-else-begins_apart-2.ensures.value (c.if-begins_apart-3.ensures refl))
 
-pub returns-then-is_under : goal.returns-then-is_under
-returns-then-is_under g c =
+pub returns-then-is_wholly_below : goal.returns-then-is_wholly_below
+returns-then-is_wholly_below g c =
     let plain = plain_extent g.I.IntNumber.whole in
     let strips = c.args.strips.now in
     rest_above_apart strips.width c.requires.some (plain_extents g.I.IntNumber.whole strips.edges.items)
     (plain c.args.of) c.requires.heights c.args.at (plain c.index.result.now)
     (placed_in_mapped plain strips.edges.items c.args.at c.index.result.now c.requires.within c.index.ensures)
     ((Decides-int_lt (g.I.IntNumber.whole c.args.of.high) (g.I.IntNumber.whole c.index.result.now.low)).0
-    (sym c.is_under.ensures ∙ c.if-is_under.true))
+    (sym c.is_wholly_below.ensures ∙ c.if-is_wholly_below.true))
 
-pub begins_apart-requires-else-is_under-clause-within :
-    goal.begins_apart-requires-else-is_under-clause-within
-begins_apart-requires-else-is_under-clause-within g c =
+pub begins_apart-requires-else-is_wholly_below-clause-within :
+    goal.begins_apart-requires-else-is_wholly_below-clause-within
+begins_apart-requires-else-is_wholly_below-clause-within g c =
     let strips = c.args.strips.now in
-    subst (λ (xs : List _). c.args.at / 64 < length xs) (sym c.deref-else-is_under.ensures.value)
+    subst (λ (xs : List _). c.args.at / 64 < length xs) (sym c.deref-else-is_wholly_below.ensures.value)
     (block_held (plain_extent g.I.IntNumber.whole) 64 c.args.at strips.edges.items strips.of_64.items
     c.requires.blocks.by_64 c.requires.within)
 
@@ -89,7 +89,7 @@ returns-then-begins_apart-4 g c =
     block_passed 64 (plain strips.edges.items) (plain strips.of_64.items) of c.args.at (omega arith)
     c.requires.blocks.by_64
     (subst (λ (xs : List _). BeginsApart (plain xs) 64 of c.args.at)
-    c.deref-else-is_under.ensures.value (c.if-begins_apart-4.ensures refl))
+    c.deref-else-is_wholly_below.ensures.value (c.if-begins_apart-4.ensures refl))
 
 pub begins_apart-requires-else-begins_apart-4-clause-within :
     goal.begins_apart-requires-else-begins_apart-4-clause-within

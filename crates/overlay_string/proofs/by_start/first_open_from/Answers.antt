@@ -22,8 +22,8 @@ returns-then-not-is_eq g c =
     let step = c.index-steps-i.result in
     let apart : point_eq (plain_step whole step).from p ≡ false = sym (point_cmp-is_tie (plain_step whole step).from p)
     ∙ search rules in
-    none_follows whole steps c.args.taken.now p c.requires.order c.run_start-low.result
-    c.run_start-low.ensures.parted c.loop-i.i
+    none_follows whole steps c.args.taken.now p c.requires.order c.count_leaving_below-low.result
+    c.count_leaving_below-low.ensures.parted c.loop-i.i
     (omega arith) c.loop-i.invariant step c.loop-i-test.true c.index-steps-i.is apart
 
 pub returns-then-not-is_taken : goal.returns-then-not-is_taken
@@ -34,15 +34,15 @@ returns-then-not-is_taken g c =
     let step = c.index-steps-i.result in
     let here : point_eq (plain_step whole step).from p ≡ true = sym (point_cmp-is_tie (plain_step whole step).from p)
     ∙ search rules in
-    next_is_first whole steps c.args.taken.now p c.requires.order c.run_start-low.result
-    c.run_start-low.ensures.parted c.loop-i.i
+    next_is_first whole steps c.args.taken.now p c.requires.order c.count_leaving_below-low.result
+    c.count_leaving_below-low.ensures.parted c.loop-i.i
     (omega arith) c.loop-i.invariant step c.loop-i-test.true c.index-steps-i.is
     (point_eq-same (plain_step whole step).from p here) (sym c.is_taken.ensures ∙ search rules)
 
 pub loop-i-preserved : goal.loop-i-preserved
 loop-i-preserved g c =
     let step = c.index-steps-i.result in
-    one_more_taken c.args.steps.now c.args.taken.now c.run_start-low.result c.loop-i.i (omega arith)
+    one_more_taken c.args.steps.now c.args.taken.now c.count_leaving_below-low.result c.loop-i.i (omega arith)
     c.loop-i-test.true c.loop-i.invariant step c.index-steps-i.is (sym c.is_taken.ensures ∙ search rules)
 
 pub returns : goal.returns
@@ -51,6 +51,6 @@ returns g c =
     let steps = c.args.steps.now in
     let p = plain_point whole c.args.point in
     let past = c.loop-i-test.false in
-    none_left whole steps c.args.taken.now p c.requires.order c.run_start-low.result
-    c.run_start-low.ensures.parted c.loop-i.i
+    none_left whole steps c.args.taken.now p c.requires.order c.count_leaving_below-low.result
+    c.count_leaving_below-low.ensures.parted c.loop-i.i
     (omega arith) c.loop-i.invariant (omega arith)

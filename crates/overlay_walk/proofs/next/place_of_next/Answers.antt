@@ -27,7 +27,7 @@ loop-i-preserved g c =
     let hand = plain_hand c.args.hand in
     let v = plain_point whole c.args.step.to in
     let u = plain_point whole c.args.step.from in
-    let low = c.run_start-low.result in
+    let low = c.count_leaving_below-low.result in
     let i = c.loop-i.i in
     let next = c.index-steps-i.result in
     let long = c.requires.step.apart in
@@ -65,8 +65,8 @@ returns-then-not-is_same g c =
     let steps = c.args.steps.now in
     let s = plain_step whole c.args.step in
     let i = c.loop-i.i in
-    next_place (plain_steps whole steps) c.args.taken.now (plain_hand c.args.hand) s c.run_start-low.result i
-    (run_until whole steps c.requires.by_start s.to _ i c.run_start-low.ensures.parted (record {
+    next_place (plain_steps whole steps) c.args.taken.now (plain_hand c.args.hand) s c.count_leaving_below-low.result i
+    (run_until whole steps c.requires.by_start s.to _ i c.count_leaving_below-low.ensures.parted (record {
       ordered = c.loop-i.auto.i;
       within = let l = length-map steps (plain_step whole) in omega (arith, c.loop-i-test.true);
       leave = c.loop-i.invariant.2;
@@ -83,10 +83,10 @@ returns g c =
     let i = c.loop-i.i in
     let l = length-map steps (plain_step whole) in
     let past = c.loop-i-test.false in
-    next_place (plain_steps whole steps) c.args.taken.now (plain_hand c.args.hand) s c.run_start-low.result i
-    (run_until whole steps c.requires.by_start s.to _ i c.run_start-low.ensures.parted (record {
+    next_place (plain_steps whole steps) c.args.taken.now (plain_hand c.args.hand) s c.count_leaving_below-low.result i
+    (run_until whole steps c.requires.by_start s.to _ i c.count_leaving_below-low.ensures.parted (record {
       ordered = c.loop-i.auto.i;
-      within = let most = c.loop-i.auto.i-end c.run_start-low.ensures.within in omega arith;
+      within = let most = c.loop-i.auto.i-end c.count_leaving_below-low.ensures.within in omega arith;
       leave = c.loop-i.invariant.2;
       ends = λ h. absurd (omega (arith, h));
     })) c.loop-i.found c.loop-i.invariant.1

@@ -7,24 +7,24 @@ use Rattle.overlay_walk.specs.Steps.{plain_step, plain_steps, IsByFrom}
 use Rattle.overlay_walk.specs.declared.step.Step.{Step as StepTaken}
 use Rattle.overlay_extract.proofs.slicing.visits.WalkVisits.note.Goals as goal
 
-pub run_start-number-requires : goal.run_start-number-requires
-run_start-number-requires g c =
+pub count_leaving_below-number-requires : goal.count_leaving_below-number-requires
+count_leaving_below-number-requires g c =
     subst (λ (ss : List (StepTaken g.row.I.Denot)). IsByFrom (plain_steps g.I.IntNumber.whole ss))
     (sym c.deref.ensures.value) c.requires.noted.by_start
 
 pub index-place-requires : goal.index-place-requires
 index-place-requires g c =
-    let parted = rw c.deref.ensures.value at c.run_start-number.ensures.parted in
+    let parted = rw c.deref.ensures.value at c.count_leaving_below-number.ensures.parted in
     let within = number_within g.I.IntNumber.whole c.args.self.now.steps.items
-    (plain_step g.I.IntNumber.whole c.args.step).from c.requires.left c.run_start-number.result parted in
+    (plain_step g.I.IntNumber.whole c.args.step).from c.requires.left c.count_leaving_below-number.result parted in
     let each = c.requires.noted.a_place_each in
     omega (arith, within, each, c.args.self.now.places.ok.0)
 
 pub index_mut-requires : goal.index_mut-requires
 index_mut-requires g c =
-    let parted = rw c.deref.ensures.value at c.run_start-number.ensures.parted in
+    let parted = rw c.deref.ensures.value at c.count_leaving_below-number.ensures.parted in
     let within = number_within g.I.IntNumber.whole c.args.self.now.steps.items
-    (plain_step g.I.IntNumber.whole c.args.step).from c.requires.left c.run_start-number.result parted in
+    (plain_step g.I.IntNumber.whole c.args.step).from c.requires.left c.count_leaving_below-number.result parted in
     let each = c.requires.noted.a_place_each in
     omega (arith, within, each, c.args.self.now.places.ok.0)
 
@@ -47,10 +47,10 @@ pub returns-clause-place : goal.returns-clause-place
 returns-clause-place g c =
     let whole = g.I.IntNumber.whole in
     let path = c.args.path.now in
-    let parted = rw c.deref.ensures.value at c.run_start-number.ensures.parted in
+    let parted = rw c.deref.ensures.value at c.count_leaving_below-number.ensures.parted in
     none_left whole c.args.self.now.steps.items c.args.self.now.places.items (plain_steps whole path)
-    c.requires.noted (plain_step whole c.args.step).from c.run_start-number.result c.index-place.result.now parted
-    c.index-place.ensures
+    c.requires.noted (plain_step whole c.args.step).from c.count_leaving_below-number.result
+    c.index-place.result.now parted c.index-place.ensures
     (λ within. c.leaves_at.ensures.differs c.if-leaves_at.false
     (omega (arith, within, length-map path (plain_step whole))))
 
@@ -61,8 +61,8 @@ returns-clause-noted g c =
     let places = c.args.self.now.places.items in
     let path = c.args.path.now in
     let step = plain_step whole c.args.step in
-    let number = c.run_start-number.result in
-    let parted = rw c.deref.ensures.value at c.run_start-number.ensures.parted in
+    let number = c.count_leaving_below-number.result in
+    let parted = rw c.deref.ensures.value at c.count_leaving_below-number.ensures.parted in
     let none = none_left whole steps places (plain_steps whole path) c.requires.noted step.from number
     c.index-place.result.now parted c.index-place.ensures
     (λ within. c.leaves_at.ensures.differs c.if-leaves_at.false

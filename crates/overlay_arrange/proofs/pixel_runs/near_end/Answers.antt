@@ -6,8 +6,8 @@ use Rattle.overlay_order.specs.Content.{plain_edge}
 use Rattle.overlay_pairs.proofs.Entries.{placed_in_mapped}
 use Rattle.overlay_arrange.specs.PixelRuns.{PassesBelow}
 use Rattle.overlay_arrange.proofs.HeightRuns.{below_from}
-use Rattle.overlay_arrange.proofs.pixel_runs.run_end.Goals as goal
-use Rattle.overlay_arrange.proofs.pixel_runs.run_end.Goals.{then-guess-to, else-guess-to}
+use Rattle.overlay_arrange.proofs.pixel_runs.near_end.Goals as goal
+use Rattle.overlay_arrange.proofs.pixel_runs.near_end.Goals.{then-guess-to, else-guess-to}
 
 pub returns-then-passes_below-clause-above : goal.returns-then-passes_below-clause-above
 returns-then-passes_below-clause-above g c =

@@ -6,8 +6,8 @@ use Rattle.overlay_order.specs.Content.{plain_edge}
 use Rattle.overlay_pairs.proofs.Entries.{placed_in_mapped}
 use Rattle.overlay_arrange.specs.PixelRuns.{ArePassedAbove, PassesAbove}
 use Rattle.overlay_arrange.proofs.HeightRuns.{above_to}
-use Rattle.overlay_arrange.proofs.pixel_runs.run_start.Goals as goal
-use Rattle.overlay_arrange.proofs.pixel_runs.run_start.Goals.{then-guess-from, else-guess-from}
+use Rattle.overlay_arrange.proofs.pixel_runs.near_start.Goals as goal
+use Rattle.overlay_arrange.proofs.pixel_runs.near_start.Goals.{then-guess-from, else-guess-from}
 
 pub returns-then-passes_above-clause-below : goal.returns-then-passes_above-clause-below
 returns-then-passes_above-clause-below g c =

@@ -2,7 +2,7 @@
 use Rattle.std.proofs.Common.{◌≡◌, nat_lt, rules}
 use Rattle.std.proofs.lemmas.List.Sorted.{IsPartitionPoint-from_clause}
 use Rattle.overlay_arrange.proofs.MeetingRuns.{before-parted, is_before}
-use Rattle.overlay_arrange.proofs.meetings.run_start.Goals as goal
+use Rattle.overlay_arrange.proofs.meetings.count_before.Goals as goal
 
 pub returns-then-is_parted_at-clause-within : goal.returns-then-is_parted_at-clause-within
 returns-then-is_parted_at-clause-within g c = c.is_parted_at.ensures.within c.if-is_parted_at.true

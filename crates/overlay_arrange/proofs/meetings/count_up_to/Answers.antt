@@ -1,7 +1,7 @@
 -- The meetings from there on come behind i, since they are sorted.
 use Rattle.std.proofs.Common.{arith}
 use Rattle.overlay_arrange.proofs.MeetingRuns.{ended_at, place_at}
-use Rattle.overlay_arrange.proofs.meetings.run_end.Goals as goal
+use Rattle.overlay_arrange.proofs.meetings.count_up_to.Goals as goal
 
 pub returns-else-meetings-high-clause-parted : goal.returns-else-meetings-high-clause-parted
 returns-else-meetings-high-clause-parted g c =

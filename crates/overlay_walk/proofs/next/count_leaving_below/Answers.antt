@@ -3,7 +3,7 @@ use Rattle.std.proofs.Common.{arith, rules}
 use Rattle.std.proofs.lemmas.List.Sorted.{IsPartitionPoint-from_clause}
 use Rattle.overlay_geom.specs.Points.{plain_point}
 use Rattle.overlay_walk.proofs.Runs.{leaves_below, below-parted}
-use Rattle.overlay_walk.proofs.next.run_start.Goals as goal
+use Rattle.overlay_walk.proofs.next.count_leaving_below.Goals as goal
 
 pub returns-then-is_parted_at-clause-within : goal.returns-then-is_parted_at-clause-within
 returns-then-is_parted_at-clause-within g c =

@@ -1,7 +1,7 @@
 -- The meetings so far come up to i, and the place comes nearer to their end.
 use Rattle.std.proofs.Common.{◌≡◌, ◌-◌, ◌≤◌, true, nat_le, length}
 use Rattle.std.specs.List.{AllWithin}
-use Rattle.overlay_arrange.proofs.meetings.run_end.Given as goal
+use Rattle.overlay_arrange.proofs.meetings.count_up_to.Given as goal
 
 abbrev pub invariant-loop-high : goal.invariant-loop-high
 invariant-loop-high g l =
