@@ -5,3 +5,4 @@ mod many;
 mod range;
 mod refused;
 mod rows;
+mod together;

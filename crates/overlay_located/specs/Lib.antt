@@ -1,7 +1,10 @@
 pub mod Blocks
+pub mod Few
 pub mod GivenShapes
 pub mod Laws
 pub mod Located
 pub mod Rays
 pub mod Sectors
 pub mod Seen
+pub mod Tells
+pub mod Together

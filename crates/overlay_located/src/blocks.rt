@@ -137,8 +137,8 @@ fn is_clear<I: IntNumber>(p: IntPoint<I>, block: Block<I>) -> bool
     is_less(p.x, block.left) || is_less(block.right, p.x) || is_less(p.y, block.bottom)
 }
 
-// Returns whether the first number is less than the second.
-fn is_less<I: IntNumber>(x: I, y: I) -> bool
+/// Returns whether the first number is less than the second.
+pub(crate) fn is_less<I: IntNumber>(x: I, y: I) -> bool
     ensures { result ≡ int_lt (I.whole x) (I.whole y) }
 {
     x.compare(y).is_lt()

@@ -1,18 +1,25 @@
 //! Shapes as they are given, that are asked again and again where points lie.
 
-ghost use Rattle.std.specs.Prelude.{◌≡◌, All, false, IfOk, IfErr};
+ghost use Rattle.std.specs.Prelude.{◌≡◌, All, false, length, IfOk, IfErr};
 ghost use Rattle.overlay_geom.specs.declared.options.ShapeType.TheVariants.{Subject};
 ghost use Rattle.overlay_geom.specs.Plane.{in_plane};
-ghost use Rattle.overlay_geom.specs.Points.{plain_point, AllInRange};
+ghost use Rattle.overlay_geom.specs.Points.{plain_point, plain_points, AllInRange};
 ghost use Rattle.overlay_builder.specs.GivenPaths.{paths_for, added_paths};
 ghost use Rattle.overlay_builder.specs.PathLists.{MayRefuseBuilder};
+ghost use Rattle.overlay_relate.specs.Answers.{AnswersEach};
 ghost use Rattle.overlay_located.specs.GivenShapes.{IsShapeOf, TellsLocation};
+ghost use Rattle.overlay_located.specs.Together.{plain_query, IsTold};
+ghost use Rattle.overlay_order.specs.Counts.{boolean_counts};
 
 use crate::blocks::{BLOCK, GROUP, blocks_over};
 use crate::located::locate;
+use crate::query::Query;
+use crate::together::windings_beside;
+use crate::told::location_by;
 use overlay_builder::boolean::passing;
 use overlay_builder::builder_core::BuilderCore;
 use overlay_builder::path::PathKind;
+use overlay_geom::edge_pair::is_same;
 use overlay_geom::error::OverlayError;
 use overlay_geom::fill_rule::FillRule;
 use overlay_geom::integer::OverlayInt;
@@ -22,7 +29,7 @@ use overlay_geom::resource::IntShapeResource;
 use overlay_order::count::ShapeCountBoolean;
 use overlay_relate::blocks::Block;
 use overlay_relate::location::PointLocation;
-use std::alloc::Allocator;
+use std::alloc::{AllocError, Allocator};
 use std::marker::Model;
 
 /// A shape under a fill rule, made from any contours, which may cross and overlap. It is asked again and again where
@@ -94,5 +101,69 @@ impl<I: OverlayInt, A: Allocator> ExactShape<I, A> {
             self.fill_rule,
             point,
         )
+    }
+
+    // Returns where the point lies, by the windings at this place where they are those beside it.
+    fn locate_by(
+        &self,
+        told: &[Query<I, ShapeCountBoolean>],
+        place: usize,
+        point: IntPoint<I>,
+    ) -> PointLocation
+        requires { All (λ q. IsTold self.now.edges (plain_query I.whole boolean_counts q)) told.now }
+        ensures { TellsLocation self.now (in_plane (plain_point I.whole point)) result }
+    {
+        if place < told.len() {
+            let q = told[place];
+            if !q.alone && is_same(q.point, point) {
+                let found = location_by(self.core.content().edges(), self.fill_rule, q);
+                if let Some(location) = found {
+                    return location;
+                }
+            }
+        }
+        self.locate(point)
+    }
+
+    // Writes where each of the points lies, in their order.
+    fn locate_each(
+        &self,
+        told: &[Query<I, ShapeCountBoolean>],
+        points: &[IntPoint<I>],
+        out: &mut [PointLocation],
+    )
+        requires told { All (λ q. IsTold self.now.edges (plain_query I.whole boolean_counts q)) told.now }
+        requires counted { length out.old ≡ length points.now }
+        ensures { AnswersEach (λ v l. TellsLocation self.now (in_plane v) l) (plain_points I.whole points.now) out.new }
+    {
+        for i in 0..points.len() {
+            out[i] = self.locate_by(told, i, points[i]);
+        }
+    }
+}
+
+impl<I: OverlayInt, A: Allocator + Clone> ExactShape<I, A> {
+    /// Writes where each of the points lies to its place in `out`, as `locate` tells it of each. There are as many
+    /// places as points. Where no edge leads through the points, and few edges cross, n points in a shape of n edges
+    /// take about n log^2 n steps. Where memory is refused, each point is asked for alone.
+    pub fn locate_all(&self, points: &[IntPoint<I>], out: &mut [PointLocation])
+        requires { length out.old ≡ length points.now }
+        ensures { AnswersEach (λ v l. TellsLocation self.now (in_plane v) l) (plain_points I.whole points.now) out.new }
+    {
+        match self.told(points) {
+            Ok(told) => self.locate_each(&told, points, out),
+            Err(_) => self.locate_each(&[], points, out),
+        }
+    }
+
+    // Returns the windings beside each of the points, in their order. Some have to be asked for alone.
+    fn told(
+        &self,
+        points: &[IntPoint<I>],
+    ) -> Result<Vec<Query<I, ShapeCountBoolean>, A>, AllocError>
+        ensures { IfOk result (λ v. All (λ q. IsTold self.now.edges (plain_query I.whole boolean_counts q)) v.items) }
+    {
+        let alloc = self.blocks.allocator().clone()?;
+        windings_beside(alloc, self.core.content().edges(), points)
     }
 }

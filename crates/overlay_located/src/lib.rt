@@ -2,12 +2,21 @@
 #![tactic(auto)]
 
 mod blocks;
+mod chain;
 pub mod exact_shape;
+mod few;
 mod flank;
 pub mod form;
+mod heights;
 pub mod laws;
+mod line;
 pub mod located;
 mod near;
+mod node;
 pub mod only_locations;
 pub mod parts;
+mod query;
 mod seen;
+mod slab;
+mod together;
+mod told;

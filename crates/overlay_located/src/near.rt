@@ -100,8 +100,8 @@ fn counted_with<I: IntNumber, C: EdgeCount>(
     counted
 }
 
-// Returns whether the edge is below the points of the sector.
-fn is_below_near<I: IntNumber, C: EdgeCount>(
+/// Returns whether the edge is below the points of the sector.
+pub(crate) fn is_below_near<I: IntNumber, C: EdgeCount>(
     e: &CountedEdge<I, C>,
     p: IntPoint<I>,
     flank: Flank,
@@ -179,9 +179,12 @@ fn spans_right<I: IntNumber, C: EdgeCount>(e: &CountedEdge<I, C>, x: I) -> bool
     e.a.x.compare(x).is_le() && x.compare(e.b.x).is_lt()
 }
 
-// Returns how high the point lies over the edge, which has points at its x-coordinate and is not upright: `Equal` on
-// it. Only a point between the heights of the ends is looked at nearer, so it need not be in range.
-fn height_over<I: IntNumber, C: EdgeCount>(e: &CountedEdge<I, C>, p: IntPoint<I>) -> Ordering
+/// Returns how high the point lies over the edge, which has points at its x-coordinate and is not upright: `Equal` on
+/// it. Only a point between the heights of the ends is looked at nearer, so it need not be in range.
+pub(crate) fn height_over<I: IntNumber, C: EdgeCount>(
+    e: &CountedEdge<I, C>,
+    p: IntPoint<I>,
+) -> Ordering
     requires edge { IsHeld I.limit (plain_edge I.whole C.counts e.now) }
     requires from { I.whole e.now.a.x ≤ℤ I.whole p.x }
     requires to { I.whole p.x ≤ℤ I.whole e.now.b.x }

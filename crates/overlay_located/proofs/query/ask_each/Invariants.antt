@@ -1,0 +1,13 @@
+-- What is told stays right.
+use Rattle.std.proofs.Common.{List}
+use Rattle.std.specs.List.{All}
+use Rattle.overlay_geom.specs.Edges.{CountedEdge}
+use Rattle.overlay_located.specs.Together.{plain_query, plain_lines, IsOpen, IsTold}
+use Rattle.overlay_located.proofs.query.ask_each.Given as goal
+
+abbrev pub invariant-loop-q : goal.invariant-loop-q
+invariant-loop-q g l =
+    let whole = g.I.IntNumber.whole in
+    (es : List CountedEdge) →
+    All (λ q. IsOpen es (plain_lines whole g.C.EdgeCount.counts l.lines) (plain_query whole g.C.EdgeCount.counts q)) l.queries →
+    All (λ q. IsTold es (plain_query whole g.C.EdgeCount.counts q)) l.initial.told → All (λ q. IsTold es (plain_query whole g.C.EdgeCount.counts q)) l.told

@@ -1,0 +1,10 @@
+-- What the lines so far tell is added.
+use Rattle.std.proofs.Common.{take}
+use Rattle.overlay_located.specs.Together.{plain_query, plain_lines, Adds}
+use Rattle.overlay_located.proofs.query.with_lines.Given as goal
+
+abbrev pub invariant-loop-line : goal.invariant-loop-line
+invariant-loop-line g l =
+    let whole = g.I.IntNumber.whole in
+    Adds (plain_lines whole g.C.EdgeCount.counts (take l.line-index l.lines)) (plain_query whole g.C.EdgeCount.counts l.fn.q)
+    (plain_query whole g.C.EdgeCount.counts l.r)

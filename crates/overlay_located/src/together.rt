@@ -1,0 +1,68 @@
+//! Points that are asked for together: halves of them again and again, with the edges that do not span their slab.
+
+ghost use Rattle.std.specs.Prelude.{All, IfOk};
+ghost use Rattle.overlay_order.specs.Content.{plain_edges, IsContent};
+ghost use Rattle.overlay_located.specs.Together.{plain_query, plain_lines, IsOpen, IsTold};
+
+use crate::chain::with_chain;
+use crate::heights::lines_of;
+use crate::line::Line;
+use crate::node::node_over;
+use crate::query::{Query, ask_each, queries_by_x, untold};
+use crate::slab::Slab;
+use overlay_geom::number::IntNumber;
+use overlay_geom::point::IntPoint;
+use overlay_order::count::EdgeCount;
+use overlay_order::edge::CountedEdge;
+use std::alloc::{AllocError, Allocator};
+
+// Greatest number of points, or of edges, that are asked one by one.
+const FEW: usize = 8;
+
+/// Returns the windings beside each of the points, in their order. Some have to be asked for alone.
+pub(crate) fn windings_beside<I: IntNumber, C: EdgeCount, A: Allocator + Clone>(
+    alloc: A,
+    edges: &[CountedEdge<I, C>],
+    points: &[IntPoint<I>],
+) -> Result<Vec<Query<I, C>, A>, AllocError>
+    requires { IsContent I.limit (plain_edges I.whole C.counts edges.now) }
+    ensures { IfOk result
+        (λ v. All (λ q. IsTold (plain_edges I.whole C.counts edges.now) (plain_query I.whole C.counts q)) v.items) }
+{
+    let lines = lines_of(alloc.clone()?, edges)?;
+    let queries = queries_by_x(alloc.clone()?, points)?;
+    let mut told = untold(alloc.clone()?, points)?;
+    ask(alloc, &lines, &queries, &mut told)?;
+    Ok(told)
+}
+
+// Writes to the place of each query the windings beside its point, unless it has to be asked for alone. The queries
+// tell what all edges do, together with the lines.
+fn ask<I: IntNumber, C: EdgeCount, A: Allocator + Clone>(
+    alloc: A,
+    lines: &[Line<I, C>],
+    queries: &[Query<I, C>],
+    told: &mut [Query<I, C>],
+) -> Result<(), AllocError>
+    ensures { (es : _)
+        → All (λ q. IsOpen es (plain_lines I.whole C.counts lines.now) (plain_query I.whole C.counts q)) queries.now
+        → All (λ q. IsTold es (plain_query I.whole C.counts q)) told.old
+        → All (λ q. IsTold es (plain_query I.whole C.counts q)) told.new }
+{
+    if queries.len() <= FEW || lines.len() <= FEW {
+        ask_each(lines, queries, told);
+        return Ok(());
+    }
+    let slab = Slab {
+        from: queries[0].point.x,
+        to: queries[queries.len() - 1].point.x,
+    };
+    let node = node_over(alloc.clone()?, lines, slab)?;
+    if node.is_crossed {
+        return Ok(());
+    }
+    let rest = with_chain(alloc.clone()?, &node.chain, slab, queries)?;
+    let (first, second) = rest.split_at(rest.len() / 2);
+    ask(alloc.clone()?, &node.kept, first, told)?;
+    ask(alloc, &node.kept, second, told)
+}

@@ -1,0 +1,127 @@
+//! Where the point of a query lies, by the windings beside it and the edges that lead from it.
+
+ghost use Rattle.std.specs.Prelude.{◌≡◌, ◌+ℤ◌, false, IfSome};
+ghost use Rattle.overlay_geom.specs.Plane.{in_plane};
+ghost use Rattle.overlay_geom.specs.Points.{plain_point};
+ghost use Rattle.overlay_geom.specs.Rules.{is_filled};
+ghost use Rattle.overlay_order.specs.Content.{plain_edge, plain_edges, IsContent};
+ghost use Rattle.overlay_located.specs.Few.{if_some};
+ghost use Rattle.overlay_located.specs.Located.{LiesIn};
+ghost use Rattle.overlay_located.specs.Rays.{plain_ray, IsRayHeld};
+ghost use Rattle.overlay_located.specs.Sectors.{is_low};
+ghost use Rattle.overlay_located.specs.Tells.{near_sum};
+ghost use Rattle.overlay_located.specs.Together.{plain_query, sum_on, IsTold, SeesRay, SeesRays};
+
+use crate::flank::Flank;
+use crate::near::{is_below_near, leads_from};
+use crate::query::{Query, sum};
+use crate::seen::Seen;
+use overlay_geom::edge::IntEdge;
+use overlay_geom::fill_rule::FillRule;
+use overlay_geom::number::IntNumber;
+use overlay_order::count::EdgeCount;
+use overlay_order::edge::CountedEdge;
+use overlay_relate::location::PointLocation;
+
+/// Returns where the point of the query lies, unless a sum of counts is very great.
+pub(crate) fn location_by<I: IntNumber, C: EdgeCount>(
+    edges: &[CountedEdge<I, C>],
+    fill_rule: FillRule,
+    q: Query<I, C>,
+) -> Option<PointLocation>
+    requires content { IsContent I.limit (plain_edges I.whole C.counts edges.now) }
+    requires told { IsTold (plain_edges I.whole C.counts edges.now) (plain_query I.whole C.counts q) }
+    requires together { q.alone ≡ false }
+    ensures { IfSome result (LiesIn (is_filled fill_rule) (plain_edges I.whole C.counts edges.now)
+        (in_plane (plain_point I.whole q.point))) }
+{
+    let few = q.through;
+    let left = winding_by(q, Flank::Left, q.left, None)?;
+    let right = winding_by(q, Flank::Right, q.right, None)?;
+    let none = Seen::nothing();
+    let lowest = none.with(fill_rule.fills(left));
+    let seen = lowest.with(fill_rule.fills(right));
+    let one = seen_by(seen, fill_rule, q, few.first)?;
+    let two = seen_by(one, fill_rule, q, few.second)?;
+    let three = seen_by(two, fill_rule, q, few.third)?;
+    let all = seen_by(three, fill_rule, q, few.fourth)?;
+    Some(all.location())
+}
+
+// Returns what is found with the sectors next above the edge, if there is one.
+fn seen_by<I: IntNumber, C: EdgeCount>(
+    seen: Seen,
+    fill_rule: FillRule,
+    q: Query<I, C>,
+    e: Option<CountedEdge<I, C>>,
+) -> Option<Seen>
+    ensures { (es : _) → IsTold es (plain_query I.whole C.counts q) → q.alone ≡ false
+        → IfSome result (SeesRays (is_filled fill_rule) es (in_plane (plain_point I.whole q.point))
+        (plain_edges I.whole C.counts (if_some e)) seen) }
+{
+    let Some(e) = e else {
+        return Some(seen);
+    };
+    let left = seen_on(seen, fill_rule, q, &e, Flank::Left, q.left)?;
+    seen_on(left, fill_rule, q, &e, Flank::Right, q.right)
+}
+
+// Returns what is found with the sector next above the edge, if it leads into the flank.
+fn seen_on<I: IntNumber, C: EdgeCount>(
+    seen: Seen,
+    fill_rule: FillRule,
+    q: Query<I, C>,
+    e: &CountedEdge<I, C>,
+    flank: Flank,
+    sum: i64,
+) -> Option<Seen>
+    ensures { (es : _) → IsTold es (plain_query I.whole C.counts q) → q.alone ≡ false
+        → sum ≡ sum_on (plain_query I.whole C.counts q) flank
+        → IfSome result (SeesRay (is_filled fill_rule) es (in_plane (plain_point I.whole q.point)) flank
+        (plain_edge I.whole C.counts e.now) seen) }
+{
+    if !leads_from(e, q.point, flank) {
+        return Some(seen);
+    }
+    let ray = IntEdge { a: e.a, b: e.b };
+    let winding = winding_by(q, flank, sum, Some(ray))?;
+    Some(seen.with(fill_rule.fills(winding)))
+}
+
+// Returns the winding of the lowest sector of the flank, or of that next above the ray.
+fn winding_by<I: IntNumber, C: EdgeCount>(
+    q: Query<I, C>,
+    flank: Flank,
+    so_far: i64,
+    ray: Option<IntEdge<I>>,
+) -> Option<i64>
+    ensures { IfSome result (λ z. z ≡ so_far +ℤ near_sum flank (plain_query I.whole C.counts q).through
+        (plain_point I.whole q.point) (is_low flank (plain_ray I.whole ray))) }
+{
+    let few = q.through;
+    let one = sum_with(so_far, q, flank, ray, few.first)?;
+    let two = sum_with(one, q, flank, ray, few.second)?;
+    let three = sum_with(two, q, flank, ray, few.third)?;
+    sum_with(three, q, flank, ray, few.fourth)
+}
+
+// Returns the sum with the count of the edge, if there is one and it is below the sector next above the ray.
+fn sum_with<I: IntNumber, C: EdgeCount>(
+    so_far: i64,
+    q: Query<I, C>,
+    flank: Flank,
+    ray: Option<IntEdge<I>>,
+    e: Option<CountedEdge<I, C>>,
+) -> Option<i64>
+    ensures { IfSome result (λ z. z ≡ so_far +ℤ near_sum flank (plain_edges I.whole C.counts (if_some e))
+        (plain_point I.whole q.point) (is_low flank (plain_ray I.whole ray))) }
+{
+    let Some(e) = e else {
+        return Some(so_far);
+    };
+    if is_below_near(&e, q.point, flank, ray) {
+        sum(so_far, i64::from(e.count.subj()))
+    } else {
+        Some(so_far)
+    }
+}
