@@ -3,8 +3,9 @@
  *
  *     growth [snapped|rounds] [N] < INPUT
  *
- * The last line is `run overlay RULE FILL`, `run slice FILL`, `run clip FILL` or `run locate FILL`; the last one
- * prepares the subject and locates the points. A word, number or status that is not expected ends it with status 1. */
+ * The last line is `run overlay RULE FILL`, `run slice FILL`, `run clip FILL`, `run locate FILL` or `run exactly FILL`;
+ * the last two prepare the subject, by a solver or as it is given, and locate the points. A word, number or status that
+ * is not expected ends it with status 1. */
 #include <stdio.h>
 #include <stdlib.h>
 #include <string.h>
@@ -90,6 +91,17 @@ static void located(polyover_fill fill, const polyover_contours *shape) {
     free(places);
 }
 
+static void located_exactly(polyover_fill fill, const polyover_contours *shape) {
+    polyover_exact prepared;
+    polyover_location *places = grown(NULL, points.count / 2 * sizeof(polyover_location) + 1);
+    if (polyover_prepare_exact(fill, shape, &prepared) != POLYOVER_OK) fail("not prepared");
+    if (polyover_exact_locate(&prepared, points.numbers, points.count, places, points.count / 2) != POLYOVER_OK) {
+        fail("not located");
+    }
+    polyover_exact_free(&prepared);
+    free(places);
+}
+
 /* The call that is timed. */
 __attribute__((noinline)) void asked(void) {
     static const char *const fills[] = {"EvenOdd", "NonZero", "Positive", "Negative", NULL};
@@ -109,6 +121,9 @@ __attribute__((noinline)) void asked(void) {
         status = polyover_clip_result(fill, &clipping, &first, &strings, &result);
     } else if (strcmp(command, "locate") == 0) {
         located(fill, &first);
+        return;
+    } else if (strcmp(command, "exactly") == 0) {
+        located_exactly(fill, &first);
         return;
     } else {
         fail("not a command");

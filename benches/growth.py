@@ -162,6 +162,11 @@ def located_star(n: int) -> list[str]:
     return [line_of("subject", star), *points, "run locate NonZero"]
 
 
+def exactly(make: Callable[[int], list[str]]) -> Callable[[int], list[str]]:
+    """The same points located in the contours as they are given."""
+    return lambda n: [it.replace("run locate", "run exactly") for it in make(n)]
+
+
 def needles(n: int) -> list[str]:
     """Thin long triangles, which cross each other a few times each."""
     random, size = Random(1), 10**8
@@ -189,6 +194,8 @@ FAMILIES = [
     Family("moved pentagons", pentagons, lambda n: n * n // 5),
     Family("locate, nested squares", located_nested),
     Family("locate, a star", located_star),
+    Family("locate exactly, nested squares", exactly(located_nested)),
+    Family("locate exactly, a star", exactly(located_star)),
     Family("needles", needles),
 ]
 

@@ -183,4 +183,36 @@ static void TEST(exact_asking_refused)(void) {
     TEST(lie_exactly)(&zero, points, 4, "oo", __LINE__);
     CHECK(NAME(polyover_exact_locate)(&zero, NULL, 0, NULL, 0) == POLYOVER_OK);
 }
+
+/* Squares round (0, 0), the n-th reaching 2n units: 20,000 edges. By EVEN_ODD a point whose greater coordinate is d units
+ * lies on a square where d is even, 2 or more, and at most 10,000; else so many squares are round it as reach further. */
+static void TEST(many_in_nested)(void) {
+    enum { SQUARES = 5000, POINTS = 5000, FAR = 2 * SQUARES };
+    static NUMBER corners[8 * SQUARES], points[2 * POINTS];
+    static size_t ends[SQUARES];
+    static polyover_location locations[POINTS];
+    for (size_t n = 0; n < SQUARES; n++) {
+        const NUMBER r = 2 * (NUMBER)(n + 1), square[] = {-r, -r, r, -r, r, r, -r, r};
+        memcpy(corners + 8 * n, square, sizeof square);
+        ends[n] = 4 * (n + 1);
+    }
+    for (size_t n = 0; n < POINTS; n++) {
+        points[2 * n] = (NUMBER)(n * 7919 % (2 * FAR + 401)) - FAR - 200;
+        points[2 * n + 1] = (NUMBER)(n * 104729 % (2 * FAR + 401)) - FAR - 200;
+    }
+    const CONTOURS nested = {corners, 8 * SQUARES, ends, SQUARES};
+    EXACT shape;
+    CHECK(NAME(polyover_prepare_exact)(POLYOVER_EVEN_ODD, &nested, &shape) == POLYOVER_OK);
+    CHECK(shape.edge_count == 4 * SQUARES);
+    CHECK(NAME(polyover_exact_locate)(&shape, points, 2 * POINTS, locations, POINTS) == POLYOVER_OK);
+    for (size_t n = 0; n < POINTS; n++) {
+        const NUMBER x = points[2 * n] < 0 ? -points[2 * n] : points[2 * n];
+        const NUMBER y = points[2 * n + 1] < 0 ? -points[2 * n + 1] : points[2 * n + 1], d = x < y ? y : x;
+        const polyover_location is = d % 2 == 0 && d >= 2 && d <= FAR             ? POLYOVER_BOUNDARY
+                                     : d < FAR && (SQUARES - (size_t)d / 2) % 2 == 1 ? POLYOVER_INSIDE
+                                                                                     : POLYOVER_OUTSIDE;
+        CHECK(locations[n] == is);
+    }
+    TEST(let_exact_go)(&shape);
+}
 #undef EXACTLY

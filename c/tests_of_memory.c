@@ -243,6 +243,46 @@ static polyover_status prepare_exact(const asked *of, room *to) {
     return status;
 }
 
+/* Asks many points together, with one request more granted each time: the locations are as they are with all. The n-th
+ * of 30 squares round (0, 0) reaches 2n units. Point n is (n, 0): on a square where n is even, from 2 to 60; else inside
+ * where an odd number of squares reach further. */
+static void many_points(void) {
+    enum { SQUARES = 30, POINTS = 80 };
+    int64_t corners[8 * SQUARES], points[2 * POINTS];
+    size_t ends[SQUARES];
+    polyover_location locations[POINTS];
+    for (size_t n = 0; n < SQUARES; n++) {
+        const int64_t r = 2 * (int64_t)(n + 1), square[] = {-r, -r, r, -r, r, r, -r, r};
+        memcpy(corners + 8 * n, square, sizeof square);
+        ends[n] = 4 * (n + 1);
+    }
+    for (size_t n = 0; n < POINTS; n++) {
+        points[2 * n] = (int64_t)n;
+        points[2 * n + 1] = 0;
+    }
+    const polyover_contours nested = {corners, 8 * SQUARES, ends, SQUARES};
+    polyover_exact shape;
+    check(polyover_prepare_exact(POLYOVER_EVEN_ODD, &nested, &shape) == POLYOVER_OK, "it is made", 0, __LINE__);
+    size_t requests = 0;
+    do {
+        memset(locations, 77, sizeof locations);
+        granted = requests;
+        refused = 0;
+        const polyover_status status = polyover_exact_locate(&shape, points, 2 * POINTS, locations, POINTS);
+        granted = SIZE_MAX;
+        check(status == POLYOVER_OK, "it is answered", requests, __LINE__);
+        for (size_t n = 0; n < POINTS; n++) {
+            const polyover_location is = n % 2 == 0 && n >= 2 && n <= 2 * SQUARES        ? POLYOVER_BOUNDARY
+                                         : n < 2 * SQUARES && (SQUARES - n / 2) % 2 == 1 ? POLYOVER_INSIDE
+                                                                                         : POLYOVER_OUTSIDE;
+            check(locations[n] == is, "a point lies as it should", requests, __LINE__);
+        }
+        requests++;
+    } while (refused > 0);
+    check(requests > 4, "memory is taken", requests, __LINE__);
+    polyover_exact_free(&shape);
+}
+
 /* Arranges the contours, asks the graph for shapes, and frees both. */
 static polyover_status graph_overlay(const asked *of, room *to) {
     polyover_graph graph;
@@ -487,6 +527,7 @@ int main(void) {
     numbers();
     faults();
     points();
+    many_points();
     grids();
     edge_lists();
     printf("c, memory refused: %d passed, %d failed\n", passed, failed);

@@ -350,6 +350,7 @@ static void TEST(all)(void) {
     TEST(at_the_ends)();
     TEST(exact_refused)();
     TEST(exact_asking_refused)();
+    TEST(many_in_nested)();
     TEST(prepared_under_rules)();
     TEST(prepared_contours)();
     TEST(prepared_bare)();

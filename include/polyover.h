@@ -622,7 +622,11 @@ polyover_status polyover_prepare_exact_32(polyover_fill fill, const polyover_con
 
 /* Where each point lies in the shape as it is given: POLYOVER_INSIDE where all points near it off the contours are
  * filled, POLYOVER_OUTSIDE where none is, and POLYOVER_BOUNDARY where there are both however near. Without edges all
- * points are outside. What is written, and the statuses, are as of `polyover_prepared_locate`. */
+ * points are outside. What is written, and the statuses, are as of `polyover_prepared_locate`. *shape stays as it is: it
+ * may be asked on several threads at once.
+ *
+ * Many points are asked together, in memory that is given back. Where it is refused, each point is asked alone: this
+ * takes longer, and ends with the same status. */
 polyover_status polyover_exact_locate(const polyover_exact *shape, const int64_t *coordinates,
                                       size_t coordinate_count, polyover_location *locations, size_t location_room);
 polyover_status polyover_exact_locate_32(const polyover_exact_32 *shape, const int32_t *coordinates,

@@ -616,7 +616,7 @@ public:
     /// Returns how many edges the contours have.
     [[nodiscard]] std::size_t edge_count() const noexcept { return raw_.edge_count; }
 
-    /// Writes where each point lies, and is refused, as `basic_prepared::locate`.
+    /// Writes where each point lies, and is refused, as `basic_prepared::locate`; but many points take memory.
     returned<span<location>> locate(span<const Coordinate> points, span<location> locations) const {
         const polyover_status ended = detail::width<Coordinate>::exact_locate(
             &raw_, points.data(), points.size(), reinterpret_cast<polyover_location *>(locations.data()),

@@ -1,6 +1,7 @@
 pub mod AsideEdges
 pub mod Chains
 pub mod ChainsTell
+pub mod DividedEdges
 pub mod HeightOrder
 pub mod LocatedPaths
 pub mod NearSectors
@@ -9,6 +10,7 @@ pub mod NearTests
 pub mod OneLocation
 pub mod OpenQueries
 pub mod PlacedForms
+pub mod QuerySums
 pub mod SectorPoints
 pub mod SectorsTell
 pub mod SeenSectors

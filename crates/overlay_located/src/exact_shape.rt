@@ -12,14 +12,12 @@ ghost use Rattle.overlay_located.specs.Together.{plain_query, IsTold};
 ghost use Rattle.overlay_order.specs.Counts.{boolean_counts};
 
 use crate::blocks::{BLOCK, GROUP, blocks_over};
-use crate::located::locate;
+use crate::located::{locate, locate_told};
 use crate::query::Query;
-use crate::together::windings_beside;
-use crate::told::location_by;
+use crate::together::told_of;
 use overlay_builder::boolean::passing;
 use overlay_builder::builder_core::BuilderCore;
 use overlay_builder::path::PathKind;
-use overlay_geom::edge_pair::is_same;
 use overlay_geom::error::OverlayError;
 use overlay_geom::fill_rule::FillRule;
 use overlay_geom::integer::OverlayInt;
@@ -103,7 +101,7 @@ impl<I: OverlayInt, A: Allocator> ExactShape<I, A> {
         )
     }
 
-    // Returns where the point lies, by the windings at this place where they are those beside it.
+    // Returns where the point lies, by what is told at the place where that suffices.
     fn locate_by(
         &self,
         told: &[Query<I, ShapeCountBoolean>],
@@ -113,50 +111,64 @@ impl<I: OverlayInt, A: Allocator> ExactShape<I, A> {
         requires { All (λ q. IsTold self.now.edges (plain_query I.whole boolean_counts q)) told.now }
         ensures { TellsLocation self.now (in_plane (plain_point I.whole point)) result }
     {
-        if place < told.len() {
-            let q = told[place];
-            if !q.alone && is_same(q.point, point) {
-                let found = location_by(self.core.content().edges(), self.fill_rule, q);
-                if let Some(location) = found {
-                    return location;
-                }
-            }
+        locate_told(
+            self.core.content().edges(),
+            &self.blocks,
+            &self.groups,
+            self.fill_rule,
+            told,
+            place,
+            point,
+        )
+    }
+
+    // Returns where the point lies, by what is told at the place, if anything is told.
+    fn locate_with(
+        &self,
+        told: &Result<Vec<Query<I, ShapeCountBoolean>, A>, AllocError>,
+        place: usize,
+        point: IntPoint<I>,
+    ) -> PointLocation
+        requires { IfOk told.now (λ v. All (λ q. IsTold self.now.edges (plain_query I.whole boolean_counts q)) v.items) }
+        ensures { TellsLocation self.now (in_plane (plain_point I.whole point)) result }
+    {
+        match told {
+            Ok(told) => self.locate_by(told, place, point),
+            Err(_) => self.locate(point),
         }
-        self.locate(point)
     }
 
     // Writes where each of the points lies, in their order.
     fn locate_each(
         &self,
-        told: &[Query<I, ShapeCountBoolean>],
+        told: &Result<Vec<Query<I, ShapeCountBoolean>, A>, AllocError>,
         points: &[IntPoint<I>],
         out: &mut [PointLocation],
     )
-        requires told { All (λ q. IsTold self.now.edges (plain_query I.whole boolean_counts q)) told.now }
+        requires told { IfOk told.now
+            (λ v. All (λ q. IsTold self.now.edges (plain_query I.whole boolean_counts q)) v.items) }
         requires counted { length out.old ≡ length points.now }
         ensures { AnswersEach (λ v l. TellsLocation self.now (in_plane v) l) (plain_points I.whole points.now) out.new }
     {
         for i in 0..points.len() {
-            out[i] = self.locate_by(told, i, points[i]);
+            out[i] = self.locate_with(told, i, points[i]);
         }
     }
 }
 
 impl<I: OverlayInt, A: Allocator + Clone> ExactShape<I, A> {
     /// Writes where each of the points lies to its place in `out`, as `locate` tells it of each. There are as many
-    /// places as points. Where no edge leads through the points, and few edges cross, n points in a shape of n edges
-    /// take about n log^2 n steps. Where memory is refused, each point is asked for alone.
+    /// places as points. Many points are asked together (`together::told_of`), in memory that is given back. Where
+    /// memory is refused, each is asked alone.
     pub fn locate_all(&self, points: &[IntPoint<I>], out: &mut [PointLocation])
         requires { length out.old ≡ length points.now }
         ensures { AnswersEach (λ v l. TellsLocation self.now (in_plane v) l) (plain_points I.whole points.now) out.new }
     {
-        match self.told(points) {
-            Ok(told) => self.locate_each(&told, points, out),
-            Err(_) => self.locate_each(&[], points, out),
-        }
+        let told = self.told(points);
+        self.locate_each(&told, points, out);
     }
 
-    // Returns the windings beside each of the points, in their order. Some have to be asked for alone.
+    // Returns what the edges tell of each of the points, in their order.
     fn told(
         &self,
         points: &[IntPoint<I>],
@@ -164,6 +176,6 @@ impl<I: OverlayInt, A: Allocator + Clone> ExactShape<I, A> {
         ensures { IfOk result (λ v. All (λ q. IsTold self.now.edges (plain_query I.whole boolean_counts q)) v.items) }
     {
         let alloc = self.blocks.allocator().clone()?;
-        windings_beside(alloc, self.core.content().edges(), points)
+        told_of(alloc, self.core.content().edges(), points)
     }
 }

@@ -1,29 +1,31 @@
 //! Edges compared by their heights, and lists of edges in range.
 
-ghost use Rattle.std.specs.Prelude.{◌≡◌, true, false, All, IfOk};
+ghost use Rattle.std.specs.Prelude.{◌≡◌, true, false, map, All, IfOk};
 ghost use Rattle.std.specs.Ordering.{is_gt};
 ghost use Rattle.overlay_order.specs.Content.{plain_edge, plain_edges, IsHeld};
 ghost use Rattle.overlay_located.specs.Together.{IsUnder, StartsUnder, EndsUnder, plain_lines};
 
+use crate::form::EdgeForm;
 use crate::line::Line;
 use overlay_geom::number::{IntNumber, WideIntNumber};
 use overlay_geom::vector::cross_at;
 use overlay_order::count::EdgeCount;
-use overlay_order::edge::CountedEdge;
 use std::alloc::{AllocError, Allocator};
 use std::cmp::Ordering;
 
 /// Returns the edges, in their order.
-pub(crate) fn lines_of<I: IntNumber, C: EdgeCount, A: Allocator>(
+pub(crate) fn lines_of<I: IntNumber, C: EdgeCount, E: EdgeForm<I, C>, A: Allocator>(
     alloc: A,
-    edges: &[CountedEdge<I, C>],
+    edges: &[E],
 ) -> Result<Vec<Line<I, C>, A>, AllocError>
-    requires { All (IsHeld I.limit) (plain_edges I.whole C.counts edges.now) }
-    ensures { IfOk result (λ v. plain_lines I.whole C.counts v.items ≡ plain_edges I.whole C.counts edges.now) }
+    requires { All (IsHeld I.limit) (plain_edges I.whole C.counts (map E.meant edges.now)) }
+    ensures { IfOk result (λ v. plain_lines I.whole C.counts v.items
+        ≡ plain_edges I.whole C.counts (map E.meant edges.now)) }
 {
     let mut lines = Vec::with_capacity(alloc, edges.len())?;
     for e in edges {
-        lines.push(Line { edge: *e })?;
+        let edge = e.edge();
+        lines.push(Line { edge })?;
     }
     Ok(lines)
 }

@@ -1,6 +1,6 @@
 //! Where a point lies in the shape of edges as they are given, in whatever form these are kept.
 
-ghost use Rattle.std.specs.Prelude.{◌≡◌, true, false, Some, length, map};
+ghost use Rattle.std.specs.Prelude.{◌≡◌, true, false, Some, length, map, All};
 ghost use Rattle.overlay_geom.specs.Edges.{ends_of};
 ghost use Rattle.overlay_geom.specs.Plane.{in_plane};
 ghost use Rattle.overlay_geom.specs.Points.{plain_point};
@@ -12,12 +12,15 @@ ghost use Rattle.overlay_located.specs.Located.{LiesIn};
 ghost use Rattle.overlay_located.specs.Rays.{plain_ray, IsRayHeld};
 ghost use Rattle.overlay_located.specs.Seen.{IsSeenUpTo, AddsFilling};
 ghost use Rattle.overlay_located.specs.Sectors.{fills_sector, leads_from};
+ghost use Rattle.overlay_located.specs.Together.{plain_query, IsTold};
 
 use crate::blocks::passed_from;
 use crate::flank::Flank;
 use crate::form::EdgeForm;
 use crate::near::{leads_from, winding_near};
+use crate::query::Query;
 use crate::seen::Seen;
+use crate::told::location_at;
 use overlay_geom::edge::IntEdge;
 use overlay_geom::fill_rule::FillRule;
 use overlay_geom::number::IntNumber;
@@ -45,6 +48,31 @@ pub fn locate<I: IntNumber, C: EdgeCount, E: EdgeForm<I, C>, B: FormOf<Block<I>>
         (in_plane (plain_point I.whole p)) result }
 {
     sectors_seen(edges, blocks, groups, fill_rule, p).location()
+}
+
+/// Returns what `locate` does, by what `together::told_of` told of the point at its place. Where that tells nothing of
+/// the point, or there is no such place, the point is asked for alone. No memory is taken.
+pub fn locate_told<I: IntNumber, C: EdgeCount, E: EdgeForm<I, C>, B: FormOf<Block<I>>>(
+    edges: &[E],
+    blocks: &[B],
+    groups: &[B],
+    fill_rule: FillRule,
+    told: &[Query<I, C>],
+    place: usize,
+    p: IntPoint<I>,
+) -> PointLocation
+    requires content { IsContent I.limit (plain_edges I.whole C.counts (map E.meant edges.now)) }
+    requires blocked { AreBlocked (plain_edges I.whole C.counts (map E.meant edges.now))
+        (plain_blocks I.whole (map B.meant blocks.now)) (plain_blocks I.whole (map B.meant groups.now)) }
+    requires told { All (λ q. IsTold (plain_edges I.whole C.counts (map E.meant edges.now))
+        (plain_query I.whole C.counts q)) told.now }
+    ensures { LiesIn (is_filled fill_rule) (plain_edges I.whole C.counts (map E.meant edges.now))
+        (in_plane (plain_point I.whole p)) result }
+{
+    match location_at(fill_rule, told, place, p) {
+        Some(location) => location,
+        None => locate(edges, blocks, groups, fill_rule, p),
+    }
 }
 
 // Returns what is found among all sectors round the point.

@@ -18,19 +18,19 @@ use std::alloc::{AllocError, Allocator};
 
 /// A point that is asked for, and the windings left and right of it so far.
 #[derive(Clone, Copy)]
-pub(crate) struct Query<I: Copy, C: Copy> {
-    /// The point.
-    pub point: IntPoint<I>,
-    /// Its place among the points.
-    pub place: usize,
-    /// The winding left of it.
-    pub left: i64,
-    /// The winding right of it.
-    pub right: i64,
-    /// The edges that lead from it, so far.
-    pub through: Few<I, C>,
-    /// Whether the point has to be asked for alone: the windings do not tell.
-    pub alone: bool,
+pub struct Query<I: Copy, C: Copy> {
+    // the point
+    pub(crate) point: IntPoint<I>,
+    // its place among the points
+    pub(crate) place: usize,
+    // the winding left of it
+    pub(crate) left: i64,
+    // the winding right of it
+    pub(crate) right: i64,
+    // the edges that lead from it, so far
+    pub(crate) through: Few<I, C>,
+    // whether the point has to be asked for alone: the windings do not tell
+    pub(crate) alone: bool,
 }
 
 /// Returns the points as queries, by their x-coordinates.

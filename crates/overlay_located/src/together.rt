@@ -1,10 +1,11 @@
 //! Points that are asked for together: halves of them again and again, with the edges that do not span their slab.
 
-ghost use Rattle.std.specs.Prelude.{All, IfOk};
+ghost use Rattle.std.specs.Prelude.{map, All, IfOk};
 ghost use Rattle.overlay_order.specs.Content.{plain_edges, IsContent};
 ghost use Rattle.overlay_located.specs.Together.{plain_query, plain_lines, IsOpen, IsTold};
 
 use crate::chain::with_chain;
+use crate::form::EdgeForm;
 use crate::heights::lines_of;
 use crate::line::Line;
 use crate::node::node_over;
@@ -13,21 +14,22 @@ use crate::slab::Slab;
 use overlay_geom::number::IntNumber;
 use overlay_geom::point::IntPoint;
 use overlay_order::count::EdgeCount;
-use overlay_order::edge::CountedEdge;
 use std::alloc::{AllocError, Allocator};
 
 // Greatest number of points, or of edges, that are asked one by one.
 const FEW: usize = 8;
 
-/// Returns the windings beside each of the points, in their order. Some have to be asked for alone.
-pub(crate) fn windings_beside<I: IntNumber, C: EdgeCount, A: Allocator + Clone>(
+/// Returns what the edges tell of each of the points, in their order, for `located::locate_told`. The edges may cross
+/// and overlap. Where few cross, and few begin or end above one another, n points and n edges take about n log^2 n
+/// steps.
+pub fn told_of<I: IntNumber, C: EdgeCount, E: EdgeForm<I, C>, A: Allocator + Clone>(
     alloc: A,
-    edges: &[CountedEdge<I, C>],
+    edges: &[E],
     points: &[IntPoint<I>],
 ) -> Result<Vec<Query<I, C>, A>, AllocError>
-    requires { IsContent I.limit (plain_edges I.whole C.counts edges.now) }
-    ensures { IfOk result
-        (λ v. All (λ q. IsTold (plain_edges I.whole C.counts edges.now) (plain_query I.whole C.counts q)) v.items) }
+    requires { IsContent I.limit (plain_edges I.whole C.counts (map E.meant edges.now)) }
+    ensures { IfOk result (λ v. All (λ q. IsTold (plain_edges I.whole C.counts (map E.meant edges.now))
+        (plain_query I.whole C.counts q)) v.items) }
 {
     let lines = lines_of(alloc.clone()?, edges)?;
     let queries = queries_by_x(alloc.clone()?, points)?;

@@ -46,9 +46,10 @@ pub extern "C" fn polyover_prepare_exact_32<'a>(
 }
 
 /// Writes where each point lies in a shape that `polyover_prepare_exact` handed out, or in one without edges, as a
-/// number for each, and returns the code of a status. Nothing is rounded, and no memory is taken.
+/// number for each, and returns the code of a status. Nothing is rounded. Where memory is refused it takes longer.
 #[unsafe(no_mangle)]
 pub extern "C" fn polyover_exact_locate(
+    alloc: Global,
     shape: &Exact64,
     points: &[i64],
     locations: &mut [u8],
@@ -57,12 +58,13 @@ pub extern "C" fn polyover_exact_locate(
     ensures { (s : Status) × ExactAskingEnds (λ z. z) 4611686018427387903 (parts_at_64 shape.now) points.now
         locations.old locations.new s × (result ≡ code_of s) }
 {
-    locate_exactly(&shape.held(), points, locations).code()
+    locate_exactly(alloc, &shape.held(), points, locations).code()
 }
 
 /// `polyover_exact_locate` at 32 bits.
 #[unsafe(no_mangle)]
 pub extern "C" fn polyover_exact_locate_32(
+    alloc: Global,
     shape: &Exact32,
     points: &[i32],
     locations: &mut [u8],
@@ -71,5 +73,5 @@ pub extern "C" fn polyover_exact_locate_32(
     ensures { (s : Status) × ExactAskingEnds (λ z. z) 1073741823 (parts_at_32 shape.now) points.now
         locations.old locations.new s × (result ≡ code_of s) }
 {
-    locate_exactly(&shape.held(), points, locations).code()
+    locate_exactly(alloc, &shape.held(), points, locations).code()
 }

@@ -1,6 +1,11 @@
-//! Where points in an array lie in a shape as it is given. No call here takes memory.
+//! Where points in an array lie in a shape as it is given. Many points are asked together; where memory is refused, each
+//! is asked alone.
 
-ghost use Rattle.std.specs.Prelude.{◌≡◌, MatchResult, ◌<◌};
+ghost use Rattle.std.specs.Prelude.{◌≡◌, MatchResult, ◌<◌, map, All, take, IfOk};
+ghost use Rattle.overlay_located.specs.Together.{plain_query, IsTold};
+ghost use Rattle.overlay_order.specs.Content.{plain_edges, IsContent};
+ghost use Rattle.overlay_order.specs.Counts.{boolean_counts};
+ghost use Rattle.polyover_calls.specs.Arrays.{points_of};
 ghost use Rattle.polyover_calls.specs.Asked.{fill_of};
 ghost use Rattle.polyover_calls.specs.Located.{number_of};
 ghost use Rattle.polyover_calls.specs.Prepared.{HaveRoom, IsAskingRefused};
@@ -13,17 +18,27 @@ use overlay_geom::fill_rule::FillRule;
 use overlay_geom::integer::OverlayInt;
 use overlay_geom::point::IntPoint;
 use overlay_located::form::EdgeForm;
-use overlay_located::located::locate;
+use overlay_located::located::locate_told;
+use overlay_located::query::Query;
+use overlay_located::together::told_of;
 use overlay_order::count::ShapeCountBoolean;
 use overlay_relate::blocks::Block;
 use overlay_relate::form::FormOf;
 use overlay_relate::location::PointLocation;
 use polyover_calls::status::Status;
 use polyover_calls::test::are_within;
+use std::alloc::{AllocError, Global};
+
+// Greatest number of points that are asked together.
+const TOGETHER: usize = 65_536;
+
+// Least number of points, and of edges, that are asked together.
+const MANY: usize = 64;
 
 /// Writes where each point lies in the shape with these parts, as a number for each.
 #[tactic(auto, using(crate::proofs::Asking::asked_ends, crate::proofs::Asking::unasked_ends))]
 pub fn locate_exactly<I: OverlayInt, E: EdgeForm<I, ShapeCountBoolean>, B: FormOf<Block<I>>>(
+    alloc: Global,
     shape: &HeldShape<E, B>,
     points: &[I],
     locations: &mut [u8],
@@ -34,7 +49,7 @@ pub fn locate_exactly<I: OverlayInt, E: EdgeForm<I, ShapeCountBoolean>, B: FormO
 {
     match tested_room(points, locations) {
         Ok(()) => {
-            write_locations(shape, points, locations);
+            write_locations(alloc, shape, points, locations);
             Status::Done
         }
         Err(status) => status,
@@ -62,6 +77,7 @@ fn tested_room<I: OverlayInt>(points: &[I], locations: &[u8]) -> Result<(), Stat
 
 // Writes the number of each point's location into the first places.
 fn write_locations<I: OverlayInt, E: EdgeForm<I, ShapeCountBoolean>, B: FormOf<Block<I>>>(
+    alloc: Global,
     shape: &HeldShape<E, B>,
     points: &[I],
     locations: &mut [u8],
@@ -73,15 +89,90 @@ fn write_locations<I: OverlayInt, E: EdgeForm<I, ShapeCountBoolean>, B: FormOf<B
         locations.new }
 {
     let rule = known_fill(shape.fill);
+    let mut told = Vec::new(alloc);
     for at in 0..points.len() / 2 {
         let place = 2 * at;
         let next = place + 1;
         let x = points[place];
         let y = points[next];
         let p = IntPoint { x, y };
-        let location = locate(shape.edges, shape.blocks, shape.groups, rule, p);
+        told = told_from(alloc, told, at, shape.edges, &points[place..]);
+        let location = locate_told(
+            shape.edges,
+            shape.blocks,
+            shape.groups,
+            rule,
+            &told,
+            at % TOGETHER,
+            p,
+        );
         locations[at] = number_of(location);
     }
+}
+
+// Returns what the edges tell of the next points, where all before were asked; else what is told already. Of few points
+// or edges nothing is told, nor where memory is refused.
+fn told_from<I: OverlayInt, E: EdgeForm<I, ShapeCountBoolean>>(
+    alloc: Global,
+    told: Vec<Query<I, ShapeCountBoolean>, Global>,
+    at: usize,
+    edges: &[E],
+    points: &[I],
+) -> Vec<Query<I, ShapeCountBoolean>, Global>
+    requires content { IsContent I.limit (plain_edges I.whole boolean_counts (map E.meant edges.now)) }
+    requires told { All (λ q. IsTold (plain_edges I.whole boolean_counts (map E.meant edges.now))
+        (plain_query I.whole boolean_counts q)) told.items }
+    ensures { All (λ q. IsTold (plain_edges I.whole boolean_counts (map E.meant edges.now))
+        (plain_query I.whole boolean_counts q)) result.items }
+{
+    if at % TOGETHER != 0 {
+        return told;
+    }
+    if edges.len() < MANY || points.len() / 2 < MANY {
+        return Vec::new(alloc);
+    }
+    match told_of_first(alloc, edges, points) {
+        Ok(told) => told,
+        Err(_) => Vec::new(alloc),
+    }
+}
+
+// Returns what the edges tell of the first points.
+fn told_of_first<I: OverlayInt, E: EdgeForm<I, ShapeCountBoolean>>(
+    alloc: Global,
+    edges: &[E],
+    points: &[I],
+) -> Result<Vec<Query<I, ShapeCountBoolean>, Global>, AllocError>
+    requires { IsContent I.limit (plain_edges I.whole boolean_counts (map E.meant edges.now)) }
+    ensures { IfOk result (λ v. All (λ q. IsTold (plain_edges I.whole boolean_counts (map E.meant edges.now))
+        (plain_query I.whole boolean_counts q)) v.items) }
+{
+    let first = first_points(alloc, points)?;
+    told_of(alloc, edges, &first)
+}
+
+// Returns the first points of the coordinates, each x followed by its y.
+fn first_points<I: OverlayInt>(
+    alloc: Global,
+    coordinates: &[I],
+) -> Result<Vec<IntPoint<I>, Global>, AllocError>
+    ensures { IfOk result (λ v. v.items ≡ take 65536 (points_of coordinates.now)) }
+{
+    let mut points = Vec::new(alloc);
+    let mut before = None;
+    for coordinate in coordinates {
+        if points.len() == TOGETHER {
+            return Ok(points);
+        }
+        match before {
+            None => before = Some(*coordinate),
+            Some(x) => {
+                points.push(IntPoint { x, y: *coordinate })?;
+                before = None;
+            }
+        }
+    }
+    Ok(points)
 }
 
 // Returns the fill rule with the number, which is known.

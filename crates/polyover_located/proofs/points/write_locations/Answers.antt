@@ -15,8 +15,11 @@ use Rattle.polyover_located.proofs.points.write_locations.Goals as goal
 pub loop-at-init : goal.loop-at-init
 loop-at-init g c =
     let whole = g.I.IntNumber.whole in
-    none_told whole (shape_of (parts_of whole g.E.EdgeForm.meant g.B.FormOf.meant c.args.shape.now))
-    (points_of c.args.points.now) c.args.locations.now
+    (
+      none_told whole (shape_of (parts_of whole g.E.EdgeForm.meant g.B.FormOf.meant c.args.shape.now))
+          (points_of c.args.points.now) c.args.locations.now,
+      search rules,
+    )
 
 pub offset_bounds-points-place : goal.offset_bounds-points-place
 offset_bounds-points-place g c =
@@ -43,7 +46,7 @@ bounds-points-next g c =
 pub bounds-locations-at : goal.bounds-locations-at
 bounds-locations-at g c =
     let counted = points_counted c.args.points.now in
-    let kept = c.loop-at.invariant.counted in
+    let kept = c.loop-at.invariant.0.counted in
     let room = c.requires.room in
     let lt = c.loop-at-test.true in
     omega (arith, counted, kept, room, lt)
@@ -62,13 +65,16 @@ loop-at-preserved g c =
     let counted = points_counted points in
     let lt = c.loop-at-test.true in
     let within = subst (λ k. n < k) (sym counted) lt in
+    (
     subst (λ k. AreToldUpTo whole shape (points_of points) old (n + 1) (set new n k)) (sym c.number_of.ensures)
-    (one_told whole shape (points_of points) old n new p c.locate-location.result within
+    (one_told whole shape (points_of points) old n new p c.locate_told-location.result within
     (let room = c.requires.room in omega (arith, room, within))
     (sym (point_read points n p x y (place_within points n _ (sym counted) lt)
-    c.index-points-place.is c.index-points-next.is)) c.loop-at.invariant
-    (subst (λ r. LiesIn (is_filled r) shape.edges (in_plane (plain_point whole p)) c.locate-location.result)
-    c.known_fill-rule.ensures c.locate-location.ensures))
+    c.index-points-place.is c.index-points-next.is)) c.loop-at.invariant.0
+    (subst (λ r. LiesIn (is_filled r) shape.edges (in_plane (plain_point whole p)) c.locate_told-location.result)
+    c.known_fill-rule.ensures c.locate_told-location.ensures)),
+    c.told_from.ensures,
+    )
 
 pub returns : goal.returns
 returns g c =
@@ -77,4 +83,4 @@ returns g c =
     all_told whole (shape_of (parts_of whole g.E.EdgeForm.meant g.B.FormOf.meant c.args.shape.now))
     (points_of points) c.args.locations.now c.loop-at.at c.loop-at.locations points refl
     (subst (λ k. k ≤ c.loop-at.at) (sym (points_counted points)) c.loop-at-test.false) c.requires.room
-    c.loop-at.invariant
+    c.loop-at.invariant.0

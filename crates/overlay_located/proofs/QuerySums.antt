@@ -1,0 +1,72 @@
+-- Windings by the few edges that lead from a query's point: a sum for each.
+use Rattle.std.proofs.Common.{◌≡◌, Bool, cond, ℕ, ◌<◌, ℤ, pos, ◌+ℤ◌, List, [], ◌∷◌, ◌++◌, map, length, get_or}
+use Rattle.std.proofs.Common.{Contains, refl, sym, ap, ◌∙◌, subst}
+use Rattle.std.specs.Prelude.{Option, Some, None}
+use Rattle.std.specs.List.{All}
+use Rattle.std.proofs.lemmas.List.{map-append}
+use Rattle.std.proofs.lemmas.List.Elements.{Contains-append_left, Contains-append_right, Contains-get_or}
+use lib.IntN.{+ℤ_idr}
+use Rattle.overlay_geom.specs.Edges.{CountedEdge, ends_of, subj_of}
+use Rattle.overlay_geom.specs.Plane.{Point, Edge, in_plane}
+use Rattle.overlay_geom.proofs.Signs.{linear}
+use Rattle.overlay_located.specs.Few.{if_some}
+use Rattle.overlay_located.specs.Sectors.{is_below_near}
+use Rattle.overlay_located.specs.Tells.{near_sum}
+use Rattle.overlay_located.specs.declared.flank.Flank.{Flank}
+use Rattle.overlay_located.proofs.TellsMore.{near_append}
+
+-- one edge
+pub near_one : (h : Flank) (e : CountedEdge) (v : Point) (low : Edge → Bool) → near_sum h (e ∷ []) v low ≡
+    cond (is_below_near h (ends_of e) (in_plane v) (low (ends_of e))) (subj_of e) (pos 0)
+near_one h e v low = +ℤ_idr (cond (is_below_near h (ends_of e) (in_plane v) (low (ends_of e))) (subj_of e) (pos 0))
+
+module _ {X : Type 0} (f : X → CountedEdge) (h : Flank) (o : Option X) (v : Point) (low : Edge → Bool) (z : ℤ) where
+  -- no edge
+  pub sum_of_none : o ≡ None → z ≡ z +ℤ near_sum h (map f (if_some o)) v low
+  sum_of_none none = subst (λ (p : Option X). z ≡ z +ℤ near_sum h (map f (if_some p)) v low) (sym none) (sym (+ℤ_idr z))
+
+  -- one edge, where a test tells whether it is below the sector
+  pub sum_of_some : (x : X) (b : Bool) (y : ℤ) → o ≡ Some x →
+      b ≡ is_below_near h (ends_of (f x)) (in_plane v) (low (ends_of (f x))) →
+      y ≡ z +ℤ cond b (subj_of (f x)) (pos 0) → y ≡ z +ℤ near_sum h (map f (if_some o)) v low
+  sum_of_some x b y is test told = subst (λ (p : Option X). y ≡ z +ℤ near_sum h (map f (if_some p)) v low) (sym is)
+      (told ∙ ap (λ t. z +ℤ cond t (subj_of (f x)) (pos 0)) test ∙ ap (λ w. z +ℤ w) (sym (near_one h (f x) v low)))
+
+-- mapped lists one after the other
+pub mapped_parts : {X Y : Type 0} (f : X → Y) (as bs cs ds : List X) →
+    map f (as ++ (bs ++ (cs ++ ds))) ≡ map f as ++ (map f bs ++ (map f cs ++ map f ds))
+mapped_parts f as bs cs ds = map-append f as (bs ++ (cs ++ ds))
+    ∙ ap (λ ys. map f as ++ ys) (map-append f bs (cs ++ ds)
+    ∙ ap (λ ys. map f bs ++ ys) (map-append f cs ds))
+
+-- sums of four lists
+pub near_parts : (h : Flank) (as bs cs ds es : List CountedEdge) (v : Point) (low : Edge → Bool) (z one two three : ℤ)
+    (all : ℤ) → es ≡ as ++ (bs ++ (cs ++ ds)) → one ≡ z +ℤ near_sum h as v low → two ≡ one +ℤ near_sum h bs v low →
+    three ≡ two +ℤ near_sum h cs v low → all ≡ three +ℤ near_sum h ds v low → all ≡ z +ℤ near_sum h es v low
+near_parts h as bs cs ds es v low z one two three all same is_one is_two is_three is_all =
+    let a = near_append h as (bs ++ (cs ++ ds)) v low in
+    let b = near_append h bs (cs ++ ds) v low in
+    let c = near_append h cs ds v low in
+    let d = ap (λ (fs : List CountedEdge). near_sum h fs v low) same in
+    omega linear
+
+-- elements of the parts are elements of the whole
+module _ {X : Type 0} (as bs cs ds es : List X) (is : es ≡ as ++ (bs ++ (cs ++ ds))) where
+  in_whole : (xs : List X) → ((x : X) → Contains xs x → Contains (as ++ (bs ++ (cs ++ ds))) x) → All (Contains es) xs
+  in_whole xs way i d lt = subst (λ (ys : List X). Contains ys (get_or xs i d)) (sym is)
+      (way (get_or xs i d) (Contains-get_or xs i d lt))
+
+  pub in_first : All (Contains es) as
+  in_first = in_whole as (λ x at. Contains-append_left as (bs ++ (cs ++ ds)) x at)
+
+  pub in_second : All (Contains es) bs
+  in_second = in_whole bs (λ x at. Contains-append_right as (bs ++ (cs ++ ds)) x
+      (Contains-append_left bs (cs ++ ds) x at))
+
+  pub in_third : All (Contains es) cs
+  in_third = in_whole cs (λ x at. Contains-append_right as (bs ++ (cs ++ ds)) x
+      (Contains-append_right bs (cs ++ ds) x (Contains-append_left cs ds x at)))
+
+  pub in_fourth : All (Contains es) ds
+  in_fourth = in_whole ds (λ x at. Contains-append_right as (bs ++ (cs ++ ds)) x
+      (Contains-append_right bs (cs ++ ds) x (Contains-append_right cs ds x at)))

@@ -1,0 +1,23 @@
+-- The sums of the four edges, one after the other.
+use Rattle.std.proofs.lemmas.Option.{IfSome_then}
+use Rattle.overlay_geom.specs.Points.{plain_point}
+use Rattle.overlay_order.specs.Content.{plain_edge, plain_edges}
+use Rattle.overlay_located.specs.Few.{if_some, few_edges}
+use Rattle.overlay_located.specs.Rays.{plain_ray}
+use Rattle.overlay_located.specs.Sectors.{is_low}
+use Rattle.overlay_located.proofs.QuerySums.{mapped_parts, near_parts}
+use Rattle.overlay_located.proofs.told.winding_by.Goals as goal
+
+pub returns : goal.returns
+returns g c =
+    let whole = g.I.IntNumber.whole in
+    let plain = plain_edges whole g.C.EdgeCount.counts in
+    let few = c.args.q.through in
+    IfSome_then c.sum_with-4.result c.sum_with-4.ensures (λ all is.
+    near_parts c.args.flank (plain (if_some few.first)) (plain (if_some few.second)) (plain (if_some few.third))
+    (plain (if_some few.fourth)) (plain (few_edges few)) (plain_point whole c.args.q.point)
+    (is_low c.args.flank (plain_ray whole c.args.ray)) c.args.so_far c.in_ok-one.one c.in_ok-two.two c.in_ok-three.three
+    all
+    (mapped_parts (plain_edge whole g.C.EdgeCount.counts) (if_some few.first) (if_some few.second)
+    (if_some few.third) (if_some few.fourth))
+    c.in_ok-one.ensures c.in_ok-two.ensures c.in_ok-three.ensures is)
