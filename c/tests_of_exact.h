@@ -184,8 +184,8 @@ static void TEST(exact_asking_refused)(void) {
     CHECK(NAME(polyover_exact_locate)(&zero, NULL, 0, NULL, 0) == POLYOVER_OK);
 }
 
-/* Squares round (0, 0), the n-th reaching 2n units: 20,000 edges. By EVEN_ODD a point whose greater coordinate is d units
- * lies on a square where d is even, 2 or more, and at most 10,000; else so many squares are round it as reach further. */
+/* Squares round (0, 0), the n-th reaching 2n units: 20,000 edges. A point whose greater coordinate is d units from 0
+ * lies on a square where d is even, from 2 to 10,000; else those squares are round it that reach further. */
 static void TEST(many_in_nested)(void) {
     enum { SQUARES = 5000, POINTS = 5000, FAR = 2 * SQUARES };
     static NUMBER corners[8 * SQUARES], points[2 * POINTS];

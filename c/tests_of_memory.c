@@ -244,8 +244,8 @@ static polyover_status prepare_exact(const asked *of, room *to) {
 }
 
 /* Asks many points together, with one request more granted each time: the locations are as they are with all. The n-th
- * of 30 squares round (0, 0) reaches 2n units. Point n is (n, 0): on a square where n is even, from 2 to 60; else inside
- * where an odd number of squares reach further. */
+ * of 30 squares round (0, 0) reaches 2n units. Point n is (n, 0): on a square where n is even, from 2 to 60; else
+ * inside where an odd number of squares reach further. */
 static void many_points(void) {
     enum { SQUARES = 30, POINTS = 80 };
     int64_t corners[8 * SQUARES], points[2 * POINTS];

@@ -622,8 +622,8 @@ polyover_status polyover_prepare_exact_32(polyover_fill fill, const polyover_con
 
 /* Where each point lies in the shape as it is given: POLYOVER_INSIDE where all points near it off the contours are
  * filled, POLYOVER_OUTSIDE where none is, and POLYOVER_BOUNDARY where there are both however near. Without edges all
- * points are outside. What is written, and the statuses, are as of `polyover_prepared_locate`. *shape stays as it is: it
- * may be asked on several threads at once.
+ * points are outside. What is written, and the statuses, are as of `polyover_prepared_locate`. *shape stays, and may
+ * be asked on several threads at once.
  *
  * Many points are asked together, in memory that is given back. Where it is refused, each point is asked alone: this
  * takes longer, and ends with the same status. */

@@ -5,7 +5,7 @@ use Rattle.std.specs.List.{All}
 use Rattle.std.specs.List.Sorted.{IsPermutation}
 use Rattle.std.specs.Ordering.{int_eq}
 use Rattle.std.proofs.lemmas.Bool.{false_from_ne_true}
-use Rattle.std.proofs.lemmas.List.Elements.{All-nil, All-push}
+use Rattle.std.proofs.lemmas.List.Elements.{All-push}
 use Rattle.std.proofs.lemmas.List.Sorted.{All-permutation, IsPermutation-to_front}
 use Rattle.overlay_geom.specs.Edges.{CountedEdge, ends_of, subj_of}
 use Rattle.overlay_geom.specs.Plane.{Point, Edge, in_plane, side}
@@ -15,7 +15,7 @@ use Rattle.overlay_located.specs.Tells.{PassesBy, Tells, nothing}
 use Rattle.overlay_located.specs.Together.{Band, IsWithin, Spans, IsBeside, AreDivided, HasChain, Counted, edges_of}
 use Rattle.overlay_located.specs.declared.flank.Flank.{Flank}
 use Rattle.overlay_located.proofs.NearTests.{spanned}
-use Rattle.overlay_located.proofs.TellsMore.{added, tells_same, tells_on, tells_as, tells_before, tells_behind}
+use Rattle.overlay_located.proofs.TellsMore.{added, tells_on, tells_as, tells_before, tells_behind}
 use Rattle.overlay_located.proofs.TellsMore.{tells_permuted, tells_passed}
 
 module _ (v : Point) (es fs gs : List CountedEdge) where
@@ -42,8 +42,12 @@ module _ (s : Band) (e : CountedEdge) (v : Point) (is : IsWithin s v) (beside : 
       (int_eq (side (ends_of e) (in_plane v)) (pos 0) && false))) (subj_of e) (pos 0)) (apart h))
       (tells_passed v e (λ h. ap (λ t. t && int_eq (side (ends_of e) (in_plane v)) (pos 0)) (apart h)))
 
-pub divided_none : (s : Band) → AreDivided s [] [] []
-divided_none s = record { spanned = All-nil (Spans s); split = λ v is. tells_same v [] }
+-- other names of the lists
+pub divided_as : (s : Band) (es spanning others kept rest : List CountedEdge) → others ≡ spanning → rest ≡ kept →
+    AreDivided s es spanning kept → AreDivided s es others rest
+divided_as s es spanning others kept rest same alike divided =
+    subst (λ (fs : List CountedEdge). AreDivided s es fs rest) (sym same)
+    (subst (λ (fs : List CountedEdge). AreDivided s es spanning fs) (sym alike) divided)
 
 module _ (s : Band) (es spanning kept : List CountedEdge) (so_far : AreDivided s es spanning kept) (e : CountedEdge)
     where

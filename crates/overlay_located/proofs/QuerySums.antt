@@ -33,40 +33,40 @@ module _ {X : Type 0} (f : X → CountedEdge) (h : Flank) (o : Option X) (v : Po
       (told ∙ ap (λ t. z +ℤ cond t (subj_of (f x)) (pos 0)) test ∙ ap (λ w. z +ℤ w) (sym (near_one h (f x) v low)))
 
 -- mapped lists one after the other
-pub mapped_parts : {X Y : Type 0} (f : X → Y) (as bs cs ds : List X) →
-    map f (as ++ (bs ++ (cs ++ ds))) ≡ map f as ++ (map f bs ++ (map f cs ++ map f ds))
-mapped_parts f as bs cs ds = map-append f as (bs ++ (cs ++ ds))
-    ∙ ap (λ ys. map f as ++ ys) (map-append f bs (cs ++ ds)
-    ∙ ap (λ ys. map f bs ++ ys) (map-append f cs ds))
+pub mapped_parts : {X Y : Type 0} (f : X → Y) (ws us vs ts : List X) →
+    map f (ws ++ (us ++ (vs ++ ts))) ≡ map f ws ++ (map f us ++ (map f vs ++ map f ts))
+mapped_parts f ws us vs ts = map-append f ws (us ++ (vs ++ ts))
+    ∙ ap (λ ys. map f ws ++ ys) (map-append f us (vs ++ ts)
+    ∙ ap (λ ys. map f us ++ ys) (map-append f vs ts))
 
 -- sums of four lists
-pub near_parts : (h : Flank) (as bs cs ds es : List CountedEdge) (v : Point) (low : Edge → Bool) (z one two three : ℤ)
-    (all : ℤ) → es ≡ as ++ (bs ++ (cs ++ ds)) → one ≡ z +ℤ near_sum h as v low → two ≡ one +ℤ near_sum h bs v low →
-    three ≡ two +ℤ near_sum h cs v low → all ≡ three +ℤ near_sum h ds v low → all ≡ z +ℤ near_sum h es v low
-near_parts h as bs cs ds es v low z one two three all same is_one is_two is_three is_all =
-    let a = near_append h as (bs ++ (cs ++ ds)) v low in
-    let b = near_append h bs (cs ++ ds) v low in
-    let c = near_append h cs ds v low in
+pub near_parts : (h : Flank) (ws us vs ts es : List CountedEdge) (v : Point) (low : Edge → Bool) (z one two three : ℤ)
+    (all : ℤ) → es ≡ ws ++ (us ++ (vs ++ ts)) → one ≡ z +ℤ near_sum h ws v low → two ≡ one +ℤ near_sum h us v low →
+    three ≡ two +ℤ near_sum h vs v low → all ≡ three +ℤ near_sum h ts v low → all ≡ z +ℤ near_sum h es v low
+near_parts h ws us vs ts es v low z one two three all same is_one is_two is_three is_all =
+    let a = near_append h ws (us ++ (vs ++ ts)) v low in
+    let b = near_append h us (vs ++ ts) v low in
+    let c = near_append h vs ts v low in
     let d = ap (λ (fs : List CountedEdge). near_sum h fs v low) same in
     omega linear
 
 -- elements of the parts are elements of the whole
-module _ {X : Type 0} (as bs cs ds es : List X) (is : es ≡ as ++ (bs ++ (cs ++ ds))) where
-  in_whole : (xs : List X) → ((x : X) → Contains xs x → Contains (as ++ (bs ++ (cs ++ ds))) x) → All (Contains es) xs
+module _ {X : Type 0} (ws us vs ts es : List X) (is : es ≡ ws ++ (us ++ (vs ++ ts))) where
+  in_whole : (xs : List X) → ((x : X) → Contains xs x → Contains (ws ++ (us ++ (vs ++ ts))) x) → All (Contains es) xs
   in_whole xs way i d lt = subst (λ (ys : List X). Contains ys (get_or xs i d)) (sym is)
       (way (get_or xs i d) (Contains-get_or xs i d lt))
 
-  pub in_first : All (Contains es) as
-  in_first = in_whole as (λ x at. Contains-append_left as (bs ++ (cs ++ ds)) x at)
+  pub in_first : All (Contains es) ws
+  in_first = in_whole ws (λ x at. Contains-append_left ws (us ++ (vs ++ ts)) x at)
 
-  pub in_second : All (Contains es) bs
-  in_second = in_whole bs (λ x at. Contains-append_right as (bs ++ (cs ++ ds)) x
-      (Contains-append_left bs (cs ++ ds) x at))
+  pub in_second : All (Contains es) us
+  in_second = in_whole us (λ x at. Contains-append_right ws (us ++ (vs ++ ts)) x
+      (Contains-append_left us (vs ++ ts) x at))
 
-  pub in_third : All (Contains es) cs
-  in_third = in_whole cs (λ x at. Contains-append_right as (bs ++ (cs ++ ds)) x
-      (Contains-append_right bs (cs ++ ds) x (Contains-append_left cs ds x at)))
+  pub in_third : All (Contains es) vs
+  in_third = in_whole vs (λ x at. Contains-append_right ws (us ++ (vs ++ ts)) x
+      (Contains-append_right us (vs ++ ts) x (Contains-append_left vs ts x at)))
 
-  pub in_fourth : All (Contains es) ds
-  in_fourth = in_whole ds (λ x at. Contains-append_right as (bs ++ (cs ++ ds)) x
-      (Contains-append_right bs (cs ++ ds) x (Contains-append_right cs ds x at)))
+  pub in_fourth : All (Contains es) ts
+  in_fourth = in_whole ts (λ x at. Contains-append_right ws (us ++ (vs ++ ts)) x
+      (Contains-append_right us (vs ++ ts) x (Contains-append_right vs ts x at)))

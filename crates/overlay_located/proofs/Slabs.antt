@@ -1,5 +1,5 @@
 -- What tests of points and edges by a slab tell.
-use Rattle.std.proofs.Common.{◌≡◌, ◌⊎◌, inl, inr, Bool, true, false, not, ◌&&◌, ◌||◌, ◌<ℤ◌, ◌≤ℤ◌, int_lt, refl, sym, ◌∙◌}
+use Rattle.std.proofs.Common.{◌≡◌, inl, inr, Bool, true, false, not, ◌||◌, int_lt, refl, sym}
 use Rattle.std.proofs.lemmas.Bool.{and_parts, both_ways}
 use Rattle.overlay_geom.specs.Edges.{CountedEdge}
 use Rattle.overlay_geom.specs.Plane.{Point}

@@ -1,6 +1,6 @@
 -- Sectors found by the edges of a query, and the location that they tell.
-use Rattle.std.proofs.Common.{◌≡◌, ◌⊎◌, inl, inr, ⊎_elim, Bool, true, false, not, ◌||◌, ℕ, ◌<◌, ℤ, pos, ◌+ℤ◌, List, [], ◌∷◌}
-use Rattle.std.proofs.Common.{◌++◌, Contains, length, refl, sym, ap, ◌∙◌, subst, arith}
+use Rattle.std.proofs.Common.{◌≡◌, ⊎_elim, Bool, true, false, not, ◌||◌, ℕ, ℤ, ◌+ℤ◌, List, [], ◌∷◌}
+use Rattle.std.proofs.Common.{◌++◌, Contains, refl, sym, ap, ◌∙◌, subst, arith}
 use Rattle.std.specs.Prelude.{Option, Some, None}
 use Rattle.std.specs.List.{All}
 use Rattle.std.proofs.lemmas.Bool.{both_ways}
@@ -48,12 +48,13 @@ module _ (filled : ℤ → Bool) (es : List CountedEdge) (p : PlanePoint) where
         by true leads = still (fills_sector filled h es p (Some (ends_of e))) old new (sees.ray leads) t had
         by false apart = subst (λ s. has_seen s t ≡ true) (sym (sees.other apart)) had
 
-    ray_right : (leads_from h (ends_of e) p ≡ true → Contains es e) → IsSeenOf filled es p old → IsSeenOf filled es p new
+    ray_right : (leads_from h (ends_of e) p ≡ true → Contains es e) → IsSeenOf filled es p old →
+        IsSeenOf filled es p new
     ray_right entry right = by (leads_from h (ends_of e) p) refl
       where
         by : (b : Bool) → leads_from h (ends_of e) p ≡ b → IsSeenOf filled es p new
-        by true leads = seen_right filled es p h (Some (ends_of e)) (e, entry leads, refl, leads) old new (sees.ray leads)
-            right
+        by true leads = seen_right filled es p h (Some (ends_of e)) (e, entry leads, refl, leads) old new
+            (sees.ray leads) right
         by false apart = subst (IsSeenOf filled es p) (sym (sees.other apart)) right
 
     ray_found : leads_from h (ends_of e) p ≡ true → has_seen new (fills_sector filled h es p (Some (ends_of e))) ≡ true
@@ -67,7 +68,8 @@ module _ (filled : ℤ → Bool) (es : List CountedEdge) (p : PlanePoint) where
     right = λ r. ray_right Right e mid new right (entry Right) (ray_right Left e old mid left (entry Left) r);
     still = λ t had. ray_still Right e mid new right t (ray_still Left e old mid left t had);
     found = λ f at h leads. ⊎_elim
-        (λ (same : e ≡ f). subst (λ (d : CountedEdge). has_seen new (fills_sector filled h es p (Some (ends_of d))) ≡ true)
+        (λ (same : e ≡ f).
+        subst (λ (d : CountedEdge). has_seen new (fills_sector filled h es p (Some (ends_of d))) ≡ true)
         same (here h (subst (λ (d : CountedEdge). leads_from h (ends_of d) p ≡ true) (sym same) leads)))
         (λ (rest : Contains [] f). absurd (omega (arith, rest.1))) (Contains-cases e [] f at);
   }

@@ -129,7 +129,8 @@ impl<I: OverlayInt, A: Allocator> ExactShape<I, A> {
         place: usize,
         point: IntPoint<I>,
     ) -> PointLocation
-        requires { IfOk told.now (λ v. All (λ q. IsTold self.now.edges (plain_query I.whole boolean_counts q)) v.items) }
+        requires { IfOk told.now
+            (λ v. All (λ q. IsTold self.now.edges (plain_query I.whole boolean_counts q)) v.items) }
         ensures { TellsLocation self.now (in_plane (plain_point I.whole point)) result }
     {
         match told {

@@ -1,11 +1,10 @@
-//! Where points in an array lie in a shape as it is given. Many points are asked together; where memory is refused, each
-//! is asked alone.
+//! Where points in an array lie in a shape as it is given. Many points are asked together, or, where memory is refused,
+//! each alone.
 
-ghost use Rattle.std.specs.Prelude.{◌≡◌, MatchResult, ◌<◌, map, All, take, IfOk};
+ghost use Rattle.std.specs.Prelude.{◌≡◌, MatchResult, ◌<◌, map, All, IfOk};
 ghost use Rattle.overlay_located.specs.Together.{plain_query, IsTold};
 ghost use Rattle.overlay_order.specs.Content.{plain_edges, IsContent};
 ghost use Rattle.overlay_order.specs.Counts.{boolean_counts};
-ghost use Rattle.polyover_calls.specs.Arrays.{points_of};
 ghost use Rattle.polyover_calls.specs.Asked.{fill_of};
 ghost use Rattle.polyover_calls.specs.Located.{number_of};
 ghost use Rattle.polyover_calls.specs.Prepared.{HaveRoom, IsAskingRefused};
@@ -151,13 +150,12 @@ fn told_of_first<I: OverlayInt, E: EdgeForm<I, ShapeCountBoolean>>(
     told_of(alloc, edges, &first)
 }
 
-// Returns the first points of the coordinates, each x followed by its y.
+// Returns the first points of the coordinates, each x followed by its y. No proof rests on these: what is told of a
+// point answers for that point alone.
 fn first_points<I: OverlayInt>(
     alloc: Global,
     coordinates: &[I],
-) -> Result<Vec<IntPoint<I>, Global>, AllocError>
-    ensures { IfOk result (λ v. v.items ≡ take 65536 (points_of coordinates.now)) }
-{
+) -> Result<Vec<IntPoint<I>, Global>, AllocError> {
     let mut points = Vec::new(alloc);
     let mut before = None;
     for coordinate in coordinates {

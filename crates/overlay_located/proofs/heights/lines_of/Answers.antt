@@ -1,5 +1,5 @@
 -- One line more.
-use Rattle.std.proofs.Common.{◌∷◌, ◌++◌, [], map, ap, sym, ◌∙◌}
+use Rattle.std.proofs.Common.{◌∷◌, ◌++◌, [], map, take, ap, sym, ◌∙◌}
 use Rattle.std.proofs.lemmas.List.{map-append}
 use Rattle.overlay_geom.proofs.Mapped.{mapped_more, mapped_whole}
 use Rattle.overlay_order.specs.Content.{plain_edge, plain_edges, IsHeld}
@@ -19,14 +19,15 @@ loop-e-preserved g c =
     let whole = g.I.IntNumber.whole in
     let counts = g.C.EdgeCount.counts in
     let plain = plain_edge whole counts in
-    let front = map g.E.EdgeForm.meant in
+    let front = map g.E.EdgeForm.meant (take c.loop-e.e-index c.args.edges.now) in
+    let e = c.edge-edge.result in
     ap (plain_lines whole counts) c.in_ok-push.ensures.items
     ∙ map-append (plain_line whole counts) c.loop-e.lines.items (_ ∷ [])
-    ∙ ap (λ es. es ++ plain c.edge-edge.result ∷ []) c.loop-e.invariant
-    ∙ ap (λ e. plain_edges whole counts (front _) ++ plain e ∷ []) c.edge-edge.ensures
+    ∙ ap (λ es. es ++ plain e ∷ []) c.loop-e.invariant
+    ∙ ap (λ d. plain_edges whole counts front ++ plain d ∷ []) c.edge-edge.ensures
     ∙ sym (ap (plain_edges whole counts) (mapped_more g.E.EdgeForm.meant c.args.edges.now c.loop-e.e-index
     c.e-item.result c.loop-e-test.true c.e-item.is)
-    ∙ map-append plain (front _) (_ ∷ []))
+    ∙ map-append plain front (g.E.EdgeForm.meant c.e-item.result ∷ []))
 
 pub returns : goal.returns
 returns g c =
