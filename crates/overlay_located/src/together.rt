@@ -64,7 +64,7 @@ fn ask<I: IntNumber, C: EdgeCount, A: Allocator + Clone>(
         return Ok(());
     }
     let rest = with_chain(alloc.clone()?, &node.chain, slab, queries)?;
-    let (first, second) = rest.split_at(rest.len() / 2);
-    ask(alloc.clone()?, &node.kept, first, told)?;
-    ask(alloc, &node.kept, second, told)
+    let halves = rest.split_at(rest.len() / 2);
+    ask(alloc.clone()?, &node.kept, halves.0, told)?;
+    ask(alloc, &node.kept, halves.1, told)
 }
