@@ -1,5 +1,5 @@
 -- Of a point in the slab the chain tells the sum below, and the edges on its level.
-use Rattle.std.proofs.Common.{◌≡◌, ◌∙◌, sym, arith, w64, to_z}
+use Rattle.std.proofs.Common.{◌≡◌, ◌-◌, ◌∙◌, sym, ap, arith, rules, w64, to_z, of_z, to_z-of_z}
 use Rattle.overlay_geom.specs.Edges.{subj_of}
 use Rattle.overlay_geom.specs.Plane.{total}
 use Rattle.overlay_geom.specs.Points.{plain_point}
@@ -16,8 +16,10 @@ place_over-start-requires g c =
     let whole = g.I.IntNumber.whole in
     let s = plain_slab whole c.args.slab in
     let v = plain_point whole c.args.q.point in
-    all_over s (plain_links whole g.C.EdgeCount.counts c.args.chain.now) v c.requires
-    (within_from_test s v (sym c.is_within.ensures ∙ c.if-not-is_within.false))
+    record {
+      over = all_over s (plain_links whole g.C.EdgeCount.counts c.args.chain.now) v c.requires
+          (within_from_test s v (sym c.is_within.ensures ∙ c.if-not-is_within.false));
+    }
 
 pub end_of_level-end-requires-clause-over : goal.end_of_level-end-requires-clause-over
 end_of_level-end-requires-clause-over g c =
@@ -64,12 +66,15 @@ returns-clause-adds g c =
     (elim c.if-start-gt0.branch [
       | then-start-gt0 w ↦
           let some = w.if-start-gt0.true in
-          let bits = c.if-start-gt0.sum-is in
-          let told = w.sum-is in
-          let at = w.index-chain-start.is in
-          ?
+          let le = c.place_over-start.ensures in
+          let start = c.place_over-start.result in
+          let last = w.index-chain-start.result in
+          let fits : to_z w64 (of_z w64 last.sum) ≡ last.sum = search (rules, to_z-of_z) in
+          w.sum-is ∙ ap (λ (x : _). to_z w64 (of_z w64 x.sum)) (sym w.index-chain-start.is) ∙ fits
+          ∙ sum_at (plain_link whole counts) c.args.chain.now s c.requires start (start - 1) last
+          (omega (arith, some, le)) (omega (arith, some)) w.index-chain-start.is
       | else-start-gt0 w ↦
           let none = w.if-start-gt0.false in
-          c.if-start-gt0.sum-is ∙ w.sum-is ∙ sum_none ks c.place_over-start.result (omega (arith, none))
+          w.sum-is ∙ sum_none ks c.place_over-start.result (omega (arith, none))
     ])
     c.with_sums.ensures c.with_level.ensures

@@ -1,5 +1,5 @@
 -- The edge leads from the point, or its count is added where it is below.
-use Rattle.std.proofs.Common.{◌≡◌, ◌∷◌, [], ◌∙◌, false, sym, rules, w32, w64, to_z, of_z, to_z-of_z}
+use Rattle.std.proofs.Common.{◌≡◌, ◌∷◌, [], ◌∙◌, false, sym, rules, w64, to_z, of_z, to_z-of_z}
 use Rattle.overlay_geom.specs.Edges.{subj_of}
 use Rattle.overlay_geom.specs.Points.{plain_point}
 use Rattle.overlay_order.specs.Content.{plain_edge}
@@ -19,28 +19,22 @@ returns g c =
     let v = plain_point whole c.args.q.point in
     let subj = c.subj.ensures in
     let from = c.from-count.ensures in
-    let count : c.from-count.result ≡ subj_of e =
-        first_of (search (rules, to_z-of_z), rw from (rw (to_z-of_z w32 c.subj.result (search rules)) subj)) in
-    let again : to_z w64 (of_z w64 c.from-count.result) ≡ subj_of e =
-        first_of (search (rules, to_z-of_z), rw (to_z-of_z w64 c.from-count.result (search rules)) count) in
-    let left_bits = c.if-is_below_near.left-is in
-    let right_bits = c.if-is_below_near-2.right-is in
+    let count : to_z w64 (of_z w64 c.from-count.result) ≡ subj_of e = search (rules, to_z-of_z) in
     let left : added Left v (λ f. false) e ≡ to_z w64 c.if-is_below_near.left-bits =
         elim c.if-is_below_near.branch [
           | then-is_below_near w ↦ added_if Left v e c.is_below_near.result (to_z w64 c.if-is_below_near.left-bits)
-              c.is_below_near.ensures w.if-is_below_near.true
-              (left_bits ∙ (let told = w.left-is in first_of (rw told again, rw told count)))
+              c.is_below_near.ensures w.if-is_below_near.true (w.left-is ∙ count)
           | else-is_below_near w ↦ added_not Left v e c.is_below_near.result (to_z w64 c.if-is_below_near.left-bits)
-              c.is_below_near.ensures w.if-is_below_near.false (left_bits ∙ w.left-is)
+              c.is_below_near.ensures w.if-is_below_near.false w.left-is
         ] in
     let right : added Right v (λ f. false) e ≡ to_z w64 c.if-is_below_near-2.right-bits =
         elim c.if-is_below_near-2.branch [
           | then-is_below_near-2 w ↦ added_if Right v e c.is_below_near-2.result
               (to_z w64 c.if-is_below_near-2.right-bits) c.is_below_near-2.ensures w.if-is_below_near-2.true
-              (right_bits ∙ (let told = w.right-is in first_of (rw told again, rw told count)))
+              (w.right-is ∙ count)
           | else-is_below_near-2 w ↦ added_not Right v e c.is_below_near-2.result
               (to_z w64 c.if-is_below_near-2.right-bits) c.is_below_near-2.ensures w.if-is_below_near-2.false
-              (right_bits ∙ w.right-is)
+              w.right-is
         ] in
     adds_of_sums (e ∷ []) (to_z w64 c.if-is_below_near.left-bits) (to_z w64 c.if-is_below_near-2.right-bits)
     (λ h. added h v (λ f. false) e) (plain_query whole counts c.args.q) (plain_query whole counts c.with_sums.result)
