@@ -1,19 +1,24 @@
--- Chains of edges: one edge more.
-use Rattle.std.proofs.Common.{◌≡◌, ◌⊎◌, inl, inr, ℕ, ◌+◌, ◌<◌, ℤ, pos, ◌+ℤ◌, ◌<ℤ◌, List, [], ◌∷◌, ◌++◌, map, length, take}
-use Rattle.std.proofs.Common.{get_or, refl, sym, ap, ◌∙◌, subst, arith}
+-- Chains of edges: one edge more, and the sums so far.
+use Rattle.std.proofs.Common.{◌≡◌, ◌⊎◌, inl, inr, ℕ, ◌+◌, ◌<◌, ℤ, pos, ◌+ℤ◌, ◌<ℤ◌, List, [], ◌∷◌, ◌++◌, map}
+use Rattle.std.proofs.Common.{length, take, get_or, refl, sym, ap, ◌∙◌, subst, arith, append_assoc}
 use Rattle.std.specs.List.{All, AllPairs}
 use Rattle.std.proofs.Math.Nat.{eq-or-lt_of_le}
-use Rattle.std.proofs.lemmas.List.{get_or_append_left, get_or_push, get_or_default, take-append-le, take_all, length_push}
-use Rattle.std.proofs.lemmas.List.{map-append}
+use Rattle.std.proofs.lemmas.List.{get_or_append_left, get_or_push, get_or_default, take-append-le, take_all}
+use Rattle.std.proofs.lemmas.List.{length_push, map-append, length-map, append-nil}
 use Rattle.std.proofs.lemmas.List.Elements.{All-nil, All-push}
 use Rattle.std.proofs.lemmas.List.Quantifiers.{all_pairs_push}
+use Rattle.std.proofs.lemmas.List.Sorted.{IsPermutation-to_front, IsPermutation-append_right}
+use Rattle.std.specs.List.Sorted.{IsPermutation}
 use lib.IntN.{+ℤ_idr, +ℤ_idl}
 use Rattle.overlay_geom.specs.Edges.{CountedEdge, subj_of}
 use Rattle.overlay_geom.specs.Plane.{Point, total}
+use Rattle.overlay_geom.proofs.Mapped.{read_mapped, mapped_more}
 use Rattle.overlay_geom.proofs.Signs.{linear}
 use Rattle.overlay_geom.proofs.Totals.{total-append}
-use Rattle.overlay_located.specs.Together.{Band, IsWithin, Spans, IsInSpan, IsUnder, IsUnderAt, Counted, edge_in, edges_of}
-use Rattle.overlay_located.specs.Together.{IsChain}
+use Rattle.overlay_located.specs.Together.{Band, IsWithin, Spans, IsInSpan, IsUnder, IsUnderAt, Counted, edge_in}
+use Rattle.overlay_located.specs.Together.{edges_of, IsChain, HasChain}
+use Rattle.overlay_located.specs.Tells.{Tells, nothing}
+use Rattle.overlay_located.proofs.TellsMore.{tells_same, tells_through, tells_behind, tells_permuted}
 
 -- ---- a chain grows
 
@@ -94,3 +99,84 @@ module _ (s : Band) (ks : List Counted) (k : Counted) (chain : IsChain s ks) (ov
           (sym (is ∙ get_or_default ks n last d (omega (arith, count))))
           (chain.order m n d less (omega (arith, count)) v within))
           (at_last v within)
+
+-- ---- edges are divided into a chain and others
+
+-- nothing but others
+pub divided_none : (s : Band) (es : List CountedEdge) → HasChain s (es ++ []) [] es
+divided_none s es = record {
+  chain = chain_none s;
+  split = λ v is. subst (λ fs. Tells v fs es nothing) (sym (append-nil es)) (tells_same v es);
+}
+
+module _ (s : Band) (es : List CountedEdge) (ks : List Counted) (kept : List CountedEdge)
+    (was : HasChain s es ks kept) where
+  -- the chain takes one edge more
+  chain_takes : (k : Counted) → IsChain s (ks ++ k ∷ []) → HasChain s (es ++ k.edge ∷ []) (ks ++ k ∷ []) kept
+  chain_takes k chain = record {
+    chain = chain;
+    split = λ v is.
+        tells_through v (es ++ k.edge ∷ []) ((edges_of ks ++ kept) ++ k.edge ∷ []) (edges_of (ks ++ k ∷ []) ++ kept)
+        (tells_behind v es (edges_of ks ++ kept) (k.edge ∷ []) nothing (was.split v is))
+        (tells_permuted v ((edges_of ks ++ kept) ++ k.edge ∷ []) (edges_of (ks ++ k ∷ []) ++ kept) moved);
+  }
+    where
+      moved : IsPermutation ((edges_of ks ++ kept) ++ k.edge ∷ []) (edges_of (ks ++ k ∷ []) ++ kept)
+      moved = subst (λ fs. IsPermutation fs (edges_of (ks ++ k ∷ []) ++ kept))
+          (sym (append_assoc (edges_of ks) kept (k.edge ∷ [])))
+          (subst (IsPermutation (edges_of ks ++ (kept ++ k.edge ∷ [])))
+          (sym (append_assoc (edges_of ks) (k.edge ∷ []) kept)
+          ∙ ap (λ fs. fs ++ kept) (sym (map-append edge_in ks (k ∷ []))))
+          (IsPermutation-append_right (edges_of ks) (kept ++ k.edge ∷ []) (k.edge ∷ kept)
+          (IsPermutation-to_front kept k.edge)))
+
+  -- the others take it
+  chain_leaves : (e : CountedEdge) → HasChain s (es ++ e ∷ []) ks (kept ++ e ∷ [])
+  chain_leaves e = record {
+    chain = was.chain;
+    split = λ v is. subst (λ fs. Tells v (es ++ e ∷ []) fs nothing) (append_assoc (edges_of ks) kept (e ∷ []))
+        (tells_behind v es (edges_of ks ++ kept) (e ∷ []) nothing (was.split v is));
+  }
+
+-- so where the edges come behind others
+module _ (s : Band) (first es fs : List CountedEdge) (ks : List Counted) (kept : List CountedEdge)
+    (was : HasChain s (first ++ es) ks kept) where
+  pub chain_takes_as : (ms : List Counted) (k : Counted) → fs ≡ es ++ k.edge ∷ [] → ms ≡ ks ++ k ∷ [] →
+      IsChain s (ks ++ k ∷ []) → HasChain s (first ++ fs) ms kept
+  chain_takes_as ms k longer is chain = subst (λ ns. HasChain s (first ++ fs) ns kept) (sym is)
+      (subst (λ gs. HasChain s gs (ks ++ k ∷ []) kept)
+      (append_assoc first es (k.edge ∷ []) ∙ ap (λ gs. first ++ gs) (sym longer))
+      (chain_takes s (first ++ es) ks kept was k chain))
+
+  pub chain_leaves_as : (gs : List CountedEdge) (e : CountedEdge) → fs ≡ es ++ e ∷ [] → gs ≡ kept ++ e ∷ [] →
+      HasChain s (first ++ fs) ks gs
+  chain_leaves_as gs e longer is = subst (HasChain s (first ++ fs) ks) (sym is)
+      (subst (λ hs. HasChain s hs ks (kept ++ e ∷ []))
+      (append_assoc first es (e ∷ []) ∙ ap (λ hs. first ++ hs) (sym longer))
+      (chain_leaves s (first ++ es) ks kept was e))
+
+-- ---- items of a mapped list
+
+-- a fact of all edges holds of that at a place
+pub fact_of_edge : {X : Type 0} (P : CountedEdge → Type 0) (f : X → Counted) (xs : List X) (i : ℕ) (x : X) →
+    i < length xs → x ≡ get_or xs i x → All P (edges_of (map f xs)) → P (f x).edge
+fact_of_edge P f xs i x lt is all = subst P
+    (read_mapped edge_in (map f xs) i (f x) (f x).edge (rw length-map lt) (sym (read_mapped f xs i x (f x) lt is)))
+    (all i (f x).edge (rw (length-map, length-map) lt))
+
+-- a fact of the edges up to a place, and of that there
+pub edges_more : {X : Type 0} (f : X → Counted) (xs : List X) (i : ℕ) (x : X) → i < length xs → x ≡ get_or xs i x →
+    edges_of (map f (take (i + 1) xs)) ≡ edges_of (map f (take i xs)) ++ (f x).edge ∷ []
+edges_more f xs i x lt is = ap edges_of (mapped_more f xs i x lt is) ∙ map-append edge_in (map f (take i xs)) (f x ∷ [])
+
+-- of no edges the sum is 0
+pub sum_none : (ks : List Counted) (start : ℕ) → start ≡ 0 → pos 0 ≡ total subj_of (edges_of (take start ks))
+sum_none ks start none = sym (ap (λ n. total subj_of (edges_of (take n ks))) none)
+
+-- the sum at a place of a chain
+pub sum_at : {X : Type 0} (f : X → Counted) (xs : List X) (s : Band) → IsChain s (map f xs) → (start i : ℕ) (x : X) →
+    i < length xs → start ≡ i + 1 → x ≡ get_or xs i x → (f x).sum ≡ total subj_of (edges_of (take start (map f xs)))
+sum_at f xs s chain start i x lt after is =
+    ap (λ (k : Counted). k.sum) (sym (read_mapped f xs i x (f x) lt is))
+    ∙ chain.summed i (f x) (rw length-map lt)
+    ∙ ap (λ n. total subj_of (edges_of (take n (map f xs)))) (sym after)

@@ -1,7 +1,8 @@
 -- Queries with what more and more edges tell of their points.
-use Rattle.std.proofs.Common.{◌≡◌, Bool, true, false, ℤ, pos, ◌+ℤ◌, List, [], ◌∷◌, ◌++◌, append_assoc, append-nil, refl, sym}
-use Rattle.std.proofs.Common.{ap, ◌∙◌, subst}
-use Rattle.std.proofs.lemmas.Bool.{both_ways}
+use Rattle.std.proofs.Common.{◌≡◌, Bool, true, false, ℤ, pos, ◌+ℤ◌, List, [], ◌∷◌, ◌++◌, append_assoc, append-nil, refl}
+use Rattle.std.proofs.Common.{sym, ap, ◌∙◌, subst, All, ℕ, ◌<◌, ◌≤◌, ⊎_elim, length, get_or, set}
+use Rattle.std.proofs.lemmas.Bool.{both_ways, cases_lt}
+use Rattle.std.proofs.lemmas.List.Elements.{All-push, All-set}
 use Rattle.std.proofs.lemmas.List.Sorted.{IsPermutation-to_front}
 use lib.IntN.{+ℤ_idr}
 use Rattle.overlay_geom.specs.Edges.{CountedEdge}
@@ -13,6 +14,27 @@ use Rattle.overlay_located.specs.declared.flank.Flank.{Flank}
 use Rattle.overlay_located.specs.declared.flank.Flank.TheVariants.{Left, Right}
 use Rattle.overlay_located.proofs.TellsMore.{added, tells_same, tells_on, tells_as, tells_before, tells_behind}
 use Rattle.overlay_located.proofs.TellsMore.{tells_permuted}
+
+-- a fact of all items of a list, and of one more
+pub All-pushed : {X : Type 0} (P : X → Type 0) (xs ys : List X) (x : X) → ys ≡ xs ++ x ∷ [] → All P xs → P x → All P ys
+All-pushed P xs ys x is before here = subst (All P) (sym is) (All-push P xs x before here)
+
+-- so of mapped items
+pub All-pushed_as : {X Y : Type 0} (P : Y → Type 0) (f : X → Y) (xs ys : List X) (x : X) → ys ≡ xs ++ x ∷ [] →
+    All (λ z. P (f z)) xs → ((y : Y) → y ≡ f x → P y) → All (λ z. P (f z)) ys
+All-pushed_as P f xs ys x is before here = All-pushed (λ z. P (f z)) xs ys x is before (here (f x) refl)
+
+-- of one that is written to a place, if the list has that
+pub All-written : {X : Type 0} (P : X → Type 0) (xs ys : List X) (n : ℕ) (x : X) → (n < length xs → ys ≡ set xs n x) →
+    (length xs ≤ n → ys ≡ xs) → All P xs → P x → All P ys
+All-written P xs ys n x within beyond before here = ⊎_elim
+    (λ (lt : n < length xs). subst (All P) (sym (within lt)) (All-set P xs n x here before))
+    (λ (le : length xs ≤ n). subst (All P) (sym (beyond le)) before) (cases_lt n (length xs))
+
+-- and of the item at a place
+pub All-at : {X : Type 0} (P : X → Type 0) (xs : List X) (n : ℕ) (x : X) → n < length xs → x ≡ get_or xs n x →
+    All P xs → P x
+All-at P xs n x lt is all = subst P (sym is) (all n x lt)
 
 -- a query that has to be asked for alone tells nothing
 pub open_alone : (es ls : List CountedEdge) (q : Asked) → q.alone ≡ true → IsOpen es ls q
@@ -34,8 +56,12 @@ sums_alone left right q r same alone = record {
   right = λ a. absurd (both_ways r.alone a alone);
 }
 
+pub told_alone : (es : List CountedEdge) (q : Asked) → q.alone ≡ true → IsTold es q
+told_alone es q alone a = absurd (both_ways q.alone a alone)
+
 -- no sums yet, and no edges
-pub open_first : (es : List CountedEdge) (q : Asked) → q.through ≡ [] → q.left ≡ pos 0 → q.right ≡ pos 0 → IsOpen es es q
+pub open_first : (es : List CountedEdge) (q : Asked) → q.through ≡ [] → q.left ≡ pos 0 → q.right ≡ pos 0 →
+    IsOpen es es q
 open_first es q none left right a =
     subst (λ (ts : List CountedEdge). Tells q.point es (ts ++ es) (sum_on q)) (sym none)
     (tells_as q.point es es nothing (sum_on q) by (tells_same q.point es))
@@ -134,3 +160,27 @@ adds_of_sums es left right more q r is_left is_right tells adds = record {
     by : r.alone ≡ false → (h : Flank) → sum_on r h ≡ sum_on q h +ℤ more h
     by a Left = let one = adds.left a in omega linear
     by a Right = let one = adds.right a in omega linear
+
+-- numbers that edges tell, together with edges that are left
+pub adds_after_sums : (es fs : List CountedEdge) (left right : ℤ) (more : Flank → ℤ) (q r t : Asked) →
+    more Left ≡ left → more Right ≡ right → Tells q.point es fs more → AddsSums left right q r → Adds fs r t →
+    Adds es q t
+adds_after_sums es fs left right more q r t is_left is_right tells sums adds = record {
+  point = adds.point ∙ sums.point;
+  alone = λ a. sums.alone (adds.alone a);
+  told = λ a.
+      let rest = adds.told a in
+      let v = q.point in
+      let moved = subst (λ (w : Point). Tells w (r.through ++ fs) t.through rest.0) sums.point rest.2 in
+      let same = subst (λ (ts : List CountedEdge). Tells v (ts ++ fs) t.through rest.0) (sums.through (adds.alone a))
+          moved in (
+        λ h. more h +ℤ rest.0 h,
+        by a,
+        tells_on v (q.through ++ es) (q.through ++ fs) t.through more rest.0 (tells_before v q.through es fs more tells)
+            same,
+      );
+}
+  where
+    by : (a : t.alone ≡ false) → (h : Flank) → sum_on t h ≡ sum_on q h +ℤ (more h +ℤ (adds.told a).0 h)
+    by a Left = let one = sums.left (adds.alone a) in let two = (adds.told a).1 Left in omega linear
+    by a Right = let one = sums.right (adds.alone a) in let two = (adds.told a).1 Right in omega linear

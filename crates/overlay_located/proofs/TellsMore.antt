@@ -15,6 +15,7 @@ use Rattle.overlay_geom.proofs.Totals.{total-append, total-IsPermutation}
 use Rattle.overlay_located.specs.Sectors.{is_below_near, leads_from, spans_beside}
 use Rattle.overlay_located.specs.Tells.{PassesBy, LeadsFrom, near_sum, Tells, nothing}
 use Rattle.overlay_located.specs.declared.flank.Flank.{Flank}
+use Rattle.overlay_located.specs.declared.flank.Flank.TheVariants.{Left, Right}
 
 -- what an edge adds to the winding of a sector
 abbrev pub added : Flank → Point → (Edge → Bool) → CountedEdge → ℤ
@@ -48,6 +49,11 @@ module _ (v : Point) where
     back = one.back;
   }
 
+  pub tells_through : (es fs gs : List CountedEdge) → Tells v es fs nothing → Tells v fs gs nothing →
+      Tells v es gs nothing
+  tells_through es fs gs one two =
+      tells_as es gs (λ h. pos 0 +ℤ pos 0) nothing (λ h. refl) (tells_on es fs gs nothing nothing one two)
+
   -- more edges before both lists
   pub tells_before : (hs es fs : List CountedEdge) (n : Flank → ℤ) → Tells v es fs n → Tells v (hs ++ es) (hs ++ fs) n
   tells_before hs es fs n one = record {
@@ -73,7 +79,8 @@ module _ (v : Point) where
   -- another order
   pub tells_permuted : (es fs : List CountedEdge) → IsPermutation es fs → Tells v es fs nothing
   tells_permuted es fs h = record {
-    sums = λ k low. let same : near_sum k fs v low ≡ near_sum k es v low = total-IsPermutation (added k v low) es fs h in
+    sums = λ k low.
+        let same : near_sum k fs v low ≡ near_sum k es v low = total-IsPermutation (added k v low) es fs h in
         omega linear;
     to = λ e at leads. Contains-permutation es fs e h at;
     back = λ e at leads. Contains-permutation fs es e (IsPermutation-sym es fs h) at;
@@ -104,3 +111,18 @@ module _ (v : Point) where
           by false z t u apart = refl
           by true false t u apart = refl
           by true true t u apart = absurd (both_ways true apart refl)
+
+-- an edge that leads into neither flank
+pub passes_both : (v : Point) (e : CountedEdge) → leads_from Left (ends_of e) (in_plane v) ≡ false →
+    leads_from Right (ends_of e) (in_plane v) ≡ false → PassesBy v e
+passes_both v e left right Left = left
+passes_both v e left right Right = right
+
+-- the number that it adds, by the test
+pub added_if : (h : Flank) (v : Point) (e : CountedEdge) (t : Bool) (z : ℤ) →
+    t ≡ is_below_near h (ends_of e) (in_plane v) false → t ≡ true → z ≡ subj_of e → added h v (λ f. false) e ≡ z
+added_if h v e t z is holds same = ap (λ b. cond b (subj_of e) (pos 0)) (sym is ∙ holds) ∙ sym same
+
+pub added_not : (h : Flank) (v : Point) (e : CountedEdge) (t : Bool) (z : ℤ) →
+    t ≡ is_below_near h (ends_of e) (in_plane v) false → t ≡ false → z ≡ pos 0 → added h v (λ f. false) e ≡ z
+added_not h v e t z is fails same = ap (λ b. cond b (subj_of e) (pos 0)) (sym is ∙ fails) ∙ sym same

@@ -17,8 +17,8 @@ PassesBy v e = (h : Flank) → leads_from h (ends_of e) (in_plane v) ≡ false
 abbrev pub near_sum : Flank → List CountedEdge → Point → (Edge → Bool) → ℤ
 near_sum h es v low = winding_near h subj_of es (in_plane v) low
 
--- the first list tells of v what the second does, with these numbers added to the windings left and right of it; and the
--- same edges lead from v
+-- the first list tells of v what the second does, with these numbers added to the windings left and right of it; and
+-- the same edges lead from v
 pub record Tells (v : Point) (es fs : List CountedEdge) (more : Flank → ℤ) : Type 0 where
   pub sums : (h : Flank) (low : Edge → Bool) → near_sum h es v low ≡ more h +ℤ near_sum h fs v low
   pub to : (e : CountedEdge) → Contains es e → LeadsFrom v e → Contains fs e

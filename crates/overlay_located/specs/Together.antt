@@ -1,6 +1,7 @@
 -- Slabs, lists of edges in order of height, and points that are asked for together.
-use Rattle.std.specs.Prelude.{◌≡◌, ◌⊎◌, Bool, true, false, not, Some, Contains, ◌&&◌, ◌||◌, int_lt, ℕ, ◌+◌, ◌<◌, ◌≤◌, ℤ, pos, ◌+ℤ◌, ◌-ℤ◌, ◌*ℤ◌}
-use Rattle.std.specs.Prelude.{◌<ℤ◌, ◌≤ℤ◌, List, [], ◌++◌, map, length, take, slice_index_or, All, AllPairs}
+use Rattle.std.specs.Prelude.{◌≡◌, ◌⊎◌, Bool, true, false, not, Some, Contains, ◌&&◌, ◌||◌, int_lt, ℕ, ◌+◌, ◌<◌, ◌≤◌}
+use Rattle.std.specs.Prelude.{ℤ, pos, ◌+ℤ◌, ◌-ℤ◌, ◌*ℤ◌, ◌<ℤ◌, ◌≤ℤ◌, List, [], ◌++◌, map, length, take, slice_index_or}
+use Rattle.std.specs.Prelude.{All, AllPairs}
 use Rattle.overlay_geom.specs.Counts.{Counts}
 use Rattle.overlay_geom.specs.Edges.{CountedEdge, ends_of, subj_of}
 use Rattle.overlay_geom.specs.Plane.{Point, PlanePoint, side, total, in_plane}
@@ -19,7 +20,8 @@ use Rattle.overlay_located.specs.declared.seen.Seen.{Seen}
 use Rattle.overlay_located.specs.declared.slab.Slab.{Slab}
 
 -- edges of the program in range, as counted edges
-abbrev pub plain_line : {I C W U S : Type 0} {i w u k : _} → (I → ℤ) → (C → Counts) → Line I C W U S i w u k → CountedEdge
+abbrev pub plain_line : {I C W U S : Type 0} {i w u k : _} → (I → ℤ) → (C → Counts) → Line I C W U S i w u k →
+    CountedEdge
 plain_line whole counts l = plain_edge whole counts l.edge
 
 abbrev pub plain_lines : {I C W U S : Type 0} {i w u k : _} → (I → ℤ) → (C → Counts) → List (Line I C W U S i w u k) →

@@ -34,7 +34,8 @@ pub(crate) fn chain_of<I: IntNumber, C: EdgeCount, A: Allocator>(
     kept: &mut Vec<Line<I, C>, A>,
 ) -> Result<Vec<Link<I, C>, A>, AllocError>
     ensures { (s : _) → All (Spans s) (plain_lines I.whole C.counts lines.now)
-        → IfOk result (λ v. HasChain s (plain_lines I.whole C.counts kept.old.items ++ plain_lines I.whole C.counts lines.now)
+        → IfOk result (λ v. HasChain s
+        (plain_lines I.whole C.counts kept.old.items ++ plain_lines I.whole C.counts lines.now)
         (plain_links I.whole C.counts v.items) (plain_lines I.whole C.counts kept.new.items)) }
 {
     let mut chain = Vec::new(alloc);
@@ -118,7 +119,8 @@ fn passed<I: IntNumber, C: EdgeCount>(
 ) -> Query<I, C>
     requires { IsChain (plain_slab I.whole slab) (plain_links I.whole C.counts chain.now) }
     ensures within { result.alone ≡ false → IsWithin (plain_slab I.whole slab) (plain_point I.whole q.point) }
-    ensures adds { Adds (edges_of (plain_links I.whole C.counts chain.now)) (plain_query I.whole C.counts q) (plain_query I.whole C.counts result) }
+    ensures adds { Adds (edges_of (plain_links I.whole C.counts chain.now)) (plain_query I.whole C.counts q)
+        (plain_query I.whole C.counts result) }
 {
     if !is_within(slab, q.point) {
         return asked_alone(q);

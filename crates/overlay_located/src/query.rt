@@ -1,6 +1,6 @@
 //! Points that are asked for together, each with the windings beside it that are found so far.
 
-ghost use Rattle.std.specs.Prelude.{◌≡◌, ◌∷◌, [], ◌^◌, ◌+ℤ◌, true, All, IfOk, IfSome};
+ghost use Rattle.std.specs.Prelude.{◌≡◌, ◌∷◌, [], ◌^◌, ◌<◌, ◌≤◌, ◌+ℤ◌, true, length, slice_set, All, IfOk, IfSome};
 ghost use Rattle.overlay_geom.specs.Numbers.{Within};
 ghost use Rattle.overlay_geom.specs.Points.{plain_point};
 ghost use Rattle.overlay_order.specs.Content.{plain_edge};
@@ -82,20 +82,31 @@ pub(crate) fn ask_each<I: IntNumber, C: EdgeCount>(
     queries: &[Query<I, C>],
     told: &mut [Query<I, C>],
 )
-    ensures { (es : _) → All (λ q. IsOpen es (plain_lines I.whole C.counts lines.now) (plain_query I.whole C.counts q)) queries.now
-        → All (λ q. IsTold es (plain_query I.whole C.counts q)) told.old → All (λ q. IsTold es (plain_query I.whole C.counts q)) told.new }
+    ensures { (es : _)
+        → All (λ q. IsOpen es (plain_lines I.whole C.counts lines.now) (plain_query I.whole C.counts q)) queries.now
+        → All (λ q. IsTold es (plain_query I.whole C.counts q)) told.old
+        → All (λ q. IsTold es (plain_query I.whole C.counts q)) told.new }
 {
     for q in queries {
         let r = with_lines(*q, lines);
-        if r.place < told.len() {
-            told[r.place] = r;
-        }
+        put(told, r.place, r);
+    }
+}
+
+// Writes the item to its place, if the list has that.
+fn put<T: Copy>(items: &mut [T], place: usize, item: T)
+    ensures within { place < length items.old → items.new ≡ slice_set items.old place item }
+    ensures beyond { length items.old ≤ place → items.new ≡ items.old }
+{
+    if place < items.len() {
+        items[place] = item;
     }
 }
 
 // Returns the query with what the lines tell of its point.
 fn with_lines<I: IntNumber, C: EdgeCount>(q: Query<I, C>, lines: &[Line<I, C>]) -> Query<I, C>
-    ensures { Adds (plain_lines I.whole C.counts lines.now) (plain_query I.whole C.counts q) (plain_query I.whole C.counts result) }
+    ensures { Adds (plain_lines I.whole C.counts lines.now) (plain_query I.whole C.counts q)
+        (plain_query I.whole C.counts result) }
 {
     let mut r = q;
     for line in lines {
@@ -106,7 +117,8 @@ fn with_lines<I: IntNumber, C: EdgeCount>(q: Query<I, C>, lines: &[Line<I, C>]) 
 
 // Returns the query with what the line tells of its point.
 fn with_line<I: IntNumber, C: EdgeCount>(q: Query<I, C>, line: &Line<I, C>) -> Query<I, C>
-    ensures { Adds (plain_edge I.whole C.counts line.now.edge ∷ []) (plain_query I.whole C.counts q) (plain_query I.whole C.counts result) }
+    ensures { Adds (plain_edge I.whole C.counts line.now.edge ∷ []) (plain_query I.whole C.counts q)
+        (plain_query I.whole C.counts result) }
 {
     let e = &line.edge;
     if leads_from(e, q.point, Flank::Left) || leads_from(e, q.point, Flank::Right) {

@@ -8,6 +8,8 @@ use Rattle.overlay_located.proofs.query.ask_each.Given as goal
 abbrev pub invariant-loop-q : goal.invariant-loop-q
 invariant-loop-q g l =
     let whole = g.I.IntNumber.whole in
+    let counts = g.C.EdgeCount.counts in
     (es : List CountedEdge) →
-    All (λ q. IsOpen es (plain_lines whole g.C.EdgeCount.counts l.lines) (plain_query whole g.C.EdgeCount.counts q)) l.queries →
-    All (λ q. IsTold es (plain_query whole g.C.EdgeCount.counts q)) l.initial.told → All (λ q. IsTold es (plain_query whole g.C.EdgeCount.counts q)) l.told
+    All (λ q. IsOpen es (plain_lines whole counts l.lines) (plain_query whole counts q)) l.queries →
+    All (λ q. IsTold es (plain_query whole counts q)) l.initial.told →
+    All (λ q. IsTold es (plain_query whole counts q)) l.told

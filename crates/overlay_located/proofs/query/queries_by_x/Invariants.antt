@@ -7,4 +7,6 @@ use Rattle.overlay_located.proofs.query.queries_by_x.Given as goal
 
 abbrev pub invariant-loop-place : goal.invariant-loop-place
 invariant-loop-place g l =
-    (es : List CountedEdge) → All (λ q. IsOpen es es (plain_query g.I.IntNumber.whole g.C.EdgeCount.counts q)) l.queries.items
+    let whole = g.I.IntNumber.whole in
+    let counts = g.C.EdgeCount.counts in
+    (es : List CountedEdge) → All (λ q. IsOpen es es (plain_query whole counts q)) l.queries.items

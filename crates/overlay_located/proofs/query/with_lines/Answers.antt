@@ -11,18 +11,20 @@ loop-line-init g c = adds_none (plain_query g.I.IntNumber.whole g.C.EdgeCount.co
 pub loop-line-preserved : goal.loop-line-preserved
 loop-line-preserved g c =
     let whole = g.I.IntNumber.whole in
-    let plain = plain_line whole g.C.EdgeCount.counts in
+    let counts = g.C.EdgeCount.counts in
+    let plain = plain_line whole counts in
     let i = c.loop-line.line-index in
-    let q = plain_query whole g.C.EdgeCount.counts c.args.q in
-    subst (λ es. Adds es q (plain_query whole g.C.EdgeCount.counts c.with_line-r.result))
+    let q = plain_query whole counts c.args.q in
+    subst (λ es. Adds es q (plain_query whole counts c.with_line-r.result))
     (sym (mapped_more plain c.args.lines.now i c.line-item.result c.loop-line-test.true c.line-item.is))
-    (adds_more (plain_lines whole g.C.EdgeCount.counts (take i c.args.lines.now)) (plain c.line-item.result ∷ []) q
-    (plain_query whole g.C.EdgeCount.counts c.loop-line.r) (plain_query whole g.C.EdgeCount.counts c.with_line-r.result) c.loop-line.invariant
+    (adds_more (plain_lines whole counts (take i c.args.lines.now)) (plain c.line-item.result ∷ []) q
+    (plain_query whole counts c.loop-line.r) (plain_query whole counts c.with_line-r.result) c.loop-line.invariant
     c.with_line-r.ensures)
 
 pub returns : goal.returns
 returns g c =
     let whole = g.I.IntNumber.whole in
-    subst (λ es. Adds es (plain_query whole g.C.EdgeCount.counts c.args.q) (plain_query whole g.C.EdgeCount.counts c.loop-line.r))
-    (mapped_whole (plain_line whole g.C.EdgeCount.counts) c.args.lines.now c.loop-line.line-index
-    c.loop-line-test.false) c.loop-line.invariant
+    let counts = g.C.EdgeCount.counts in
+    subst (λ es. Adds es (plain_query whole counts c.args.q) (plain_query whole counts c.loop-line.r))
+    (mapped_whole (plain_line whole counts) c.args.lines.now c.loop-line.line-index c.loop-line-test.false)
+    c.loop-line.invariant

@@ -6,5 +6,6 @@ use Rattle.overlay_located.proofs.query.with_lines.Given as goal
 abbrev pub invariant-loop-line : goal.invariant-loop-line
 invariant-loop-line g l =
     let whole = g.I.IntNumber.whole in
-    Adds (plain_lines whole g.C.EdgeCount.counts (take l.line-index l.lines)) (plain_query whole g.C.EdgeCount.counts l.fn.q)
-    (plain_query whole g.C.EdgeCount.counts l.r)
+    let counts = g.C.EdgeCount.counts in
+    Adds (plain_lines whole counts (take l.line-index l.lines)) (plain_query whole counts l.fn.q)
+    (plain_query whole counts l.r)
