@@ -35,7 +35,10 @@ pub(crate) fn location_at<I: IntNumber, C: EdgeCount>(
     ensures { (es : _) → IsContent I.limit es → All (λ q. IsTold es (plain_query I.whole C.counts q)) told.now
         → IfSome result (LiesIn (is_filled fill_rule) es (in_plane (plain_point I.whole p))) }
 {
-    let q = *told.get(place)?;
+    if place >= told.len() {
+        return None;
+    }
+    let q = told[place];
     if q.alone || !is_same(q.point, p) {
         return None;
     }
