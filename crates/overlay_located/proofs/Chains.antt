@@ -1,7 +1,7 @@
 -- Chains of edges: one edge more, and the sums so far.
-use Rattle.std.proofs.Common.{◌≡◌, ◌⊎◌, inl, inr, ℕ, ◌+◌, ◌<◌, ℤ, pos, ◌+ℤ◌, ◌<ℤ◌, List, [], ◌∷◌, ◌++◌, map}
+use Rattle.std.proofs.Common.{◌≡◌, ◌⊎◌, inl, inr, ℕ, ◌+◌, ◌<◌, pos, ◌+ℤ◌, List, [], ◌∷◌, ◌++◌, map}
 use Rattle.std.proofs.Common.{length, take, get_or, refl, sym, ap, ◌∙◌, subst, arith, append_assoc}
-use Rattle.std.specs.List.{All, AllPairs}
+use Rattle.std.specs.List.{All}
 use Rattle.std.proofs.Math.Nat.{eq-or-lt_of_le}
 use Rattle.std.proofs.lemmas.List.{get_or_append_left, get_or_push, get_or_default, take-append-le, take_all}
 use Rattle.std.proofs.lemmas.List.{length_push, map-append, length-map, append-nil}
@@ -164,7 +164,7 @@ fact_of_edge P f xs i x lt is all = subst P
     (read_mapped edge_in (map f xs) i (f x) (f x).edge (rw length-map lt) (sym (read_mapped f xs i x (f x) lt is)))
     (all i (f x).edge (rw (length-map, length-map) lt))
 
--- a fact of the edges up to a place, and of that there
+-- the edges up to a place are those before it, and that there
 pub edges_more : {X : Type 0} (f : X → Counted) (xs : List X) (i : ℕ) (x : X) → i < length xs → x ≡ get_or xs i x →
     edges_of (map f (take (i + 1) xs)) ≡ edges_of (map f (take i xs)) ++ (f x).edge ∷ []
 edges_more f xs i x lt is = ap edges_of (mapped_more f xs i x lt is) ∙ map-append edge_in (map f (take i xs)) (f x ∷ [])

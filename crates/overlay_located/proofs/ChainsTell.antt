@@ -1,6 +1,6 @@
 -- What a chain tells of a point: its edges below the point, those that lead from it, and those above it.
-use Rattle.std.proofs.Common.{◌≡◌, ◌⊎◌, ⊎_elim, inl, inr, true, false, cond, ℕ, zero, suc, ◌+◌, ◌-◌, ◌<◌, ◌≤◌}
-use Rattle.std.proofs.Common.{ℤ, pos, ◌+ℤ◌, ◌<ℤ◌, ◌≤ℤ◌, ◌&&◌, ◌||◌, int_lt, int_le, List, [], ◌∷◌, ◌++◌, map, length}
+use Rattle.std.proofs.Common.{◌≡◌, ⊎_elim, true, false, cond, ℕ, zero, suc, ◌+◌, ◌-◌, ◌<◌, ◌≤◌}
+use Rattle.std.proofs.Common.{ℤ, pos, ◌+ℤ◌, ◌<ℤ◌, ◌≤ℤ◌, ◌&&◌, ◌||◌, int_lt, List, [], ◌∷◌, ◌++◌, map, length}
 use Rattle.std.proofs.Common.{take, drop, get_or, slice_range, refl, sym, ap, ap₂, ◌∙◌, subst, arith}
 use Rattle.std.specs.List.{All}
 use Rattle.std.specs.Ordering.{int_eq}
@@ -14,15 +14,15 @@ use Rattle.std.proofs.lemmas.Int.{by_lt_z}
 use Rattle.std.proofs.lemmas.List.{append-nil, map-append, take-append-drop, get_or-take, get_or-drop, length-take-le}
 use Rattle.std.proofs.lemmas.List.{length-drop, get_or_default}
 use Rattle.std.proofs.lemmas.List.Elements.{All-head, All-tail, All-map}
-use lib.IntN.{+ℤ_idr, +ℤ_idl}
+use lib.IntN.{+ℤ_idr}
 use Rattle.overlay_geom.specs.Edges.{CountedEdge, ends_of, subj_of}
-use Rattle.overlay_geom.specs.Plane.{Point, Edge, side, total, in_plane}
+use Rattle.overlay_geom.specs.Plane.{Point, side, total, in_plane}
 use Rattle.overlay_geom.proofs.Signs.{linear}
 use Rattle.overlay_geom.proofs.Mapped.{read_mapped, mapped_range}
 use Rattle.overlay_plane.proofs.Tests.{test_from_lt, test_from_le, test_from_ge, lt_from_test, ge_from_test}
 use Rattle.overlay_located.specs.Sectors.{spans_beside}
 use Rattle.overlay_located.specs.Tells.{PassesBy, Tells, nothing}
-use Rattle.overlay_located.specs.Together.{Band, Spans, IsWithin, IsInSpan, IsChain, IsAmong, Counted, edge_in}
+use Rattle.overlay_located.specs.Together.{Band, IsWithin, IsInSpan, IsChain, IsAmong, Counted, edge_in}
 use Rattle.overlay_located.specs.Together.{edges_of, Asked, Adds, AddsSums}
 use Rattle.overlay_located.specs.declared.flank.Flank.{Flank}
 use Rattle.overlay_located.specs.declared.flank.Flank.TheVariants.{Left, Right}

@@ -1,6 +1,7 @@
 pub mod AsideEdges
 pub mod Chains
 pub mod ChainsTell
+pub mod ChangedLists
 pub mod DividedEdges
 pub mod HeightOrder
 pub mod LocatedPaths

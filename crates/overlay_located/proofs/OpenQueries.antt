@@ -1,40 +1,18 @@
 -- Queries with what more and more edges tell of their points.
-use Rattle.std.proofs.Common.{◌≡◌, Bool, true, false, ℤ, pos, ◌+ℤ◌, List, [], ◌∷◌, ◌++◌, append_assoc, append-nil, refl}
-use Rattle.std.proofs.Common.{sym, ap, ◌∙◌, subst, All, ℕ, ◌<◌, ◌≤◌, ⊎_elim, length, get_or, set}
-use Rattle.std.proofs.lemmas.Bool.{both_ways, cases_lt}
-use Rattle.std.proofs.lemmas.List.Elements.{All-push, All-set}
+use Rattle.std.proofs.Common.{◌≡◌, true, false, ℤ, pos, ◌+ℤ◌, List, [], ◌∷◌, ◌++◌, append_assoc, append-nil, refl}
+use Rattle.std.proofs.Common.{sym, ◌∙◌, subst}
+use Rattle.std.proofs.lemmas.Bool.{both_ways}
 use Rattle.std.proofs.lemmas.List.Sorted.{IsPermutation-to_front}
 use lib.IntN.{+ℤ_idr}
 use Rattle.overlay_geom.specs.Edges.{CountedEdge}
 use Rattle.overlay_geom.specs.Plane.{Point}
 use Rattle.overlay_geom.proofs.Signs.{linear}
-use Rattle.overlay_located.specs.Tells.{PassesBy, Tells, TellsWhere, nothing}
+use Rattle.overlay_located.specs.Tells.{Tells, TellsWhere, nothing}
 use Rattle.overlay_located.specs.Together.{Asked, sum_on, IsOpen, IsTold, Adds, AddsSums}
 use Rattle.overlay_located.specs.declared.flank.Flank.{Flank}
 use Rattle.overlay_located.specs.declared.flank.Flank.TheVariants.{Left, Right}
-use Rattle.overlay_located.proofs.TellsMore.{added, tells_same, tells_on, tells_as, tells_before, tells_behind}
+use Rattle.overlay_located.proofs.TellsMore.{tells_same, tells_on, tells_as, tells_before, tells_behind}
 use Rattle.overlay_located.proofs.TellsMore.{tells_permuted}
-
--- a fact of all items of a list, and of one more
-pub All-pushed : {X : Type 0} (P : X → Type 0) (xs ys : List X) (x : X) → ys ≡ xs ++ x ∷ [] → All P xs → P x → All P ys
-All-pushed P xs ys x is before here = subst (All P) (sym is) (All-push P xs x before here)
-
--- so of mapped items
-pub All-pushed_as : {X Y : Type 0} (P : Y → Type 0) (f : X → Y) (xs ys : List X) (x : X) → ys ≡ xs ++ x ∷ [] →
-    All (λ z. P (f z)) xs → ((y : Y) → y ≡ f x → P y) → All (λ z. P (f z)) ys
-All-pushed_as P f xs ys x is before here = All-pushed (λ z. P (f z)) xs ys x is before (here (f x) refl)
-
--- of one that is written to a place, if the list has that
-pub All-written : {X : Type 0} (P : X → Type 0) (xs ys : List X) (n : ℕ) (x : X) → (n < length xs → ys ≡ set xs n x) →
-    (length xs ≤ n → ys ≡ xs) → All P xs → P x → All P ys
-All-written P xs ys n x within beyond before here = ⊎_elim
-    (λ (lt : n < length xs). subst (All P) (sym (within lt)) (All-set P xs n x here before))
-    (λ (le : length xs ≤ n). subst (All P) (sym (beyond le)) before) (cases_lt n (length xs))
-
--- and of the item at a place
-pub All-at : {X : Type 0} (P : X → Type 0) (xs : List X) (n : ℕ) (x : X) → n < length xs → x ≡ get_or xs n x →
-    All P xs → P x
-All-at P xs n x lt is all = subst P (sym is) (all n x lt)
 
 -- a query that has to be asked for alone tells nothing
 pub open_alone : (es ls : List CountedEdge) (q : Asked) → q.alone ≡ true → IsOpen es ls q

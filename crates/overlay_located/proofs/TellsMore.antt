@@ -1,19 +1,19 @@
 -- Lists of edges that tell the same of a point, put together.
-use Rattle.std.proofs.Common.{◌≡◌, ◌⊎◌, ⊎_elim, inl, inr, Bool, true, false, cond, ℤ, pos, ◌+ℤ◌, List, [], ◌∷◌, ◌++◌}
+use Rattle.std.proofs.Common.{◌≡◌, ⊎_elim, Bool, true, false, cond, ℤ, pos, ◌+ℤ◌, List, [], ◌∷◌, ◌++◌}
 use Rattle.std.proofs.Common.{Contains, refl, sym, ap, ◌∙◌, subst, ◌&&◌, ◌||◌, int_lt, arith}
 use Rattle.std.specs.List.Sorted.{IsPermutation}
 use Rattle.std.specs.Ordering.{int_eq}
 use Rattle.std.proofs.lemmas.Bool.{both_ways}
 use Rattle.std.proofs.lemmas.List.Elements.{Contains-append_left, Contains-append_right, Contains-append_cases}
 use Rattle.std.proofs.lemmas.List.Sorted.{Contains-permutation, IsPermutation-sym}
-use lib.IntN.{+ℤ_idr, +ℤ_idl}
+use lib.IntN.{+ℤ_idl}
 use Rattle.overlay_geom.specs.Edges.{CountedEdge, ends_of, subj_of}
-use Rattle.overlay_geom.specs.Plane.{Point, Edge, side, total, in_plane}
+use Rattle.overlay_geom.specs.Plane.{Point, Edge, side, in_plane}
 use Rattle.overlay_geom.proofs.Entries.{Contains-cases}
 use Rattle.overlay_geom.proofs.Signs.{linear}
 use Rattle.overlay_geom.proofs.Totals.{total-append, total-IsPermutation}
 use Rattle.overlay_located.specs.Sectors.{is_below_near, leads_from, spans_beside}
-use Rattle.overlay_located.specs.Tells.{PassesBy, LeadsFrom, near_sum, Tells, nothing}
+use Rattle.overlay_located.specs.Tells.{PassesBy, near_sum, Tells, nothing}
 use Rattle.overlay_located.specs.declared.flank.Flank.{Flank}
 use Rattle.overlay_located.specs.declared.flank.Flank.TheVariants.{Left, Right}
 

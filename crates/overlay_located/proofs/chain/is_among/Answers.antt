@@ -1,11 +1,8 @@
 -- The tests at two places tell of the heights over all edges.
-use Rattle.std.proofs.Common.{◌≡◌, ◌<◌, ◌-◌, ◌+◌, ◌<ℤ◌, ◌∙◌, ℕ, pos, length, map, sym, arith, rules}
+use Rattle.std.proofs.Common.{◌<◌, ◌-◌, ◌∙◌, length, sym, arith, rules}
 use Rattle.std.proofs.lemmas.List.{length-map}
-use Rattle.overlay_geom.specs.Edges.{ends_of}
-use Rattle.overlay_geom.specs.Plane.{side, in_plane}
 use Rattle.overlay_geom.specs.Points.{plain_point}
-use Rattle.overlay_order.specs.Content.{plain_edge}
-use Rattle.overlay_located.specs.Together.{plain_link, plain_links, Counted}
+use Rattle.overlay_located.specs.Together.{plain_link, plain_links}
 use Rattle.overlay_located.proofs.ChainsTell.{among, high_at, low_at, low_from, over_at}
 use Rattle.overlay_located.proofs.chain.is_among.Goals.{else-start-gt0-via-then-start-gt0+else-not-is_gt}
 use Rattle.overlay_located.proofs.chain.is_among.Goals.{else-start-gt0-via-else-start-gt0}

@@ -1,7 +1,5 @@
 -- Of a point in the slab the chain tells the sum below, and the edges on its level.
 use Rattle.std.proofs.Common.{◌≡◌, ◌-◌, ◌∙◌, sym, ap, arith, rules, w64, to_z, of_z, to_z-of_z}
-use Rattle.overlay_geom.specs.Edges.{subj_of}
-use Rattle.overlay_geom.specs.Plane.{total}
 use Rattle.overlay_geom.specs.Points.{plain_point}
 use Rattle.overlay_located.specs.Together.{plain_query, plain_link, plain_links, plain_slab, edges_of}
 use Rattle.overlay_located.proofs.Chains.{sum_none, sum_at}

@@ -25,7 +25,6 @@ pub returns-then-is_under : goal.returns-then-is_under
 returns-then-is_under g c = λ s chain over.
     let whole = g.I.IntNumber.whole in
     let counts = g.C.EdgeCount.counts in
-    let plain = plain_link whole counts in
     let e = plain_edge whole counts c.args.line.now.edge in
     let links = c.args.chain.now in
     let last = c.index-chain-chain.result in
@@ -37,6 +36,7 @@ returns-then-is_under g c = λ s chain over.
     let from = c.from-count.ensures in
     let count : to_z w64 (of_z w64 c.from-count.result) ≡ subj_of e = search (rules, to_z-of_z) in
     let sum : to_z w64 (of_z w64 last.sum) ≡ last.sum = search (rules, to_z-of_z) in
+    let plain = plain_link whole counts in
     IfSome_then c.sum.result c.sum.ensures (λ z is.
     chain_grown s (plain_links whole counts links) (record { edge = e; sum = z }) chain over (length links - 1)
     (plain last) (rw length-map longer)

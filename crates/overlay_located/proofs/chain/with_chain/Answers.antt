@@ -1,7 +1,8 @@
 -- One query more has what the chain tells.
 use Rattle.std.proofs.Common.{rules}
 use Rattle.overlay_located.specs.Together.{plain_query, plain_links, plain_slab, edges_of, IsOpen, IsWithin}
-use Rattle.overlay_located.proofs.OpenQueries.{All-at, All-pushed, open_after}
+use Rattle.overlay_located.proofs.ChangedLists.{All-at, All-pushed}
+use Rattle.overlay_located.proofs.OpenQueries.{open_after}
 use Rattle.overlay_located.proofs.chain.with_chain.Goals as goal
 
 pub loop-q-preserved : goal.loop-q-preserved

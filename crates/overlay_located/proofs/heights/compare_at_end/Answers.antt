@@ -1,5 +1,5 @@
 -- The height is compared at the end of one of the edges.
-use Rattle.std.proofs.Common.{◌≡◌, false, ap, ◌∙◌, sym}
+use Rattle.std.proofs.Common.{ap, ◌∙◌, sym}
 use Rattle.std.specs.Ordering.{is_gt}
 use Rattle.overlay_order.specs.Content.{plain_edge}
 use Rattle.overlay_located.proofs.HeightOrder.{ends_at_b, ends_at_own}

@@ -1,6 +1,7 @@
 -- One query more is told.
 use Rattle.overlay_located.specs.Together.{plain_query, plain_lines, IsOpen, IsTold}
-use Rattle.overlay_located.proofs.OpenQueries.{All-at, All-written, told_after}
+use Rattle.overlay_located.proofs.ChangedLists.{All-at, All-written}
+use Rattle.overlay_located.proofs.OpenQueries.{told_after}
 use Rattle.overlay_located.proofs.query.ask_each.Goals as goal
 
 pub loop-q-preserved : goal.loop-q-preserved
