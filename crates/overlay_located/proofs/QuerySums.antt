@@ -39,11 +39,14 @@ mapped_parts f ws us vs ts = map-append f ws (us ++ (vs ++ ts))
     ∙ ap (λ ys. map f ws ++ ys) (map-append f us (vs ++ ts)
     ∙ ap (λ ys. map f us ++ ys) (map-append f vs ts))
 
--- sums of four lists
-pub near_parts : (h : Flank) (ws us vs ts es : List CountedEdge) (v : Point) (low : Edge → Bool) (z one two three : ℤ)
-    (all : ℤ) → es ≡ ws ++ (us ++ (vs ++ ts)) → one ≡ z +ℤ near_sum h ws v low → two ≡ one +ℤ near_sum h us v low →
-    three ≡ two +ℤ near_sum h vs v low → all ≡ three +ℤ near_sum h ts v low → all ≡ z +ℤ near_sum h es v low
-near_parts h ws us vs ts es v low z one two three all same is_one is_two is_three is_all =
+-- sums of four lists; each is read once more before the next is added
+pub near_parts : (h : Flank) (ws us vs ts es : List CountedEdge) (v : Point) (low : Edge → Bool)
+    (z one two three all z_read one_read two_read three_read : ℤ) → es ≡ ws ++ (us ++ (vs ++ ts)) → z_read ≡ z →
+    one_read ≡ one → two_read ≡ two → three_read ≡ three → one ≡ z_read +ℤ near_sum h ws v low →
+    two ≡ one_read +ℤ near_sum h us v low → three ≡ two_read +ℤ near_sum h vs v low →
+    all ≡ three_read +ℤ near_sum h ts v low → all ≡ z +ℤ near_sum h es v low
+near_parts h ws us vs ts es v low z one two three all z_read one_read two_read three_read same z_is one_is two_is
+    three_is is_one is_two is_three is_all =
     let a = near_append h ws (us ++ (vs ++ ts)) v low in
     let b = near_append h us (vs ++ ts) v low in
     let c = near_append h vs ts v low in

@@ -1,5 +1,5 @@
 -- The sector is found where the edge leads into the flank.
-use Rattle.std.proofs.Common.{◌≡◌, ◌+ℤ◌, ap, subst, ◌∙◌, rules}
+use Rattle.std.proofs.Common.{◌≡◌, ◌+ℤ◌, ap, subst, ◌∙◌, rules, w64, to_z, of_z, to_z-of_z}
 use Rattle.std.specs.Prelude.{Some}
 use Rattle.std.proofs.lemmas.Bool.{both_ways}
 use Rattle.overlay_geom.specs.Edges.{ends_of}
@@ -24,11 +24,13 @@ returns g c = λ es told is.
     let q = plain_query whole counts c.args.q in
     let ray = ends_of (plain_edge whole counts c.args.e.now) in
     let filled = is_filled c.args.fill_rule in
+    let so_far : to_z w64 (of_z w64 c.args.so_far) ≡ c.args.so_far = search (rules, to_z-of_z) in
+    let winding : to_z w64 (of_z w64 c.in_ok-winding.winding) ≡ c.in_ok-winding.winding = search (rules, to_z-of_z) in
     record {
       ray = λ leads. subst (λ t. AddsFilling t c.args.seen c.with.result)
-          (c.fills.ensures ∙ told_fills filled es q told c.requires c.args.flank (Some ray) c.in_ok-winding.winding
+          (c.fills.ensures ∙ ap filled winding ∙ told_fills filled es q told c.requires c.args.flank (Some ray) c.in_ok-winding.winding
           (c.in_ok-winding.ensures ∙ ap (λ z. z +ℤ near_sum c.args.flank q.through q.point
-          (is_low c.args.flank (Some ray))) is))
+          (is_low c.args.flank (Some ray))) (so_far ∙ is)))
           (record { filled = c.with.ensures.filled; empty = c.with.ensures.empty });
       other = λ apart. absurd (both_ways c.leads_from.result (c.leads_from.ensures ∙ apart) (search rules));
     }

@@ -1,4 +1,5 @@
 -- The sums of the four edges, one after the other.
+use Rattle.std.proofs.Common.{◌≡◌, rules, w64, to_z, of_z, to_z-of_z}
 use Rattle.std.proofs.lemmas.Option.{IfSome_then}
 use Rattle.overlay_geom.specs.Points.{plain_point}
 use Rattle.overlay_order.specs.Content.{plain_edge, plain_edges}
@@ -13,11 +14,16 @@ returns g c =
     let whole = g.I.IntNumber.whole in
     let plain = plain_edges whole g.C.EdgeCount.counts in
     let few = c.args.q.through in
+    let z : to_z w64 (of_z w64 c.args.so_far) ≡ c.args.so_far = search (rules, to_z-of_z) in
+    let one : to_z w64 (of_z w64 c.in_ok-one.one) ≡ c.in_ok-one.one = search (rules, to_z-of_z) in
+    let two : to_z w64 (of_z w64 c.in_ok-two.two) ≡ c.in_ok-two.two = search (rules, to_z-of_z) in
+    let three : to_z w64 (of_z w64 c.in_ok-three.three) ≡ c.in_ok-three.three = search (rules, to_z-of_z) in
     IfSome_then c.sum_with-4.result c.sum_with-4.ensures (λ all is.
     near_parts c.args.flank (plain (if_some few.first)) (plain (if_some few.second)) (plain (if_some few.third))
     (plain (if_some few.fourth)) (plain (few_edges few)) (plain_point whole c.args.q.point)
     (is_low c.args.flank (plain_ray whole c.args.ray)) c.args.so_far c.in_ok-one.one c.in_ok-two.two c.in_ok-three.three
-    all
+    all (to_z w64 (of_z w64 c.args.so_far)) (to_z w64 (of_z w64 c.in_ok-one.one))
+    (to_z w64 (of_z w64 c.in_ok-two.two)) (to_z w64 (of_z w64 c.in_ok-three.three))
     (mapped_parts (plain_edge whole g.C.EdgeCount.counts) (if_some few.first) (if_some few.second)
     (if_some few.third) (if_some few.fourth))
-    c.in_ok-one.ensures c.in_ok-two.ensures c.in_ok-three.ensures is)
+    z one two three c.in_ok-one.ensures c.in_ok-two.ensures c.in_ok-three.ensures is)
