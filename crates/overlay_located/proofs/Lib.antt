@@ -19,6 +19,7 @@ pub mod SkippedNear
 pub mod Slabs
 pub mod SummedNear
 pub mod TellsMore
+pub mod ToldEach
 pub mod ToldSeen
 pub mod ToldShapes
 pub mod TopRays

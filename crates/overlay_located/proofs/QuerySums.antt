@@ -1,6 +1,6 @@
 -- Windings by the few edges that lead from a query's point: a sum for each.
 use Rattle.std.proofs.Common.{◌≡◌, Bool, cond, ℕ, ◌<◌, ℤ, pos, ◌+ℤ◌, List, [], ◌∷◌, ◌++◌, map, length, get_or}
-use Rattle.std.proofs.Common.{Contains, refl, sym, ap, ◌∙◌, subst}
+use Rattle.std.proofs.Common.{Contains, append_assoc, sym, ap, ◌∙◌, subst}
 use Rattle.std.specs.Prelude.{Option, Some, None}
 use Rattle.std.specs.List.{All}
 use Rattle.std.proofs.lemmas.List.{map-append}
@@ -34,8 +34,10 @@ module _ {X : Type 0} (f : X → CountedEdge) (h : Flank) (o : Option X) (v : Po
 
 -- mapped lists one after the other
 pub mapped_parts : {X Y : Type 0} (f : X → Y) (ws us vs ts : List X) →
-    map f (ws ++ (us ++ (vs ++ ts))) ≡ map f ws ++ (map f us ++ (map f vs ++ map f ts))
-mapped_parts f ws us vs ts = map-append f ws (us ++ (vs ++ ts))
+    map f (((ws ++ us) ++ vs) ++ ts) ≡ map f ws ++ (map f us ++ (map f vs ++ map f ts))
+mapped_parts f ws us vs ts =
+    ap (map f) (append_assoc (ws ++ us) vs ts ∙ append_assoc ws us (vs ++ ts))
+    ∙ map-append f ws (us ++ (vs ++ ts))
     ∙ ap (λ ys. map f ws ++ ys) (map-append f us (vs ++ ts)
     ∙ ap (λ ys. map f us ++ ys) (map-append f vs ts))
 

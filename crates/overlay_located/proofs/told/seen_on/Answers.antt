@@ -28,7 +28,8 @@ returns g c = λ es told is.
     let winding : to_z w64 (of_z w64 c.in_ok-winding.winding) ≡ c.in_ok-winding.winding = search (rules, to_z-of_z) in
     record {
       ray = λ leads. subst (λ t. AddsFilling t c.args.seen c.with.result)
-          (c.fills.ensures ∙ ap filled winding ∙ told_fills filled es q told c.requires c.args.flank (Some ray) c.in_ok-winding.winding
+          (c.fills.ensures ∙ ap filled winding
+          ∙ told_fills filled es q told c.requires c.args.flank (Some ray) c.in_ok-winding.winding
           (c.in_ok-winding.ensures ∙ ap (λ z. z +ℤ near_sum c.args.flank q.through q.point
           (is_low c.args.flank (Some ray))) (so_far ∙ is)))
           (record { filled = c.with.ensures.filled; empty = c.with.ensures.empty });

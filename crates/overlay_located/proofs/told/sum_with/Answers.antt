@@ -31,4 +31,5 @@ returns-else-is_below_near g c =
     so_far ∙ sum_of_some (plain_edge whole g.C.EdgeCount.counts) c.args.flank c.args.e (plain_point whole c.args.p)
     (is_low c.args.flank (plain_ray whole c.args.ray)) c.args.so_far c.in-Some.e c.is_below_near.result c.args.so_far
     c.in-Some.is c.is_below_near.ensures
-    (sym (+ℤ_idr c.args.so_far) ∙ ap (λ t. c.args.so_far +ℤ cond t _ (pos 0)) (sym c.if-is_below_near.false))
+    (sym (+ℤ_idr c.args.so_far) ∙ ap (λ t. c.args.so_far +ℤ cond t (subj_of (plain_edge whole g.C.EdgeCount.counts c.in-Some.e)) (pos 0))
+    (sym c.if-is_below_near.false))
