@@ -232,7 +232,7 @@ pub over_at : {X : Type 0} (f : X → Counted) (v : Point) (xs : List X) (i : �
     All (λ e. IsInSpan e v) (edges_of (map f xs)) → IsOver (f (get_or xs i x)).edge v
 over_at f v xs i x lt all =
     let is = fact_of_edge (λ e. IsInSpan e v) f xs i (get_or xs i x) lt (get_or_default xs i x (get_or xs i x) lt)
-        all in
+    all in
     let from = is.from in
     let to = is.to in
     record { from = omega linear; to = omega linear; wide = omega linear }

@@ -50,41 +50,41 @@ divided_as s es spanning others kept rest same alike divided =
     (subst (λ (fs : List CountedEdge). AreDivided s es spanning fs) (sym alike) divided)
 
 module _ (s : Band) (es spanning kept : List CountedEdge) (so_far : AreDivided s es spanning kept) (e : CountedEdge)
-    where
-  -- one edge more
-  with_last : (v : Point) → IsWithin s v → Tells v (es ++ e ∷ []) (kept ++ (spanning ++ e ∷ [])) nothing
-  with_last v is = subst (λ (fs : List CountedEdge). Tells v (es ++ e ∷ []) fs nothing)
-      (append_assoc kept spanning (e ∷ []))
-      (tells_behind v es (kept ++ spanning) (e ∷ []) nothing (so_far.split v is))
+  where
+    -- one edge more
+    with_last : (v : Point) → IsWithin s v → Tells v (es ++ e ∷ []) (kept ++ (spanning ++ e ∷ [])) nothing
+    with_last v is = subst (λ (fs : List CountedEdge). Tells v (es ++ e ∷ []) fs nothing)
+        (append_assoc kept spanning (e ∷ []))
+        (tells_behind v es (kept ++ spanning) (e ∷ []) nothing (so_far.split v is))
 
-  -- it spans the slab
-  pub divided_spanning : Spans s e → AreDivided s (es ++ e ∷ []) (spanning ++ e ∷ []) kept
-  divided_spanning over = record {
-    spanned = All-push (Spans s) spanning e so_far.spanned over;
-    split = with_last;
-  }
+    -- it spans the slab
+    pub divided_spanning : Spans s e → AreDivided s (es ++ e ∷ []) (spanning ++ e ∷ []) kept
+    divided_spanning over = record {
+      spanned = All-push (Spans s) spanning e so_far.spanned over;
+      split = with_last;
+    }
 
-  -- it is beside the slab
-  pub divided_beside : IsBeside s e → AreDivided s (es ++ e ∷ []) spanning kept
-  divided_beside beside = record {
-    spanned = so_far.spanned;
-    split = λ v is. tells_then v (es ++ e ∷ []) (kept ++ (spanning ++ e ∷ [])) (kept ++ spanning) (with_last v is)
-        (tells_before v kept (spanning ++ e ∷ []) spanning nothing
-        (subst (λ (fs : List CountedEdge). Tells v (spanning ++ e ∷ []) fs nothing) (append-nil spanning)
-        (tells_before v spanning (e ∷ []) [] nothing (beside_tells s e v is beside))));
-  }
+    -- it is beside the slab
+    pub divided_beside : IsBeside s e → AreDivided s (es ++ e ∷ []) spanning kept
+    divided_beside beside = record {
+      spanned = so_far.spanned;
+      split = λ v is. tells_then v (es ++ e ∷ []) (kept ++ (spanning ++ e ∷ [])) (kept ++ spanning) (with_last v is)
+          (tells_before v kept (spanning ++ e ∷ []) spanning nothing
+          (subst (λ (fs : List CountedEdge). Tells v (spanning ++ e ∷ []) fs nothing) (append-nil spanning)
+          (tells_before v spanning (e ∷ []) [] nothing (beside_tells s e v is beside))));
+    }
 
-  -- it is kept
-  pub divided_kept : AreDivided s (es ++ e ∷ []) spanning (kept ++ e ∷ [])
-  divided_kept = record {
-    spanned = so_far.spanned;
-    split = λ v is. tells_then v (es ++ e ∷ []) (kept ++ (spanning ++ e ∷ [])) ((kept ++ e ∷ []) ++ spanning)
-        (with_last v is)
-        (subst (λ (fs : List CountedEdge). Tells v (kept ++ (spanning ++ e ∷ [])) fs nothing)
-        (sym (append_assoc kept (e ∷ []) spanning))
-        (tells_before v kept (spanning ++ e ∷ []) (e ∷ spanning) nothing
-        (tells_permuted v (spanning ++ e ∷ []) (e ∷ spanning) (IsPermutation-to_front spanning e))));
-  }
+    -- it is kept
+    pub divided_kept : AreDivided s (es ++ e ∷ []) spanning (kept ++ e ∷ [])
+    divided_kept = record {
+      spanned = so_far.spanned;
+      split = λ v is. tells_then v (es ++ e ∷ []) (kept ++ (spanning ++ e ∷ [])) ((kept ++ e ∷ []) ++ spanning)
+          (with_last v is)
+          (subst (λ (fs : List CountedEdge). Tells v (kept ++ (spanning ++ e ∷ [])) fs nothing)
+          (sym (append_assoc kept (e ∷ []) spanning))
+          (tells_before v kept (spanning ++ e ∷ []) (e ∷ spanning) nothing
+          (tells_permuted v (spanning ++ e ∷ []) (e ∷ spanning) (IsPermutation-to_front spanning e))));
+    }
 
 -- the spanning edges in another order, and a chain of them
 pub chain_over : (s : Band) (es spanning kept sorted : List CountedEdge) (ks : List Counted) (rest : List CountedEdge) →

@@ -151,7 +151,7 @@ adds_after_sums es fs left right more q r t is_left is_right tells sums adds = r
       let v = q.point in
       let moved = subst (λ (w : Point). Tells w (r.through ++ fs) t.through rest.0) sums.point rest.2 in
       let same = subst (λ (ts : List CountedEdge). Tells v (ts ++ fs) t.through rest.0) (sums.through (adds.alone a))
-          moved in (
+      moved in (
         λ h. more h +ℤ rest.0 h,
         by a,
         tells_on v (q.through ++ es) (q.through ++ fs) t.through more rest.0 (tells_before v q.through es fs more tells)

@@ -41,9 +41,9 @@ loop-line-preserved g c = λ s over.
           let fits : to_z w64 (of_z w64 sum) ≡ sum = search (rules, to_z-of_z) in
           let before = subst (λ ls. IsChain s (plain_links whole counts ls)) (sym c.deref.ensures.value) was.chain in
           let taken = subst (λ o. IfSome o (λ z. IsChain s (plain_links whole counts c.deref.result.now
-              ++ record { edge = e; sum = z } ∷ []))) w.in-Some.is (c.sum_with.ensures s before spans) in
+          ++ record { edge = e; sum = z } ∷ []))) w.in-Some.is (c.sum_with.ensures s before spans) in
           let chain = subst (λ ls. IsChain s (plain_links whole counts ls ++ record { edge = e; sum = sum } ∷ []))
-              c.deref.ensures.value taken in
+          c.deref.ensures.value taken in
           subst (λ (v : _). HasChain s (first ++ fs) ms (plain_lines whole counts v.items)) (sym w.kept-is)
           (chain_takes_as s first es fs ks kept was ms (record { edge = e; sum = sum }) longer
           (ap (λ (v : _). plain_links whole counts v.items) w.chain-is

@@ -11,30 +11,30 @@ use Rattle.overlay_located.proofs.chain.is_among.Goals as goal
 pub height_over-requires-clause-from : goal.height_over-requires-clause-from
 height_over-requires-clause-from g c =
     let lt : c.args.start - 1 < length c.args.chain.now =
-        let some = c.if-start-gt0.true in
-        let ordered = c.requires.ordered in
-        let within = c.requires.within in
-        omega (arith, some, ordered, within) in
+    let some = c.if-start-gt0.true in
+    let ordered = c.requires.ordered in
+    let within = c.requires.within in
+    omega (arith, some, ordered, within) in
     (over_at (plain_link g.I.IntNumber.whole g.C.EdgeCount.counts) (plain_point g.I.IntNumber.whole c.args.p)
     c.args.chain.now (c.args.start - 1) c.index-chain-start.result lt c.requires.over).from
 
 pub height_over-requires-clause-to : goal.height_over-requires-clause-to
 height_over-requires-clause-to g c =
     let lt : c.args.start - 1 < length c.args.chain.now =
-        let some = c.if-start-gt0.true in
-        let ordered = c.requires.ordered in
-        let within = c.requires.within in
-        omega (arith, some, ordered, within) in
+    let some = c.if-start-gt0.true in
+    let ordered = c.requires.ordered in
+    let within = c.requires.within in
+    omega (arith, some, ordered, within) in
     (over_at (plain_link g.I.IntNumber.whole g.C.EdgeCount.counts) (plain_point g.I.IntNumber.whole c.args.p)
     c.args.chain.now (c.args.start - 1) c.index-chain-start.result lt c.requires.over).to
 
 pub height_over-requires-clause-wide : goal.height_over-requires-clause-wide
 height_over-requires-clause-wide g c =
     let lt : c.args.start - 1 < length c.args.chain.now =
-        let some = c.if-start-gt0.true in
-        let ordered = c.requires.ordered in
-        let within = c.requires.within in
-        omega (arith, some, ordered, within) in
+    let some = c.if-start-gt0.true in
+    let ordered = c.requires.ordered in
+    let within = c.requires.within in
+    omega (arith, some, ordered, within) in
     (over_at (plain_link g.I.IntNumber.whole g.C.EdgeCount.counts) (plain_point g.I.IntNumber.whole c.args.p)
     c.args.chain.now (c.args.start - 1) c.index-chain-start.result lt c.requires.over).wide
 
@@ -76,9 +76,9 @@ returns-then-end-chain g c = λ s chain is t.
           λ m d one. absurd (omega (arith, none, one))
     ])
     (λ d lt.
-        let all = c.if-end-chain.true in
-        let count = length-map c.args.chain.now plain in
-        absurd (omega (arith, all, lt, count)))
+    let all = c.if-end-chain.true in
+    let count = length-map c.args.chain.now plain in
+    absurd (omega (arith, all, lt, count)))
 
 pub returns-else-end-chain : goal.returns-else-end-chain
 returns-else-end-chain g c = λ s chain is t.
@@ -100,7 +100,7 @@ returns-else-end-chain g c = λ s chain is t.
           λ m d one. absurd (omega (arith, none, one))
     ])
     (λ d lt.
-        let inside : c.args.end < length c.args.chain.now = search rules in
-        low_at plain c.args.chain.now v c.args.end c.index-chain-end.result inside
-        (low_from c.height_over-else-end-chain.result _ c.height_over-else-end-chain.ensures.above
-        c.height_over-else-end-chain.ensures.level (sym c.is_lt.ensures ∙ t)) d)
+    let inside : c.args.end < length c.args.chain.now = search rules in
+    low_at plain c.args.chain.now v c.args.end c.index-chain-end.result inside
+    (low_from c.height_over-else-end-chain.result _ c.height_over-else-end-chain.ensures.above
+    c.height_over-else-end-chain.ensures.level (sym c.is_lt.ensures ∙ t)) d)

@@ -21,21 +21,21 @@ returns g c =
     let from = c.from-count.ensures in
     let count : to_z w64 (of_z w64 c.from-count.result) ≡ subj_of e = search (rules, to_z-of_z) in
     let left : added Left v (λ f. false) e ≡ to_z w64 c.if-is_below_near.left-bits =
-        elim c.if-is_below_near.branch [
-          | then-is_below_near w ↦ added_if Left v e c.is_below_near.result (to_z w64 c.if-is_below_near.left-bits)
-              c.is_below_near.ensures w.if-is_below_near.true (w.left-is ∙ count)
-          | else-is_below_near w ↦ added_not Left v e c.is_below_near.result (to_z w64 c.if-is_below_near.left-bits)
-              c.is_below_near.ensures w.if-is_below_near.false w.left-is
-        ] in
+    elim c.if-is_below_near.branch [
+      | then-is_below_near w ↦ added_if Left v e c.is_below_near.result (to_z w64 c.if-is_below_near.left-bits)
+          c.is_below_near.ensures w.if-is_below_near.true (w.left-is ∙ count)
+      | else-is_below_near w ↦ added_not Left v e c.is_below_near.result (to_z w64 c.if-is_below_near.left-bits)
+          c.is_below_near.ensures w.if-is_below_near.false w.left-is
+    ] in
     let right : added Right v (λ f. false) e ≡ to_z w64 c.if-is_below_near-2.right-bits =
-        elim c.if-is_below_near-2.branch [
-          | then-is_below_near-2 w ↦ added_if Right v e c.is_below_near-2.result
-              (to_z w64 c.if-is_below_near-2.right-bits) c.is_below_near-2.ensures w.if-is_below_near-2.true
-              (w.right-is ∙ count)
-          | else-is_below_near-2 w ↦ added_not Right v e c.is_below_near-2.result
-              (to_z w64 c.if-is_below_near-2.right-bits) c.is_below_near-2.ensures w.if-is_below_near-2.false
-              w.right-is
-        ] in
+    elim c.if-is_below_near-2.branch [
+      | then-is_below_near-2 w ↦ added_if Right v e c.is_below_near-2.result
+          (to_z w64 c.if-is_below_near-2.right-bits) c.is_below_near-2.ensures w.if-is_below_near-2.true
+          (w.right-is ∙ count)
+      | else-is_below_near-2 w ↦ added_not Right v e c.is_below_near-2.result
+          (to_z w64 c.if-is_below_near-2.right-bits) c.is_below_near-2.ensures w.if-is_below_near-2.false
+          w.right-is
+    ] in
     adds_of_sums (e ∷ []) (to_z w64 c.if-is_below_near.left-bits) (to_z w64 c.if-is_below_near-2.right-bits)
     (λ h. added h v (λ f. false) e) (plain_query whole counts c.args.q) (plain_query whole counts c.with_sums.result)
     left right

@@ -10,8 +10,7 @@ use Rattle.overlay_located.proofs.together.+ask.Goals as goal
 parts_of : {X : Type 0} (P : X → Type 0) (n : ℕ) (xs ys front back : List X) → ys ≡ xs → front ≡ take n ys →
     back ≡ drop n ys → All P xs → All P front × All P back
 parts_of P n xs ys front back same is_front is_back all =
-    let every = subst (All P) (sym same) all in
-    (
+    let every = subst (All P) (sym same) all in (
       subst (All P) (sym is_front) (All-take P n ys every),
       subst (All P) (sym is_back) (All-drop P n ys every),
     )

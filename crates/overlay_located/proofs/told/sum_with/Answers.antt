@@ -27,9 +27,10 @@ returns-then-is_below_near g c =
 pub returns-else-is_below_near : goal.returns-else-is_below_near
 returns-else-is_below_near g c =
     let whole = g.I.IntNumber.whole in
+    let e = plain_edge whole g.C.EdgeCount.counts c.in-Some.e in
     let so_far : to_z w64 (of_z w64 c.args.so_far) ≡ c.args.so_far = search (rules, to_z-of_z) in
     so_far ∙ sum_of_some (plain_edge whole g.C.EdgeCount.counts) c.args.flank c.args.e (plain_point whole c.args.p)
     (is_low c.args.flank (plain_ray whole c.args.ray)) c.args.so_far c.in-Some.e c.is_below_near.result c.args.so_far
     c.in-Some.is c.is_below_near.ensures
-    (sym (+ℤ_idr c.args.so_far) ∙ ap (λ t. c.args.so_far +ℤ cond t (subj_of (plain_edge whole g.C.EdgeCount.counts c.in-Some.e)) (pos 0))
-    (sym c.if-is_below_near.false))
+    (sym (+ℤ_idr c.args.so_far)
+    ∙ ap (λ t. c.args.so_far +ℤ cond t (subj_of e) (pos 0)) (sym c.if-is_below_near.false))

@@ -14,8 +14,7 @@ use Rattle.polyover_located.proofs.points.write_locations.Goals as goal
 
 pub loop-at-init : goal.loop-at-init
 loop-at-init g c =
-    let whole = g.I.IntNumber.whole in
-    (
+    let whole = g.I.IntNumber.whole in (
       none_told whole (shape_of (parts_of whole g.E.EdgeForm.meant g.B.FormOf.meant c.args.shape.now))
           (points_of c.args.points.now) c.args.locations.now,
       search rules,
@@ -64,16 +63,15 @@ loop-at-preserved g c =
     let p : IntPoint _ = record { x = x; y = y } in
     let counted = points_counted points in
     let lt = c.loop-at-test.true in
-    let within = subst (λ k. n < k) (sym counted) lt in
-    (
-    subst (λ k. AreToldUpTo whole shape (points_of points) old (n + 1) (set new n k)) (sym c.number_of.ensures)
-    (one_told whole shape (points_of points) old n new p c.locate_told-location.result within
-    (let room = c.requires.room in omega (arith, room, within))
-    (sym (point_read points n p x y (place_within points n _ (sym counted) lt)
-    c.index-points-place.is c.index-points-next.is)) c.loop-at.invariant.0
-    (subst (λ r. LiesIn (is_filled r) shape.edges (in_plane (plain_point whole p)) c.locate_told-location.result)
-    c.known_fill-rule.ensures c.locate_told-location.ensures)),
-    c.told_from.ensures,
+    let within = subst (λ k. n < k) (sym counted) lt in (
+      subst (λ k. AreToldUpTo whole shape (points_of points) old (n + 1) (set new n k)) (sym c.number_of.ensures)
+          (one_told whole shape (points_of points) old n new p c.locate_told-location.result within
+          (let room = c.requires.room in omega (arith, room, within))
+          (sym (point_read points n p x y (place_within points n _ (sym counted) lt)
+          c.index-points-place.is c.index-points-next.is)) c.loop-at.invariant.0
+          (subst (λ r. LiesIn (is_filled r) shape.edges (in_plane (plain_point whole p)) c.locate_told-location.result)
+          c.known_fill-rule.ensures c.locate_told-location.ensures)),
+      c.told_from.ensures,
     )
 
 pub returns : goal.returns
