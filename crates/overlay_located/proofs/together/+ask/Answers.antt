@@ -3,7 +3,7 @@ use Rattle.std.proofs.Common.{◌≡◌, ℕ, List, ◌++◌, take, drop, sym, s
 use Rattle.std.specs.List.{All}
 use Rattle.std.proofs.lemmas.List.Elements.{All-take, All-drop}
 use Rattle.overlay_located.specs.Tells.{TellsWhere}
-use Rattle.overlay_located.specs.Together.{plain_query, plain_lines, plain_links, edges_of, IsOpen, IsWithin}
+use Rattle.overlay_located.specs.Together.{plain_query, plain_lines, plain_links, edges_of, Band, IsOpen, IsWithin}
 use Rattle.overlay_located.proofs.together.+ask.Goals as goal
 
 -- what holds of all holds of both parts
@@ -15,17 +15,40 @@ parts_of P n xs ys front back same is_front is_back all =
       subst (All P) (sym is_back) (All-drop P n ys every),
     )
 
+-- the first half is told
 pub returns-in_err-ask : goal.returns-in_err-ask
-returns-in_err-ask g t c = ?
+returns-in_err-ask g t c = λ es left told.
+    let whole = g.I.IntNumber.whole in
+    let counts = g.C.EdgeCount.counts in
+    let lines = plain_lines whole counts in
+    let kept = lines c.in_ok-node.node.kept.items in
+    let slab : Band = record {
+      from = whole c.index-queries-0.result.point.x;
+      to = whole c.index-queries-queries.result.point.x;
+    } in
+    let all = c.in_ok-rest.ensures.fewer es (lines c.args.lines.now) kept
+    (subst (λ ks. TellsWhere (IsWithin slab) (lines c.args.lines.now) (edges_of (plain_links whole counts ks) ++ kept))
+    (sym c.deref.ensures.value) c.in_ok-node.ensures.split) left in
+    let parts = parts_of (λ q. IsOpen es kept (plain_query whole counts q)) _ c.in_ok-rest.rest.items
+    c.deref-2.result.now c.split_at-halves.result.0.now c.split_at-halves.result.1.now c.deref-2.ensures.value
+    c.split_at-halves.ensures.front c.split_at-halves.ensures.back all in
+    c.ask.ensures es
+    (subst (λ ls. All (λ q. IsOpen es (lines ls) (plain_query whole counts q)) c.split_at-halves.result.0.now)
+    (sym c.deref-3.ensures.value) parts.0) told
 
+-- and the second
 pub returns : goal.returns
 returns g t c = λ es left told.
     let whole = g.I.IntNumber.whole in
     let counts = g.C.EdgeCount.counts in
     let lines = plain_lines whole counts in
     let kept = lines c.in_ok-node.node.kept.items in
+    let slab : Band = record {
+      from = whole c.index-queries-0.result.point.x;
+      to = whole c.index-queries-queries.result.point.x;
+    } in
     let all = c.in_ok-rest.ensures.fewer es (lines c.args.lines.now) kept
-    (subst (λ ks. TellsWhere (IsWithin _) (lines c.args.lines.now) (edges_of (plain_links whole counts ks) ++ kept))
+    (subst (λ ks. TellsWhere (IsWithin slab) (lines c.args.lines.now) (edges_of (plain_links whole counts ks) ++ kept))
     (sym c.deref.ensures.value) c.in_ok-node.ensures.split) left in
     let parts = parts_of (λ q. IsOpen es kept (plain_query whole counts q)) _ c.in_ok-rest.rest.items
     c.deref-2.result.now c.split_at-halves.result.0.now c.split_at-halves.result.1.now c.deref-2.ensures.value
