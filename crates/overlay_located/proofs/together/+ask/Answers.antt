@@ -1,5 +1,5 @@
 -- The halves are asked with the edges that are kept.
-use Rattle.std.proofs.Common.{◌≡◌, ℕ, List, ◌++◌, take, drop, sym, subst}
+use Rattle.std.proofs.Common.{◌≡◌, ℕ, ◌-◌, List, ◌++◌, length, get_or, take, drop, sym, subst}
 use Rattle.std.specs.List.{All}
 use Rattle.std.proofs.lemmas.List.Elements.{All-take, All-drop}
 use Rattle.overlay_located.specs.Tells.{TellsWhere}
@@ -22,9 +22,10 @@ returns-in_err-ask g t c = λ es left told.
     let counts = g.C.EdgeCount.counts in
     let lines = plain_lines whole counts in
     let kept = lines c.in_ok-node.node.kept.items in
+    let queries = c.args.queries.now in
     let slab : Band = record {
-      from = whole c.index-queries-0.result.point.x;
-      to = whole c.index-queries-queries.result.point.x;
+      from = whole (get_or queries 0 c.index-queries-0.result).point.x;
+      to = whole (get_or queries (length queries - 1) c.index-queries-queries.result).point.x;
     } in
     let all = c.in_ok-rest.ensures.fewer es (lines c.args.lines.now) kept
     (subst (λ ks. TellsWhere (IsWithin slab) (lines c.args.lines.now) (edges_of (plain_links whole counts ks) ++ kept))
@@ -43,9 +44,10 @@ returns g t c = λ es left told.
     let counts = g.C.EdgeCount.counts in
     let lines = plain_lines whole counts in
     let kept = lines c.in_ok-node.node.kept.items in
+    let queries = c.args.queries.now in
     let slab : Band = record {
-      from = whole c.index-queries-0.result.point.x;
-      to = whole c.index-queries-queries.result.point.x;
+      from = whole (get_or queries 0 c.index-queries-0.result).point.x;
+      to = whole (get_or queries (length queries - 1) c.index-queries-queries.result).point.x;
     } in
     let all = c.in_ok-rest.ensures.fewer es (lines c.args.lines.now) kept
     (subst (λ ks. TellsWhere (IsWithin slab) (lines c.args.lines.now) (edges_of (plain_links whole counts ks) ++ kept))
