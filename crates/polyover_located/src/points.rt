@@ -95,7 +95,7 @@ fn write_locations<I: OverlayInt, E: EdgeForm<I, ShapeCountBoolean>, B: FormOf<B
         let x = points[place];
         let y = points[next];
         let p = IntPoint { x, y };
-        told = told_from(alloc, told, at, shape.edges, &points[place..]);
+        told = told_from(alloc, told, shape.edges, points, place);
         let location = locate_told(
             shape.edges,
             shape.blocks,
@@ -109,14 +109,14 @@ fn write_locations<I: OverlayInt, E: EdgeForm<I, ShapeCountBoolean>, B: FormOf<B
     }
 }
 
-// Returns what the edges tell of the next points, where all before were asked; else what is told already. Of few points
-// or edges nothing is told, nor where memory is refused.
+// Returns what the edges tell of the points whose coordinates begin at the place, where all before were asked; else
+// what is told already. Of few points or edges nothing is told, nor where memory is refused.
 fn told_from<I: OverlayInt, E: EdgeForm<I, ShapeCountBoolean>>(
     alloc: Global,
     told: Vec<Query<I, ShapeCountBoolean>, Global>,
-    at: usize,
     edges: &[E],
     points: &[I],
+    place: usize,
 ) -> Vec<Query<I, ShapeCountBoolean>, Global>
     requires content { IsContent I.limit (plain_edges I.whole boolean_counts (map E.meant edges.now)) }
     requires told { All (λ q. IsTold (plain_edges I.whole boolean_counts (map E.meant edges.now))
@@ -124,13 +124,16 @@ fn told_from<I: OverlayInt, E: EdgeForm<I, ShapeCountBoolean>>(
     ensures { All (λ q. IsTold (plain_edges I.whole boolean_counts (map E.meant edges.now))
         (plain_query I.whole boolean_counts q)) result.items }
 {
-    if at % TOGETHER != 0 {
+    if place % (2 * TOGETHER) != 0 {
         return told;
     }
-    if edges.len() < MANY || points.len() / 2 < MANY {
+    let Some(rest) = points.get(place..) else {
+        return Vec::new(alloc);
+    };
+    if edges.len() < MANY || rest.len() / 2 < MANY {
         return Vec::new(alloc);
     }
-    match told_of_first(alloc, edges, points) {
+    match told_of_first(alloc, edges, rest) {
         Ok(told) => told,
         Err(_) => Vec::new(alloc),
     }

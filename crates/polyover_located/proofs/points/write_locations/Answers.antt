@@ -1,10 +1,15 @@
 -- One point more is told of, and all of them.
 use Rattle.std.proofs.Common.{◌≡◌, ◌+◌, ◌<◌, ◌≤◌, ◌/◌, length, map, set, refl, sym, ap, subst, arith}
+use Rattle.std.specs.List.{All}
+use Rattle.std.proofs.lemmas.List.Elements.{All-nil}
 use Rattle.overlay_geom.specs.Plane.{in_plane}
 use Rattle.overlay_geom.specs.Points.{plain_point}
 use Rattle.overlay_geom.specs.Rules.{is_filled}
 use Rattle.overlay_geom.specs.declared.point.IntPoint.{IntPoint}
 use Rattle.overlay_located.specs.Located.{LiesIn}
+use Rattle.overlay_located.specs.Together.{plain_query, IsTold}
+use Rattle.overlay_order.specs.Content.{plain_edges}
+use Rattle.overlay_order.specs.Counts.{boolean_counts}
 use Rattle.polyover_calls.proofs.AskedPoints.{point_read, place_within}
 use Rattle.polyover_calls.proofs.PointCounts.{points_counted}
 use Rattle.polyover_calls.specs.Arrays.{points_of}
@@ -14,11 +19,20 @@ use Rattle.polyover_located.proofs.points.write_locations.Goals as goal
 
 pub loop-at-init : goal.loop-at-init
 loop-at-init g c =
-    let whole = g.I.IntNumber.whole in (
+    let whole = g.I.IntNumber.whole in
+    let es = plain_edges whole boolean_counts (map g.E.EdgeForm.meant c.args.shape.now.edges.now) in (
       none_told whole (shape_of (parts_of whole g.E.EdgeForm.meant g.B.FormOf.meant c.args.shape.now))
           (points_of c.args.points.now) c.args.locations.now,
-      search rules,
+      subst (λ qs. All (λ q. IsTold es (plain_query whole boolean_counts q)) qs) (sym c.new-told.ensures.items)
+          (All-nil (λ q. IsTold es (plain_query whole boolean_counts q))),
     )
+
+pub locate_told-location-requires-clause-told : goal.locate_told-location-requires-clause-told
+locate_told-location-requires-clause-told g c =
+    let whole = g.I.IntNumber.whole in
+    let es = plain_edges whole boolean_counts (map g.E.EdgeForm.meant c.args.shape.now.edges.now) in
+    subst (λ qs. All (λ q. IsTold es (plain_query whole boolean_counts q)) qs) (sym c.deref.ensures.value)
+    c.told_from-told.ensures
 
 pub offset_bounds-points-place : goal.offset_bounds-points-place
 offset_bounds-points-place g c =
@@ -71,7 +85,7 @@ loop-at-preserved g c =
           c.index-points-place.is c.index-points-next.is)) c.loop-at.invariant.0
           (subst (λ r. LiesIn (is_filled r) shape.edges (in_plane (plain_point whole p)) c.locate_told-location.result)
           c.known_fill-rule.ensures c.locate_told-location.ensures)),
-      c.told_from.ensures,
+      c.told_from-told.ensures,
     )
 
 pub returns : goal.returns
