@@ -1,6 +1,6 @@
 /** What is given to a call: groups of contours, paths or points, and options. */
 
-import { FILLS, LIMIT, LIMIT_32, Misplaced, RULES, SOLVERS } from "./abi.js";
+import { FILLS, LIMIT, LIMIT_32, Misplaced, RELATIONS, RULES, SOLVERS } from "./abi.js";
 import { areaOf } from "./area.js";
 import { BadInput } from "./errors.js";
 import { Flat, checkHeld, isNumbers } from "./flat.js";
@@ -50,6 +50,9 @@ export function chosen(options, names, grid, table = OPTIONS) {
 export function chosenAsGiven(options) {
   return chosen(options, ["fill", "solver"], undefined, AS_GIVEN);
 }
+
+/** The place of a relation, by its name. */
+export const relationAt = placeIn(RELATIONS, "relation");
 
 // ---- groups
 

@@ -8,7 +8,7 @@ const THREADS = "node:worker_threads";
 const OF_PREPARED = ["locate", "contains"];
 const OF_ARRANGEMENT = ["overlay", "hierarchy", "edges"];
 const CALLS = [
-  ...["overlay", "hierarchy", "simplify", "relate", "clip", "slice", "tiles", "locate", "edges"],
+  ...["overlay", "hierarchy", "simplify", "relate", "relateOne", "clip", "slice", "tiles", "locate", "edges"],
   ...["isResolved", "built"],
 ];
 

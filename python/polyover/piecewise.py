@@ -11,6 +11,8 @@ from .text import RELATION_BITS
 
 # the bits of the relations of two lists of contours, for the fill rule nonzero
 Told = Callable[[Sequence[Row], Sequence[Row]], int]
+# whether the relation with a name holds of them
+Holds = Callable[[str, Sequence[Row], Sequence[Row]], bool]
 Polygons = Sequence[Sequence[Row]]
 INTERSECTS, INTERIORS = RELATION_BITS["intersects"], RELATION_BITS["interiors_intersect"]
 POINTS, WITHIN = RELATION_BITS["point_intersects"], RELATION_BITS["within"]
@@ -52,3 +54,33 @@ def are_all_within(polygons: Polygons, others: Polygons, told: Told) -> bool:
     """Whether all polygons lie in what the others cover."""
     near = Nearby(row for rows in others for row in rows)
     return all(told(rows, near.part_within(rows)) & WITHIN for rows in polygons if any(rows))
+
+
+# ---- one relation, up to the polygon that decides
+
+
+def has_any(name: str, polygons: Polygons, others: Polygons, holds: Holds) -> bool:
+    """Whether the relation holds of any polygon and the others."""
+    near = Nearby(row for rows in others for row in rows)
+    parts = ((rows, near.part_within(rows)) for rows in polygons if any(rows))
+    return any(holds(name, rows, part) for rows, part in parts if part)
+
+
+def lie_within(polygons: Polygons, others: Polygons, holds: Holds) -> bool:
+    """Whether polygons cover something, and all of them lie in what the others cover."""
+    near = Nearby(row for rows in others for row in rows)
+    parts = [rows for rows in polygons if any(rows)]
+    return bool(parts) and all(holds("within", rows, near.part_within(rows)) for rows in parts)
+
+
+def has_relation(name: str, subject: Polygons, clip: Polygons, holds: Holds, told: Told) -> bool:
+    """Whether the relation holds of what two lists of polygons cover, each by its contours."""
+    if name in ("intersects", "interiors_intersect"):
+        return has_any(name, subject, clip, holds)
+    if name == "disjoint":
+        return not has_any("intersects", subject, clip, holds)
+    if name == "touches":
+        return not has_any("interiors_intersect", subject, clip, holds) and has_any("intersects", subject, clip, holds)
+    if name == "within":
+        return lie_within(subject, clip, holds)
+    return lie_within(clip, subject, holds) if name == "covers" else relations(subject, clip, told)[name]
