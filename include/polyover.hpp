@@ -1168,7 +1168,8 @@ template <class Coordinate>
     return detail::answered(ended, holds != 0);
 }
 
-/// Returns the relations of one arrangement of both, whose points are rounded. Refused as `overlay` is, but for `bad_rule`.
+/// Returns the relations of one arrangement of both, whose points are rounded. Refused as `overlay` is, but for
+/// `bad_rule`.
 template <class Coordinate>
 [[nodiscard]] returned<relations> relate(polyover::fill fill, basic_contours<Coordinate> subject,
                                          detail::contours_of<Coordinate> clip,
@@ -1179,8 +1180,8 @@ template <class Coordinate>
     return detail::answered(ended, relations(bits));
 }
 
-/// Returns whether one relation holds, which takes less time than all of them. Refused as `relate` is, and with
-/// `bad_option` for a number that is no relation.
+/// Returns whether one relation holds of the arrangement, which takes less time than all of them. Refused as `relate`
+/// is, and with `bad_option` for a number that is no relation.
 template <class Coordinate>
 [[nodiscard]] returned<bool> relate_one(polyover::relation relation, polyover::fill fill,
                                         basic_contours<Coordinate> subject, detail::contours_of<Coordinate> clip,

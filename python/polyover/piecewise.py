@@ -3,7 +3,7 @@ takes less than one call of all polygons, whose edges the library compares with 
 
 from __future__ import annotations
 
-from typing import Callable, Sequence
+from typing import Callable, Iterator, Sequence
 
 from .contour import Row
 from .nearby import Nearby
@@ -59,18 +59,23 @@ def are_all_within(polygons: Polygons, others: Polygons, told: Told) -> bool:
 # ---- one relation, up to the polygon that decides
 
 
-def has_any(name: str, polygons: Polygons, others: Polygons, holds: Holds) -> bool:
-    """Whether the relation holds of any polygon and the others."""
+def asked_one_by_one(name: str, polygons: Polygons, others: Polygons, holds: Holds) -> Iterator[bool]:
+    """Whether the relation holds of each polygon and what is near it of the others."""
     near = Nearby(row for rows in others for row in rows)
-    parts = ((rows, near.part_within(rows)) for rows in polygons if any(rows))
-    return any(holds(name, rows, part) for rows, part in parts if part)
+    for rows in polygons:
+        if any(rows):
+            part = near.part_within(rows)
+            yield bool(part) and holds(name, rows, part)
+
+
+def has_any(name: str, polygons: Polygons, others: Polygons, holds: Holds) -> bool:
+    """Whether any polygon intersects the others, or so do interiors."""
+    return any(asked_one_by_one(name, polygons, others, holds))
 
 
 def lie_within(polygons: Polygons, others: Polygons, holds: Holds) -> bool:
-    """Whether polygons cover something, and all of them lie in what the others cover."""
-    near = Nearby(row for rows in others for row in rows)
-    parts = [rows for rows in polygons if any(rows)]
-    return bool(parts) and all(holds("within", rows, near.part_within(rows)) for rows in parts)
+    """Whether there are polygons, and all of them lie in what the others cover."""
+    return any(map(any, polygons)) and all(asked_one_by_one("within", polygons, others, holds))
 
 
 def has_relation(name: str, subject: Polygons, clip: Polygons, holds: Holds, told: Told) -> bool:
