@@ -1,5 +1,5 @@
 -- One exact relation of arrays is told in one way, and is what all of them tell of it.
-use Rattle.std.proofs.Common.{◌≡◌, ◌↔◌, ◌<◌, ℕ, ℤ, Bool, false, List, sym, ap, subst, ◌∙◌}
+use Rattle.std.proofs.Common.{◌≡◌, ◌↔◌, ℕ, ℤ, Bool, false, List, sym, ap, subst, ◌∙◌}
 use Rattle.std.specs.Prelude.{IsTrue}
 use Rattle.overlay_geom.specs.Rules.{bit, is_filled}
 use Rattle.overlay_geom.specs.declared.error.OverlayError.{OverlayError}

@@ -58,7 +58,7 @@ pub fn relate_one_exactly<I: ExactInt>(
 }
 
 // Returns the same answer, or why there is none.
-#[tactic(auto, using(crate::proofs::ToldOne::relation_unknown, crate::proofs::ToldOne::contours_untold, crate::proofs::ToldOne::relation_refused, crate::proofs::ToldOne::answer_told))]
+#[tactic(auto, using(crate::proofs::ToldOne::relation_unknown))]
 fn exact_answer<I: ExactInt>(alloc: Global, asked: &AskedRelation<I>) -> Result<u32, Status>
     ensures { MatchResult result
         (IsExactlySo I.whole I.limit asked.now.relation asked.now.fill
