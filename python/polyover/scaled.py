@@ -12,7 +12,7 @@ from typing import Any, Callable, Iterable, Sequence
 from . import by_library, calls, piecewise, quick, relations, small
 from .columns import ERROR, EXACT, LEAST, row_of_points, whole_points
 from .contour import Row, WholePath, WholePoint, points_in, row_of
-from .errors import BadInput
+from .errors import BadInput, BadType
 from .flat import Flat, FlatFloats, FlatShapes, copied, flat_rows, parted
 from .geojson import is_geometry, points_of
 from .library import library
@@ -105,6 +105,8 @@ class Scaled(RulesAtScale):
         self.scale = fraction_of(scale, "the scale")
         if self.scale <= 0:
             raise BadInput(f"the scale {scale} is not above 0")
+        if isinstance(origin, calls.UNFIT):
+            raise BadType(f"the origin is no {type(origin).__name__}, but a point of two numbers")
         if not hasattr(origin, "__len__") or len(origin) != 2:
             raise BadInput(f"the origin {origin!r} is no point of two numbers")
         self.origin = tuple(fraction_of(value, "the origin") for value in origin)
