@@ -93,6 +93,16 @@ export class Misplaced extends BadInput {
   }
 }
 
+/** Whether two points are equal, each by the place of the first of its four halves. */
+function isSame(halves, one, other) {
+  for (let half = 0; half < 4; half++) {
+    if (halves[one + half] !== halves[other + half]) {
+      return false;
+    }
+  }
+  return true;
+}
+
 /** Memory of the module that is held while a call runs. */
 class Held {
   constructor(library) {
@@ -181,6 +191,25 @@ export class Library {
       }
     }
     return row;
+  }
+
+  /** The whole numbers of one contour of floats, without points that are equal to the one before them. */
+  withoutRepeats(group, grid) {
+    return this.hold((held) => {
+      const { at, count } = this.numbers(held, group, grid);
+      const numbers = new BigInt64Array(this.memory.buffer, at, count);
+      // (by halves, which takes no BigInts)
+      const halves = new Int32Array(this.memory.buffer, at, 2 * count);
+      let [kept, before] = [0, count - 2];
+      for (let point = 0; point < count; point += 2) {
+        if (!isSame(halves, 2 * point, 2 * before)) {
+          numbers.copyWithin(kept, point, point + 2);
+          kept += 2;
+        }
+        before = point;
+      }
+      return numbers.slice(0, kept > 0 ? kept : Math.min(count, 2));
+    });
   }
 
   /** The address of the struct of a group, whose coordinates are times 2 to the power. */

@@ -244,19 +244,22 @@ export class Polyover {
   /** The contours of a polygon: they wind once round what its outline winds round, and none of its holes does. */
   #coveredBy(place, [outline, ...holes]) {
     const around = this.#wound(place, outline);
-    if (holes.length === 0) {
+    const wound = holes.map((hole, at) => this.#wound(`${place}, ring ${at + 2}`, hole));
+    const within = wound.filter(({ coordinates }) => coordinates.length > 0);
+    if (within.length === 0) {
       return around;
     }
-    const within = holes.map((hole, at) => this.#wound(`${place}, ring ${at + 2}`, hole));
     const groups = [inOne([around]), inOne(within)];
     return this.#library.overlay({ groups, kind: BigInt64Array, grid: this.#grid }, DIFFERENCE, NONZERO, PLAIN);
   }
 
   /** The contours that wind once round what a ring winds round. (Rings that run against each other may overlap.) */
   #wound(place, ring) {
-    return this.#asked([listed(place, [ring])], "arrays", (asked) =>
-      this.#library.simplify({ ...asked, kind: BigInt64Array }, NONZERO, PLAIN),
-    );
+    return this.#asked([listed(place, [ring])], "arrays", ({ groups: [group], grid }) => {
+      const numbers = this.#library.withoutRepeats(group, grid);
+      const groups = [{ ...group, numbers, ends: Uint32Array.of(numbers.length / 2) }];
+      return this.#library.simplify({ groups, kind: BigInt64Array }, NONZERO, PLAIN);
+    });
   }
 }
 
