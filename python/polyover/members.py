@@ -1,4 +1,4 @@
-"""Members that a geometry of GeoJSON has beside its coordinates: answers have geometries of their own, without these."""
+"""Members that a geometry of GeoJSON has beside its coordinates: geometries of answers are made anew, without these."""
 
 from __future__ import annotations
 
