@@ -1,17 +1,19 @@
 /** The calls: contours, paths and points in, shapes, paths, edges, relations and locations out. */
 
 import { FILLS, LIMIT, Library, RELATIONS, RULES, SOLVERS } from "./abi.js";
-import { edgesIn, linesIn, linksIn, locationsIn, shapesIn } from "./answers.js";
+import { edgesIn, linesIn, linksIn, locationsIn, shapesIn, tracedIn, vectorsIn } from "./answers.js";
 import { Arrangement } from "./arrangement.js";
 import { BadInput } from "./errors.js";
 import { misfit, sideOf } from "./cells.js";
 import { isGeometry, partsOf } from "./geojson.js";
-import { EXACT, alike, askedOf, chosen, chosenAsGiven, grouped, listed, pointsOf } from "./given.js";
+import { EXACT, alike, askedOf, chosen, chosenAsGiven, chosenOfSteps, grouped } from "./given.js";
+import { listed, pointsOf, stepped } from "./given.js";
 import { Prepared } from "./prepared.js";
 import { shown } from "./shown.js";
 
 const LOOK = ["clockwise", "keep", "touching", "minimumArea", "solver"];
 const OVERLAY = ["rule", "fill", ...LOOK, "answer"];
+const VECTORS = OVERLAY.filter((name) => name !== "touching");
 const SIMPLIFY = ["fill", ...LOOK, "answer"];
 const CLIP = ["fill", "invert", "boundary", "solver", "answer"];
 const FILLED = ["fill", "solver", "answer"];
@@ -74,6 +76,17 @@ export class Polyover {
       const found = this.#library.hierarchy(asked, rule, fill, look);
       return { shapes: shapesIn(found, form), links: linksIn(found.links, form) };
     });
+  }
+
+  /**
+   * The shapes round the same region by their steps, each with the sum of the bits of its filled sides. Contours may
+   * touch themselves in points, and a point stays where the sides change.
+   */
+  vectors(subject, clip = [], options = {}) {
+    const { rule, fill, answer, ...look } = chosen(options, VECTORS, this.#grid);
+    return this.#filled({ subject, clip }, { fill, solver: look.solver }, answer, (asked, form) =>
+      vectorsIn(this.#library.vectors(asked, rule, fill, look), form),
+    );
   }
 
   /** The shapes round what the contours fill; one simple contour stays as it is given, or is reversed. */
@@ -169,6 +182,17 @@ export class Polyover {
     const { fill, solver, answer } = chosen(options, FILLED);
     return this.#filled({ subject, clip }, { fill, solver, isJoined: true }, answer, (asked, form) =>
       edgesIn(this.#library.edges(asked, fill, solver), form),
+    );
+  }
+
+  /**
+   * The edges of the arrangement, all or by a rule, each with the steps of contours in lists or arrays on which it lies;
+   * of open paths where `closed` is false.
+   */
+  trace(subject, clip = [], options = {}) {
+    const { rule, fill, closed, solver, answer } = chosenOfSteps(options);
+    return this.#asked([stepped("subject", subject), stepped("clip", clip)], answer, (asked, form) =>
+      tracedIn(this.#library.trace(asked, rule, fill, solver, closed), form),
     );
   }
 
