@@ -66,6 +66,18 @@ class Answers(unittest.TestCase):
         outline, hole = ([(point, 4) for point in contour] for contour in FRAME)
         self.assertEqual(self.told([], FRAME, "clip", "evenodd"), [[outline, hole]])
 
+    def test_at_a_scale(self):
+        # (a geometry is the region that its polygon covers, whichever way the rings run)
+        rings = [[(x / 2, y / 2) for x, y in contour] for contour in FRAME]
+        wanted = [[[((x / 2, y / 2), 4) for x, y in contour] for contour in FRAME]]
+        for hole in (rings[1], rings[1][::-1]):
+            shape = {"type": "Polygon", "coordinates": [rings[0], hole]}
+            self.assertEqual(points_of(polyover.Scaled(2).vectors([], shape, "clip")), wanted)
+        self.assertEqual(points_of(polyover.Scaled(2).vectors([], rings, "clip", "evenodd")), wanted)
+        # (in squares of the unit the hole has 3/4, and the outline 15/4)
+        least = polyover.Scaled(2).vectors([], rings, "clip", "evenodd", minimum_area=1)
+        self.assertEqual(points_of(least), [wanted[0][:1]])
+
     def test_small_contours(self):
         self.assertEqual(len(self.told([SQUARE], [OTHER], "intersect", minimum_area=4)), 1)
         self.assertEqual(self.told([SQUARE], [OTHER], "intersect", minimum_area=5), [])
