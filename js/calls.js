@@ -186,8 +186,8 @@ export class Polyover {
   }
 
   /**
-   * The edges of the arrangement, all or by a rule, each with the steps of contours in lists or arrays on which it lies;
-   * of open paths where `closed` is false.
+   * The edges of the arrangement, all or by a rule, each with the steps of lists or arrays on which it lies; of open
+   * paths where `closed` is false.
    */
   trace(subject, clip = [], options = {}) {
     const { rule, fill, closed, solver, answer } = chosenOfSteps(options);

@@ -31,9 +31,9 @@ const CROSSING = [
 const OF_BOTH = [3, 4, 6, 9].map((at) => CROSSING[at]);
 
 /** Traced edges with the sources of each in order, since this is left open. */
-function inOrder(edges) {
-  const told = ({ side, path, step }) => `${side} ${path} ${step}`;
-  return edges.map(([a, b, sides, sources]) => [a, b, sides, [...sources].sort((u, v) => (told(u) < told(v) ? -1 : 1))]);
+function inOrder(edges) {  const told = ({ side, path, step }) => `${side} ${path} ${step}`;
+  const before = (one, other) => (told(one) < told(other) ? -1 : 1);
+  return edges.map(([a, b, sides, sources]) => [a, b, sides, [...sources].sort(before)]);
 }
 
 /** Traced edges in arrays as lists. */
