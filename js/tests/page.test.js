@@ -3,9 +3,12 @@
 import assert from "node:assert/strict";
 import { test } from "node:test";
 
+import { mended } from "../../docs/play/mended.js";
 import { twiceIn } from "../../docs/play/once.js";
 import { readGeojson } from "../../docs/play/reading.js";
 import { BadText } from "../../docs/play/text.js";
+import { Flat } from "../polyover.js";
+import { doubleArea, polyover } from "./there.js";
 
 const RING = "[[[0, 0], [4, 0], [4, 4], [0, 0]]]";
 
@@ -48,4 +51,15 @@ test("the page refuses GeoJSON whose members come twice, by their names", () => 
     const said = `the member "${name}" comes twice in one object`;
     assert.throws(() => readGeojson(text), (fault) => fault instanceof BadText && fault.message === said);
   }
+});
+
+test("the page mends a polygon whose hole sticks out by less than half a unit", () => {
+  // (the point (2, 1) is 1/5 above the edge to (5, 2), which then runs through it: 1/2 more is covered)
+  const outline = [[0, 0], [0, -4], [5, -4], [5, 2]];
+  const [within, out] = [[[2, 0], [3, -2], [1, -2]], [[2, 1], [3, -2], [1, -2]]];
+  const rings = [outline, within, outline, out, outline];
+  const flat = new Flat(Float64Array.from(rings.flat(2)), [4, 7, 11, 14, 18]);
+  const [[number, contours], ...others] = mended(polyover, flat, [2, 4, 5]);
+  assert.deepEqual([number, others], [1, []]);
+  assert.equal(contours.reduce((sum, contour) => sum + doubleArea(contour), 0) / 2, 25.5 - 3);
 });
