@@ -8,7 +8,7 @@ const THREADS = "node:worker_threads";
 const OF_PREPARED = ["locate", "contains"];
 const OF_ARRANGEMENT = ["overlay", "hierarchy", "edges"];
 const CALLS = [
-  ...["overlay", "hierarchy", "simplify", "relate", "clip", "slice", "tiles", "locate", "edges"],
+  ...["overlay", "hierarchy", "vectors", "simplify", "relate", "clip", "slice", "tiles", "locate", "edges", "trace"],
   ...["isResolved", "built"],
 ];
 
