@@ -317,6 +317,7 @@ struct width<std::int64_t> {
     static constexpr auto relate = polyover_relate;
     static constexpr auto relate_one = polyover_relate_one;
     static constexpr auto relate_exact = polyover_relate_exact;
+    static constexpr auto relate_one_exact = polyover_relate_one_exact;
     static constexpr auto locate = polyover_locate;
     static constexpr auto prepare = polyover_prepare;
     static constexpr auto prepared_locate = polyover_prepared_locate;
@@ -374,6 +375,7 @@ struct width<std::int32_t> {
     static constexpr auto relate = polyover_relate_32;
     static constexpr auto relate_one = polyover_relate_one_32;
     static constexpr auto relate_exact = polyover_relate_exact_32;
+    static constexpr auto relate_one_exact = polyover_relate_one_exact_32;
     static constexpr auto locate = polyover_locate_32;
     static constexpr auto prepare = polyover_prepare_32;
     static constexpr auto prepared_locate = polyover_prepared_locate_32;
@@ -1154,7 +1156,20 @@ template <class Coordinate>
     return detail::answered(ended, relations(bits));
 }
 
-/// Returns the same of one arrangement of both, whose points are rounded. Refused as `overlay` is, but for `bad_rule`.
+/// Returns whether one relation holds of them as they are given, in the time of all or less. Refused as `relate_exact`
+/// is, and with `bad_option` for a number that is no relation.
+template <class Coordinate>
+[[nodiscard]] returned<bool> relate_one_exact(polyover::relation relation, polyover::fill fill,
+                                              basic_contours<Coordinate> subject,
+                                              detail::contours_of<Coordinate> clip) {
+    std::uint32_t holds = 0;
+    const polyover_status ended = detail::width<Coordinate>::relate_one_exact(
+        detail::number(relation), detail::number(fill), &subject.raw(), &clip.raw(), &holds);
+    return detail::answered(ended, holds != 0);
+}
+
+/// Returns the relations of one arrangement of both, whose points are rounded. Refused as `overlay` is, but for
+/// `bad_rule`.
 template <class Coordinate>
 [[nodiscard]] returned<relations> relate(polyover::fill fill, basic_contours<Coordinate> subject,
                                          detail::contours_of<Coordinate> clip,
@@ -1165,8 +1180,8 @@ template <class Coordinate>
     return detail::answered(ended, relations(bits));
 }
 
-/// Returns whether one relation holds, which takes less time than all of them. Refused as `relate` is, and with
-/// `bad_option` for a number that is no relation.
+/// Returns whether one relation holds of the arrangement, which takes less time than all of them. Refused as `relate`
+/// is, and with `bad_option` for a number that is no relation.
 template <class Coordinate>
 [[nodiscard]] returned<bool> relate_one(polyover::relation relation, polyover::fill fill,
                                         basic_contours<Coordinate> subject, detail::contours_of<Coordinate> clip,

@@ -302,16 +302,26 @@ export class Library {
 
   /** The bits of the relations that hold of the contours as they are given: nothing is rounded. */
   relate(asked, fill) {
-    return this.bits(asked, 0, suffixed("polyover_relate_exact", asked.kind), [fill]);
+    return this.told(asked, 0, suffixed("polyover_relate_exact", asked.kind), [fill]);
+  }
+
+  /** Whether the relation at a place in RELATIONS holds of them. */
+  relateOne(asked, at, fill) {
+    return this.told(asked, 0, suffixed("polyover_relate_one_exact", asked.kind), [1 << at, fill]) === 1;
   }
 
   /** The bits of those that hold of the arrangement, of coordinates of 64 bits times 2 to the power. */
   relateArranged(asked, fill, solver, power) {
-    return this.bits(asked, power, "polyover_relate", [fill, solver]);
+    return this.told(asked, power, "polyover_relate", [fill, solver]);
   }
 
-  /** The bits of relations that a call tells; its first arguments are given. */
-  bits({ groups, grid }, power, name, given) {
+  /** Whether one of them holds of it. */
+  relateOneArranged(asked, at, fill, solver, power) {
+    return this.told(asked, power, "polyover_relate_one", [1 << at, fill, solver]) === 1;
+  }
+
+  /** The number that a call tells of relations; its first arguments are given. */
+  told({ groups, grid }, power, name, given) {
     return this.hold((held) => {
       const both = groups.map((group) => this.contours(held, group, grid, power));
       const found = new Row(held, Uint32Array, 1);

@@ -7,7 +7,7 @@ import { BadInput } from "./errors.js";
 import { misfit, sideOf } from "./cells.js";
 import { isGeometry, partsOf } from "./geojson.js";
 import { EXACT, alike, askedOf, chosen, chosenAsGiven, chosenOfSteps, grouped } from "./given.js";
-import { listed, pointsOf, stepped } from "./given.js";
+import { listed, pointsOf, relationAt, stepped } from "./given.js";
 import { Prepared } from "./prepared.js";
 import { shown } from "./shown.js";
 
@@ -102,14 +102,22 @@ export class Polyover {
    * With another solver than "exact" they are those of an arrangement, told at the finest scale in the range.
    */
   relate(subject, clip, options = {}) {
-    const { fill, solver } = chosenAsGiven(options);
-    const isExact = solver === EXACT;
-    // (the regions of two geometries are the same under each rule: no polygons need be joined)
-    const rule = isExact && [subject, clip].every(isGeometry) ? NONZERO : fill;
-    return this.#filled({ subject, clip }, { fill: rule, solver: isExact ? SNAPPED : solver }, "lists", (asked) => {
-      const bits = isExact ? this.#library.relate(asked, rule) : this.#arrangedBits(asked, fill, solver);
-      return Object.fromEntries(RELATIONS.map((name, at) => [name, ((bits >> at) & 1) === 1]));
-    });
+    const bits = this.#related(subject, clip, options, (asked, fill) => this.#library.relate(asked, fill), (...asked) =>
+      this.#library.relateArranged(...asked),
+    );
+    return Object.fromEntries(RELATIONS.map((name, at) => [name, ((bits >> at) & 1) === 1]));
+  }
+
+  /** Whether the relation with the name holds, as `relate` tells it, in less time. */
+  relateOne(relation, subject, clip, options = {}) {
+    const at = relationAt(relation);
+    return this.#related(
+      subject,
+      clip,
+      options,
+      (asked, fill) => this.#library.relateOne(asked, at, fill),
+      (asked, ...how) => this.#library.relateOneArranged(asked, at, ...how),
+    );
   }
 
   /** The parts of open paths inside the shape; with `invert` those outside, with `boundary` those along it too. */
@@ -201,12 +209,24 @@ export class Polyover {
     return this.#asked([this.#contours("shape", shape)], "lists", (asked) => this.#library.isResolved(asked));
   }
 
-  /** The bits of the relations of an arrangement, of coordinates times the greatest power of two in the range. */
-  #arrangedBits(asked, fill, solver) {
-    const whole = { ...asked, groups: alike(asked.groups, Float64Array, asked.grid) };
-    const extent = this.#library.extent(whole);
-    const power = extent === 0n || extent > LIMIT ? 0 : (LIMIT / extent).toString(2).length - 1;
-    return this.#library.relateArranged(whole, fill, solver, power);
+  /**
+   * What is told of the contours as they are given, or of an arrangement: of coordinates times the greatest power of
+   * two in the range.
+   */
+  #related(subject, clip, options, toldExactly, toldOfArrangement) {
+    const { fill, solver } = chosenAsGiven(options);
+    const isExact = solver === EXACT;
+    // (the regions of two geometries are the same under each rule: no polygons need be joined)
+    const rule = isExact && [subject, clip].every(isGeometry) ? NONZERO : fill;
+    return this.#filled({ subject, clip }, { fill: rule, solver: isExact ? SNAPPED : solver }, "lists", (asked) => {
+      if (isExact) {
+        return toldExactly(asked, rule);
+      }
+      const whole = { ...asked, groups: alike(asked.groups, Float64Array, asked.grid) };
+      const extent = this.#library.extent(whole);
+      const power = extent === 0n || extent > LIMIT ? 0 : (LIMIT / extent).toString(2).length - 1;
+      return toldOfArrangement(whole, fill, solver, power);
+    });
   }
 
   // ---- what is given

@@ -1,6 +1,6 @@
 /** What is given to a call: groups of contours, paths or points, and options. */
 
-import { FILLS, LIMIT, LIMIT_32, Misplaced, RULES, SOLVERS } from "./abi.js";
+import { FILLS, LIMIT, LIMIT_32, Misplaced, RELATIONS, RULES, SOLVERS } from "./abi.js";
 import { areaOf } from "./area.js";
 import { BadInput } from "./errors.js";
 import { Flat, checkHeld, isNumbers } from "./flat.js";
@@ -59,6 +59,9 @@ export function chosenAsGiven(options) {
 export function chosenOfSteps(options) {
   return chosen(options, ["rule", "fill", "closed", "solver", "answer"], undefined, OF_STEPS);
 }
+
+/** The place of a relation, by its name. */
+export const relationAt = placeIn(RELATIONS, "relation");
 
 // ---- groups
 

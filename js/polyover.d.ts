@@ -260,6 +260,8 @@ export class Polyover {
   ): ShapesAs<NumberOf<P>>[F];
   /** Which relations hold of the contours as they are given: nothing is rounded. */
   relate(subject: Paths, clip: Paths, options?: RelateOptions): Relations;
+  /** Whether the relation holds, as `relate` tells it, in less time. */
+  relateOne(relation: keyof Relations, subject: Paths, clip: Paths, options?: RelateOptions): boolean;
   /** The parts of open paths inside the shape, or as the options say. */
   clip<P extends Paths, Q extends Paths, F extends Form = FormOf<P>>(
     shape: P,
@@ -395,6 +397,7 @@ export class RemotePolyover {
     options?: LookOptions & AnswerOptions<F>,
   ): Promise<ShapesAs<NumberOf<P>>[F]>;
   relate(subject: Paths, clip: Paths, options?: RelateOptions): Promise<Relations>;
+  relateOne(relation: keyof Relations, subject: Paths, clip: Paths, options?: RelateOptions): Promise<boolean>;
   clip<P extends Paths, Q extends Paths, F extends Form = FormOf<P>>(
     shape: P,
     lines: Q,

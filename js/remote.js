@@ -8,7 +8,8 @@ const THREADS = "node:worker_threads";
 const OF_PREPARED = ["locate", "contains"];
 const OF_ARRANGEMENT = ["overlay", "hierarchy", "edges"];
 const CALLS = [
-  ...["overlay", "hierarchy", "vectors", "simplify", "relate", "clip", "slice", "tiles", "locate", "edges", "trace"],
+  ...["overlay", "hierarchy", "vectors", "simplify", "relate", "relateOne", "clip", "slice", "tiles", "locate"],
+  ...["edges", "trace", "isResolved", "built"],
   ...["isResolved", "built"],
 ];
 

@@ -25,6 +25,7 @@ export async function asked(): Promise<unknown[]> {
   const found: { shapes: Shapes; links: Link[] } = polyover.hierarchy([square]);
   const relations: Relations = polyover.relate([square], arrays.contours);
   const exact: Relations = polyover.relate([square], [square], { solver: "exact" });
+  const one: boolean = polyover.relateOne("within", [square], [square], { solver: "exact" });
   const arranged: Relations = polyover.relate([square], [square], { fill: "evenodd", solver: "rounds" });
   const places: Location[] = polyover.locate([square], [[1, 1]]);
   const numbers: Uint8Array = polyover.locate([square], new Float64Array(2));

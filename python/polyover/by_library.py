@@ -25,8 +25,8 @@ RESULTS = ("overlay", "hierarchy", "simplify", "edges", "clip", "slice", "vector
 # the function of the library that each call takes
 TAKES = {
     **{name: f"polyover_{name}_result" for name in RESULTS},
-    **{name: f"polyover_{name}" for name in ("relate", "relate_one", "relate_exact", "locate", "arrange")},
-    **{name: f"polyover_{name}" for name in ("prepare", "prepare_exact")},
+    **{name: f"polyover_{name}" for name in ("relate", "relate_one", "relate_exact", "relate_one_exact")},
+    **{name: f"polyover_{name}" for name in ("locate", "arrange", "prepare", "prepare_exact")},
     "tiles": "polyover_slice_result",
     "slice_custom": "polyover_slice_custom_result",
     "is_resolved": "polyover_resolved",
@@ -175,6 +175,16 @@ def exact_bits(subject: Any, clip: Any, fill: str) -> int:
     both = asked.contours(subject), asked.contours(clip)
     check(asked.call("polyover_relate_exact", FILL_NUMBERS[fill], *both, relations))
     return relations.value
+
+
+def relate_one_exact(relation: str, subject: Any, clip: Any, fill: str) -> bool:
+    """Whether the relation with the name holds of the contours as they are given. (An older library tells all.)"""
+    if not can("relate_one_exact"):
+        return relate_exact(subject, clip, fill)[relation]
+    asked, holds = library(), c_uint32()
+    both = asked.contours(subject), asked.contours(clip)
+    check(asked.call("polyover_relate_one_exact", RELATION_BITS[relation], FILL_NUMBERS[fill], *both, holds))
+    return holds.value == 1
 
 
 def relate_one(relation: str, subject: Any, clip: Any, fill: str, solver: str) -> bool:

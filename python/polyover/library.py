@@ -248,6 +248,7 @@ FUNCTIONS = {
     "polyover_relate": (*TWO, POINTER(c_uint32)),
     "polyover_relate_one": (c_uint32, *TWO, POINTER(c_uint32)),
     "polyover_relate_exact": (c_uint32, CONTOURS, CONTOURS, POINTER(c_uint32)),
+    "polyover_relate_one_exact": (*TWO, POINTER(c_uint32)),
     "polyover_resolved": (CONTOURS,),
     "polyover_locate": (CONTOURS, *ARRAY, *ARRAY, POINTER(c_size_t)),
     "polyover_prepare": (c_uint32, c_uint32, CONTOURS, PREPARED),
@@ -270,6 +271,7 @@ FRAMED = {
     "polyover_resolved": (c_void_p,),
     "polyover_overlay": (c_uint32, c_uint32, *(c_void_p,) * 3, *(c_void_p, c_size_t) * 3, c_void_p),
     "polyover_relate_exact": (c_uint32, *(c_void_p,) * 3),
+    "polyover_relate_one_exact": (c_uint32, c_uint32, *(c_void_p,) * 3),
 }
 
 

@@ -383,12 +383,12 @@ class Scaled(RulesAtScale, EdgesAtScale):
         self, relation: str, subject: Group, clip: Group, fill: Fill, solver: RelationSolver | None
     ) -> bool:
         if solver is None or solver == AS_GIVEN:
-            found = small.relations(library(), self.axes, subject, clip, fill)
+            found = small.relations(library(), self.axes, subject, clip, fill, RELATION_BITS[relation])
             if found is not None:
-                return bool(found & RELATION_BITS[relation])
+                return bool(found)
             layers = self._layers(subject, clip, fill, solver)
             if layers:
-                return piecewise.relations(*layers, relations.bits_of_rows)[relation]
+                return piecewise.has_relation(relation, *layers, relations.holds_of_rows, relations.bits_of_rows)
         return relations.relate_one(relation, *self._related(subject, clip, fill, solver), solver=solver)
 
     def _layers(

@@ -48,7 +48,26 @@ fn at_each_rule<I: polyover::core::integer::OverlayInt + From<i8>, const N: usiz
         FillRule::Positive,
         FillRule::Negative,
     ];
-    rules.map(|rule| told(ExactPredicates::from_subj_and_clip_custom(&subject, &clip, rule).relations()))
+    rules.map(|rule| {
+        let predicates = ExactPredicates::from_subj_and_clip_custom(&subject, &clip, rule);
+        let all = told(predicates.relations());
+        assert_eq!(told_one_by_one(&predicates), all);
+        all
+    })
+}
+
+/// The names of the relations that hold, each asked alone.
+fn told_one_by_one<I: polyover::core::integer::OverlayInt>(it: &ExactPredicates<I>) -> Vec<&'static str> {
+    let all = [
+        (it.intersects(), "intersects"),
+        (it.interiors_intersect(), "interiors intersect"),
+        (it.touches(), "touches"),
+        (it.point_intersects(), "point"),
+        (it.within(), "within"),
+        (it.disjoint(), "disjoint"),
+        (it.covers(), "covers"),
+    ];
+    all.into_iter().filter(|it| it.0).map(|it| it.1).collect()
 }
 
 fn rows<I: polyover::core::integer::OverlayInt + From<i8>>() {
@@ -65,6 +84,12 @@ fn rows<I: polyover::core::integer::OverlayInt + From<i8>>() {
     let meet = ["intersects", "touches", "point"];
     // (each has one lobe that winds once, and one that winds -1 times)
     assert_eq!(told, [&meet[..], &meet, &meet, &meet].map(<[&str]>::to_vec));
+    // (squares with one corner, and with one side; the second runs clockwise)
+    let told = at_each_rule::<I, 4>([[0, 0], [2, 0], [2, 2], [0, 2]], [[2, 2], [4, 2], [4, 4], [2, 4]]);
+    assert_eq!(told, [&meet[..], &meet, &meet, &disjoint].map(<[&str]>::to_vec));
+    let told = at_each_rule::<I, 4>([[0, 0], [2, 0], [2, 2], [0, 2]], [[2, 0], [2, 2], [4, 2], [4, 0]]);
+    let along = ["intersects", "touches"];
+    assert_eq!(told, [&along[..], &along, &disjoint, &disjoint].map(<[&str]>::to_vec));
     // (thin triangles with one border, from (0, 0) to (5, 2): both counterclockwise)
     let told = at_each_rule::<I, 3>([[0, 0], [3, 1], [5, 2]], [[0, 0], [5, 2], [2, 1]]);
     let touch = ["intersects", "touches"];

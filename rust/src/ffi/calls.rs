@@ -119,6 +119,14 @@ pub(crate) trait Engine: 'static + Sized {
     fn relate_exact(fill: FillRule, subject: Given<'_, Self::C>, clip: Given<'_, Self::C>)
         -> Result<u32, OverlayError>;
 
+    /// Whether the relation with the bit holds of them.
+    fn relate_one_exact(
+        relation: u32,
+        fill: FillRule,
+        subject: Given<'_, Self::C>,
+        clip: Given<'_, Self::C>,
+    ) -> Result<bool, OverlayError>;
+
     /// Writes where points lie in resolved contours; there is a place for each point.
     fn locate(shape: Given<'_, Self::C>, points: &[Self::C], locations: &mut [u8]) -> Result<(), OverlayError>;
 
@@ -369,6 +377,18 @@ macro_rules! engine {
                 // SAFETY: as said above.
                 done(unsafe { sys::$width::relate_exact(fill.number(), &subject, &clip, &mut to) })?;
                 Ok(to)
+            }
+
+            fn relate_one_exact(
+                relation: u32,
+                fill: FillRule,
+                subject: Given<'_, $c>,
+                clip: Given<'_, $c>,
+            ) -> Result<bool, OverlayError> {
+                let (subject, clip, mut to) = (subject.raw(), clip.raw(), 0);
+                // SAFETY: as said above.
+                done(unsafe { sys::$width::relate_one_exact(relation, fill.number(), &subject, &clip, &mut to) })?;
+                Ok(to == 1)
             }
 
             fn locate(shape: Given<'_, $c>, points: &[$c], to: &mut [u8]) -> Result<(), OverlayError> {

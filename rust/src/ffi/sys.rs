@@ -242,6 +242,14 @@ macro_rules! calls {
                     clip: *const Contours<$c>,
                     relations: *mut u32,
                 ) -> Status;
+                #[link_name = concat!("polyover_relate_one_exact", $suffix)]
+                pub(crate) fn relate_one_exact(
+                    relation: u32,
+                    fill: u32,
+                    subject: *const Contours<$c>,
+                    clip: *const Contours<$c>,
+                    holds: *mut u32,
+                ) -> Status;
                 #[link_name = concat!("polyover_locate", $suffix)]
                 pub(crate) fn locate(
                     shape: *const Contours<$c>,
