@@ -10,7 +10,6 @@ const OF_ARRANGEMENT = ["overlay", "hierarchy", "edges"];
 const CALLS = [
   ...["overlay", "hierarchy", "vectors", "simplify", "relate", "relateOne", "clip", "slice", "tiles", "locate"],
   ...["edges", "trace", "isResolved", "built"],
-  ...["isResolved", "built"],
 ];
 
 /** A worker of Node with a browser's ways. */
