@@ -1,17 +1,19 @@
 /** The calls: contours, paths and points in, shapes, paths, edges, relations and locations out. */
 
 import { FILLS, LIMIT, Library, RELATIONS, RULES, SOLVERS } from "./abi.js";
-import { edgesIn, linesIn, linksIn, locationsIn, shapesIn } from "./answers.js";
+import { edgesIn, linesIn, linksIn, locationsIn, shapesIn, tracedIn, vectorsIn } from "./answers.js";
 import { Arrangement } from "./arrangement.js";
 import { BadInput } from "./errors.js";
 import { misfit, sideOf } from "./cells.js";
 import { isGeometry, partsOf } from "./geojson.js";
-import { EXACT, alike, askedOf, chosen, chosenAsGiven, grouped, listed, pointsOf, relationAt } from "./given.js";
+import { EXACT, alike, askedOf, chosen, chosenAsGiven, chosenOfSteps, grouped } from "./given.js";
+import { listed, pointsOf, relationAt, stepped } from "./given.js";
 import { Prepared } from "./prepared.js";
 import { shown } from "./shown.js";
 
 const LOOK = ["clockwise", "keep", "touching", "minimumArea", "solver"];
 const OVERLAY = ["rule", "fill", ...LOOK, "answer"];
+const VECTORS = OVERLAY.filter((name) => name !== "touching");
 const SIMPLIFY = ["fill", ...LOOK, "answer"];
 const CLIP = ["fill", "invert", "boundary", "solver", "answer"];
 const FILLED = ["fill", "solver", "answer"];
@@ -74,6 +76,17 @@ export class Polyover {
       const found = this.#library.hierarchy(asked, rule, fill, look);
       return { shapes: shapesIn(found, form), links: linksIn(found.links, form) };
     });
+  }
+
+  /**
+   * The shapes round the same region by their steps, each with the sum of the bits of its filled sides. Contours may
+   * touch themselves in points, and a point stays where the sides change.
+   */
+  vectors(subject, clip = [], options = {}) {
+    const { rule, fill, answer, ...look } = chosen(options, VECTORS, this.#grid);
+    return this.#filled({ subject, clip }, { fill, solver: look.solver }, answer, (asked, form) =>
+      vectorsIn(this.#library.vectors(asked, rule, fill, look), form),
+    );
   }
 
   /** The shapes round what the contours fill; one simple contour stays as it is given, or is reversed. */
@@ -180,6 +193,17 @@ export class Polyover {
     );
   }
 
+  /**
+   * The edges of the arrangement, all or by a rule, each with the steps of lists or arrays on which it lies; of open
+   * paths where `closed` is false.
+   */
+  trace(subject, clip = [], options = {}) {
+    const { rule, fill, closed, solver, answer } = chosenOfSteps(options);
+    return this.#asked([stepped("subject", subject), stepped("clip", clip)], answer, (asked, form) =>
+      tracedIn(this.#library.trace(asked, rule, fill, solver, closed), form),
+    );
+  }
+
   /** Whether `locate` takes the contours: whether two steps of one share points only where they are ends of both. */
   isResolved(shape) {
     return this.#asked([this.#contours("shape", shape)], "lists", (asked) => this.#library.isResolved(asked));
@@ -264,19 +288,22 @@ export class Polyover {
   /** The contours of a polygon: they wind once round what its outline winds round, and none of its holes does. */
   #coveredBy(place, [outline, ...holes]) {
     const around = this.#wound(place, outline);
-    if (holes.length === 0) {
+    const wound = holes.map((hole, at) => this.#wound(`${place}, ring ${at + 2}`, hole));
+    const within = wound.filter(({ coordinates }) => coordinates.length > 0);
+    if (within.length === 0) {
       return around;
     }
-    const within = holes.map((hole, at) => this.#wound(`${place}, ring ${at + 2}`, hole));
     const groups = [inOne([around]), inOne(within)];
     return this.#library.overlay({ groups, kind: BigInt64Array, grid: this.#grid }, DIFFERENCE, NONZERO, PLAIN);
   }
 
   /** The contours that wind once round what a ring winds round. (Rings that run against each other may overlap.) */
   #wound(place, ring) {
-    return this.#asked([listed(place, [ring])], "arrays", (asked) =>
-      this.#library.simplify({ ...asked, kind: BigInt64Array }, NONZERO, PLAIN),
-    );
+    return this.#asked([listed(place, [ring])], "arrays", ({ groups: [group], grid }) => {
+      const numbers = this.#library.withoutRepeats(group, grid);
+      const groups = [{ ...group, numbers, ends: Uint32Array.of(numbers.length / 2) }];
+      return this.#library.simplify({ groups, kind: BigInt64Array }, NONZERO, PLAIN);
+    });
   }
 }
 

@@ -139,7 +139,7 @@ class Held:
 
     @property
     def fills(self) -> memoryview:
-        """The bits of the filled sides of each edge."""
+        """The bits of the filled sides of each edge, or of each step."""
         return self.numbers(BYTES, self.result.fills, self.result.fill_count)
 
 
@@ -239,6 +239,7 @@ FUNCTIONS = {
     "polyover_overlay_result": (*OVERLAY, RESULT),
     "polyover_simplify_result": (c_uint32, POINTER(Options), CONTOURS, RESULT),
     "polyover_hierarchy_result": (*OVERLAY, RESULT),
+    "polyover_vectors_result": (*OVERLAY, RESULT),
     "polyover_edges_result": (*TWO, RESULT),
     "polyover_clip_result": (c_uint32, POINTER(ClipOptions), CONTOURS, CONTOURS, RESULT),
     "polyover_slice_result": (*TWO, RESULT),

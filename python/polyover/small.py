@@ -67,7 +67,7 @@ def listed(group: Any, at: int) -> Given | None:
     row: list[float] = []
     ends = []
     for path in group:
-        if type(path) not in LISTS or set(map(len, path)) != {2}:
+        if type(path) not in LISTS or not set(map(type, path)) <= LISTS or set(map(len, path)) != {2}:
             return None
         row += chain.from_iterable(path)
         ends.append(len(row) // 2)
