@@ -2,7 +2,6 @@
 //! `c/library*.c`). `scripts/dist` leaves the assembly, in which the names of calls are those of `polyover.h`.
 
 use super::sys;
-use super::traced::Traced;
 use ::core::ffi::{c_char, c_int, c_void};
 use ::core::hint::black_box;
 use ::core::sync::atomic::{AtomicBool, Ordering};
@@ -217,7 +216,7 @@ unsafe extern "C" fn polyover_graph_free_32(graph: *mut sys::Graph) {
 ///
 /// # Safety
 /// The pointer is to traced edges of the library.
-unsafe fn free_traced<C>(traced: *mut Traced<C>) {
+unsafe fn free_traced<C>(traced: *mut sys::Traced<C>) {
     // SAFETY: the caller's word.
     unsafe {
         let it = &mut *traced;
@@ -230,13 +229,13 @@ unsafe fn free_traced<C>(traced: *mut Traced<C>) {
 }
 
 #[no_mangle]
-unsafe extern "C" fn polyover_traced_free(traced: *mut Traced<i64>) {
+unsafe extern "C" fn polyover_traced_free(traced: *mut sys::Traced<i64>) {
     // SAFETY: the caller's word.
     unsafe { free_traced(traced) }
 }
 
 #[no_mangle]
-unsafe extern "C" fn polyover_traced_free_32(traced: *mut Traced<i32>) {
+unsafe extern "C" fn polyover_traced_free_32(traced: *mut sys::Traced<i32>) {
     // SAFETY: the caller's word.
     unsafe { free_traced(traced) }
 }
