@@ -104,140 +104,63 @@ unsafe fn free_array<T>(at: *const T, count: usize) {
     }
 }
 
-/// Frees the arrays of an answer, and leaves it without items.
-///
-/// # Safety
-/// The pointer is to an answer of the library.
-unsafe fn free_answer<C>(result: *mut sys::Answer<C>) {
-    // SAFETY: the caller's word.
-    unsafe {
-        let it = &mut *result;
-        free_array(it.coordinates, it.coordinate_count);
-        free_array(it.contour_ends, it.contour_count);
-        free_array(it.shape_ends, it.shape_count);
-        free_array(it.links, it.link_count);
-        free_array(it.fills, it.fill_count);
-        *it = ::core::mem::zeroed();
-    }
+/// A struct with arrays of the library.
+trait Arrays {
+    /// Frees its arrays.
+    ///
+    /// # Safety
+    /// The library left the struct, and its arrays are freed once.
+    unsafe fn free_arrays(&self);
 }
 
-/// Frees the arrays of a prepared shape, and leaves it without a boundary.
-///
-/// # Safety
-/// The pointer is to a prepared shape of the library.
-unsafe fn free_shape(prepared: *mut sys::Prepared) {
-    // SAFETY: the caller's word.
-    unsafe {
-        let it = &mut *prepared;
-        free_array(it.edges, it.edge_count);
-        free_array(it.blocks, it.block_count);
-        free_array(it.groups, it.group_count);
-        *it = ::core::mem::zeroed();
-    }
+/// Tells the arrays of a struct, each with the count of its items.
+macro_rules! arrays {
+    ($struct:ident $(<$c:ident>)?: $($array:ident[$count:ident]),*) => {
+        impl $(<$c>)? Arrays for sys::$struct $(<$c>)? {
+            unsafe fn free_arrays(&self) {
+                // SAFETY: the caller's word.
+                unsafe { $(free_array(self.$array, self.$count);)* }
+            }
+        }
+    };
 }
 
-/// Frees the arrays of a shape as it is given, and leaves it without edges.
-///
-/// # Safety
-/// The pointer is to such a shape of the library.
-unsafe fn free_exact(shape: *mut sys::Exact) {
-    // SAFETY: the caller's word.
-    unsafe {
-        let it = &mut *shape;
-        free_array(it.edges, it.edge_count);
-        free_array(it.blocks, it.block_count);
-        free_array(it.groups, it.group_count);
-        *it = ::core::mem::zeroed();
-    }
+arrays!(Answer<C>: coordinates[coordinate_count], contour_ends[contour_count], shape_ends[shape_count],
+    links[link_count], fills[fill_count]);
+arrays!(Prepared: edges[edge_count], blocks[block_count], groups[group_count]);
+arrays!(Exact: edges[edge_count], blocks[block_count], groups[group_count]);
+arrays!(Graph: edges[edge_count]);
+arrays!(Traced<C>: coordinates[coordinate_count], fills[fill_count], source_ends[source_end_count],
+    sources[source_count]);
+
+/// Makes calls that free the arrays of a struct of the library, and leave all its fields 0.
+macro_rules! frees {
+    ($($name:ident($struct:ty);)*) => {
+        $(
+            #[no_mangle]
+            unsafe extern "C" fn $name(at: *mut $struct) {
+                // SAFETY: the caller's word.
+                unsafe {
+                    let it = &mut *at;
+                    it.free_arrays();
+                    *it = ::core::mem::zeroed();
+                }
+            }
+        )*
+    };
 }
 
-/// Frees the edges of a graph, and leaves it without one.
-///
-/// # Safety
-/// The pointer is to a graph of the library.
-unsafe fn free_graph(graph: *mut sys::Graph) {
-    // SAFETY: the caller's word.
-    unsafe {
-        let it = &mut *graph;
-        free_array(it.edges, it.edge_count);
-        *it = ::core::mem::zeroed();
-    }
-}
-
-#[no_mangle]
-unsafe extern "C" fn polyover_free(result: *mut sys::Answer<i64>) {
-    // SAFETY: the caller's word.
-    unsafe { free_answer(result) }
-}
-
-#[no_mangle]
-unsafe extern "C" fn polyover_free_32(result: *mut sys::Answer<i32>) {
-    // SAFETY: the caller's word.
-    unsafe { free_answer(result) }
-}
-
-#[no_mangle]
-unsafe extern "C" fn polyover_prepared_free(prepared: *mut sys::Prepared) {
-    // SAFETY: the caller's word.
-    unsafe { free_shape(prepared) }
-}
-
-#[no_mangle]
-unsafe extern "C" fn polyover_prepared_free_32(prepared: *mut sys::Prepared) {
-    // SAFETY: the caller's word.
-    unsafe { free_shape(prepared) }
-}
-
-#[no_mangle]
-unsafe extern "C" fn polyover_exact_free(shape: *mut sys::Exact) {
-    // SAFETY: the caller's word.
-    unsafe { free_exact(shape) }
-}
-
-#[no_mangle]
-unsafe extern "C" fn polyover_exact_free_32(shape: *mut sys::Exact) {
-    // SAFETY: the caller's word.
-    unsafe { free_exact(shape) }
-}
-
-#[no_mangle]
-unsafe extern "C" fn polyover_graph_free(graph: *mut sys::Graph) {
-    // SAFETY: the caller's word.
-    unsafe { free_graph(graph) }
-}
-
-#[no_mangle]
-unsafe extern "C" fn polyover_graph_free_32(graph: *mut sys::Graph) {
-    // SAFETY: the caller's word.
-    unsafe { free_graph(graph) }
-}
-
-/// Frees the arrays of traced edges, and leaves none of them.
-///
-/// # Safety
-/// The pointer is to traced edges of the library.
-unsafe fn free_traced<C>(traced: *mut sys::Traced<C>) {
-    // SAFETY: the caller's word.
-    unsafe {
-        let it = &mut *traced;
-        free_array(it.coordinates, it.coordinate_count);
-        free_array(it.fills, it.fill_count);
-        free_array(it.source_ends, it.source_end_count);
-        free_array(it.sources, it.source_count);
-        *it = ::core::mem::zeroed();
-    }
-}
-
-#[no_mangle]
-unsafe extern "C" fn polyover_traced_free(traced: *mut sys::Traced<i64>) {
-    // SAFETY: the caller's word.
-    unsafe { free_traced(traced) }
-}
-
-#[no_mangle]
-unsafe extern "C" fn polyover_traced_free_32(traced: *mut sys::Traced<i32>) {
-    // SAFETY: the caller's word.
-    unsafe { free_traced(traced) }
+frees! {
+    polyover_free(sys::Answer<i64>);
+    polyover_free_32(sys::Answer<i32>);
+    polyover_prepared_free(sys::Prepared);
+    polyover_prepared_free_32(sys::Prepared);
+    polyover_exact_free(sys::Exact);
+    polyover_exact_free_32(sys::Exact);
+    polyover_graph_free(sys::Graph);
+    polyover_graph_free_32(sys::Graph);
+    polyover_traced_free(sys::Traced<i64>);
+    polyover_traced_free_32(sys::Traced<i32>);
 }
 
 // ---- what it is made of
