@@ -48,7 +48,7 @@ pub(crate) trait Engine: Width {
         subject: Given<'_, Self::C>,
         clip: Given<'_, Self::C>,
     ) -> Result<Held<Self>, OverlayError> {
-        let (rule, fill, options) = (rule.number(), fill.number(), Self::options(options));
+        let (rule, fill, options) = (rule.number(), fill.number(), options.raw());
         let (subject, clip) = (subject.raw(), clip.raw());
         // SAFETY: as said above.
         unsafe { Held::of(|to| (Self::CALLS.overlay)(rule, fill, &options, &subject, &clip, to)) }
@@ -62,7 +62,7 @@ pub(crate) trait Engine: Width {
         subject: Given<'_, Self::C>,
         clip: Given<'_, Self::C>,
     ) -> Result<Held<Self>, OverlayError> {
-        let (rule, fill, options) = (rule.number(), fill.number(), Self::options(options));
+        let (rule, fill, options) = (rule.number(), fill.number(), options.raw());
         let (subject, clip) = (subject.raw(), clip.raw());
         // SAFETY: as said above.
         unsafe { Held::of(|to| (Self::CALLS.hierarchy)(rule, fill, &options, &subject, &clip, to)) }
@@ -76,7 +76,7 @@ pub(crate) trait Engine: Width {
         subject: Given<'_, Self::C>,
         clip: Given<'_, Self::C>,
     ) -> Result<Held<Self>, OverlayError> {
-        let (rule, fill, options) = (rule.number(), fill.number(), Self::options(options));
+        let (rule, fill, options) = (rule.number(), fill.number(), options.raw());
         let (subject, clip) = (subject.raw(), clip.raw());
         // SAFETY: as said above.
         unsafe { Held::of(|to| (Self::CALLS.vectors)(rule, fill, &options, &subject, &clip, to)) }
@@ -84,7 +84,7 @@ pub(crate) trait Engine: Width {
 
     /// The shapes to which contours are simplified.
     fn simplify(fill: FillRule, options: &Options, contours: Given<'_, Self::C>) -> Result<Held<Self>, OverlayError> {
-        let (options, contours) = (Self::options(options), contours.raw());
+        let (options, contours) = (options.raw(), contours.raw());
         // SAFETY: as said above.
         unsafe { Held::of(|to| (Self::CALLS.simplify)(fill.number(), &options, &contours, to)) }
     }
@@ -96,7 +96,7 @@ pub(crate) trait Engine: Width {
         options: &Options,
         contours: Given<'_, Self::C>,
     ) -> Result<(Held<Self>, bool), OverlayError> {
-        let (fill, options, contours) = (fill.number(), Self::options(options), contours.raw());
+        let (fill, options, contours) = (fill.number(), options.raw(), contours.raw());
         let mut as_given = 0;
         let at = &mut as_given;
         // SAFETY: as said above.
@@ -111,7 +111,7 @@ pub(crate) trait Engine: Width {
         subject: Given<'_, Self::C>,
         lines: Given<'_, Self::C>,
     ) -> Result<Held<Self>, OverlayError> {
-        let (fill, options) = (fill.number(), Self::slice_options(options));
+        let (fill, options) = (fill.number(), options.raw());
         let (subject, lines) = (subject.raw(), lines.raw());
         // SAFETY: as said above.
         unsafe { Held::of(|to| (Self::CALLS.slice_custom)(fill, &options, &subject, &lines, to)) }

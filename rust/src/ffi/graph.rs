@@ -27,14 +27,14 @@ impl<W: Width> fmt::Debug for Arranged<W> {
 impl<W: Width> Arranged<W> {
     /// The shapes of an overlay.
     pub(crate) fn overlay(&self, rule: OverlayRule, options: &Options) -> Result<Held<W>, OverlayError> {
-        let (graph, options) = (&self.raw, W::options(options));
+        let (graph, options) = (&self.raw, options.raw());
         // SAFETY: all pointers are of values that outlive the call; the graph is one that `arrange` left.
         unsafe { Held::of(|to| (W::CALLS.graph_overlay)(graph, rule.number(), &options, to)) }
     }
 
     /// The shapes of an overlay, with links.
     pub(crate) fn hierarchy(&self, rule: OverlayRule, options: &Options) -> Result<Held<W>, OverlayError> {
-        let (graph, options) = (&self.raw, W::options(options));
+        let (graph, options) = (&self.raw, options.raw());
         // SAFETY: as for `overlay`.
         unsafe { Held::of(|to| (W::CALLS.graph_hierarchy)(graph, rule.number(), &options, to)) }
     }

@@ -24,42 +24,29 @@ pub(crate) struct Contours<C> {
     pub(crate) end_count: usize,
 }
 
-/// `polyover_options`.
+/// An area of 128 bits: `min_area_high` and `min_area_low`.
 #[repr(C)]
-pub(crate) struct Options64 {
+pub(crate) struct WideArea {
+    pub(crate) high: u64,
+    pub(crate) low: u64,
+}
+
+/// `polyover_options`, with areas of one width.
+#[repr(C)]
+pub(crate) struct Options<A> {
     pub(crate) direction: u32,
     pub(crate) keep: u32,
     pub(crate) touching: u32,
     pub(crate) solver: u32,
-    pub(crate) min_area_high: u64,
-    pub(crate) min_area_low: u64,
+    pub(crate) min_area: A,
 }
 
-/// `polyover_options_32`.
+/// `polyover_slice_options`, with areas of one width.
 #[repr(C)]
-pub(crate) struct Options32 {
-    pub(crate) direction: u32,
-    pub(crate) keep: u32,
-    pub(crate) touching: u32,
-    pub(crate) solver: u32,
-    pub(crate) min_area: u64,
-}
-
-/// `polyover_slice_options`.
-#[repr(C)]
-pub(crate) struct SliceOptions64 {
+pub(crate) struct SliceOptions<A> {
     pub(crate) direction: u32,
     pub(crate) solver: u32,
-    pub(crate) min_area_high: u64,
-    pub(crate) min_area_low: u64,
-}
-
-/// `polyover_slice_options_32`.
-#[repr(C)]
-pub(crate) struct SliceOptions32 {
-    pub(crate) direction: u32,
-    pub(crate) solver: u32,
-    pub(crate) min_area: u64,
+    pub(crate) min_area: A,
 }
 
 /// `polyover_clip_options`.
@@ -165,24 +152,23 @@ pub(crate) type Locate<Shape, C> = unsafe extern "C" fn(*const Shape, *const C, 
 /// A call that gives memory back, and leaves a struct of zeros.
 pub(crate) type Free<Held> = unsafe extern "C" fn(*mut Held);
 
-/// Declares calls once, for both widths: with coordinates `C`, options `O` and options of slices `S`. Each has its name
-/// in `polyover.h`, which at 32 bits ends in `_32`.
+/// Declares calls once, for both widths: with coordinates `C` and areas `A`. Each has its name in `polyover.h`, which
+/// at 32 bits ends in `_32`.
 macro_rules! calls {
     (@table $($name:ident = $text:literal($($argument:ident: $type:ty),*) $(-> $status:ty)?;)*) => {
         /// The calls at a width.
-        pub(crate) struct Calls<C, O, S> {
+        pub(crate) struct Calls<C, A> {
             $(pub(crate) $name: unsafe extern "C" fn($($argument: $type),*) $(-> $status)?,)*
         }
     };
-    (@width $width:ident, $c:ty, $o:ty, $s:ty, $suffix:literal;
+    (@width $width:ident, $c:ty, $a:ty, $suffix:literal;
         $($name:ident = $text:literal($($argument:ident: $type:ty),*) $(-> $status:ty)?;)*) => {
         /// The calls at this width.
         pub(super) mod $width {
             use super::*;
 
             type C = $c;
-            type O = $o;
-            type S = $s;
+            type A = $a;
 
             extern "C" {
                 $(
@@ -191,29 +177,29 @@ macro_rules! calls {
                 )*
             }
 
-            pub(crate) const CALLS: Calls<C, O, S> = Calls { $($name),* };
+            pub(crate) const CALLS: Calls<C, A> = Calls { $($name),* };
         }
     };
     ($($calls:tt)*) => {
         calls!(@table $($calls)*);
-        calls!(@width wide, i64, Options64, SliceOptions64, ""; $($calls)*);
-        calls!(@width narrow, i32, Options32, SliceOptions32, "_32"; $($calls)*);
+        calls!(@width wide, i64, WideArea, ""; $($calls)*);
+        calls!(@width narrow, i32, u64, "_32"; $($calls)*);
     };
 }
 
 calls! {
-    overlay = "polyover_overlay_result"(rule: u32, fill: u32, options: *const O, subject: *const Contours<C>,
+    overlay = "polyover_overlay_result"(rule: u32, fill: u32, options: *const Options<A>, subject: *const Contours<C>,
         clip: *const Contours<C>, result: *mut Answer<C>) -> Status;
-    hierarchy = "polyover_hierarchy_result"(rule: u32, fill: u32, options: *const O, subject: *const Contours<C>,
+    hierarchy = "polyover_hierarchy_result"(rule: u32, fill: u32, options: *const Options<A>,
+        subject: *const Contours<C>, clip: *const Contours<C>, result: *mut Answer<C>) -> Status;
+    vectors = "polyover_vectors_result"(rule: u32, fill: u32, options: *const Options<A>, subject: *const Contours<C>,
         clip: *const Contours<C>, result: *mut Answer<C>) -> Status;
-    vectors = "polyover_vectors_result"(rule: u32, fill: u32, options: *const O, subject: *const Contours<C>,
-        clip: *const Contours<C>, result: *mut Answer<C>) -> Status;
-    simplify = "polyover_simplify_result"(fill: u32, options: *const O, contours: *const Contours<C>,
+    simplify = "polyover_simplify_result"(fill: u32, options: *const Options<A>, contours: *const Contours<C>,
         result: *mut Answer<C>) -> Status;
-    simplify_shape = "polyover_simplify_shape_result"(fill: u32, options: *const O, contours: *const Contours<C>,
-        result: *mut Answer<C>, as_given: *mut u32) -> Status;
-    slice_custom = "polyover_slice_custom_result"(fill: u32, options: *const S, subject: *const Contours<C>,
-        lines: *const Contours<C>, result: *mut Answer<C>) -> Status;
+    simplify_shape = "polyover_simplify_shape_result"(fill: u32, options: *const Options<A>,
+        contours: *const Contours<C>, result: *mut Answer<C>, as_given: *mut u32) -> Status;
+    slice_custom = "polyover_slice_custom_result"(fill: u32, options: *const SliceOptions<A>,
+        subject: *const Contours<C>, lines: *const Contours<C>, result: *mut Answer<C>) -> Status;
     slice = "polyover_slice_result"(fill: u32, solver: u32, subject: *const Contours<C>, lines: *const Contours<C>,
         result: *mut Answer<C>) -> Status;
     tiles = "polyover_tiles_result"(fill: u32, solver: u32, subject: *const Contours<C>, width: C, height: C,
@@ -241,9 +227,9 @@ calls! {
         locations: *mut u8, location_room: usize) -> Status;
     arrange = "polyover_arrange"(fill: u32, solver: u32, keep_given: u32, subject: *const Contours<C>,
         clip: *const Contours<C>, graph: *mut Graph) -> Status;
-    graph_overlay = "polyover_graph_overlay_result"(graph: *const Graph, rule: u32, options: *const O,
+    graph_overlay = "polyover_graph_overlay_result"(graph: *const Graph, rule: u32, options: *const Options<A>,
         result: *mut Answer<C>) -> Status;
-    graph_hierarchy = "polyover_graph_hierarchy_result"(graph: *const Graph, rule: u32, options: *const O,
+    graph_hierarchy = "polyover_graph_hierarchy_result"(graph: *const Graph, rule: u32, options: *const Options<A>,
         result: *mut Answer<C>) -> Status;
     graph_edges = "polyover_graph_edges_result"(graph: *const Graph, result: *mut Answer<C>) -> Status;
     trace = "polyover_trace"(rule: u32, fill: u32, solver: u32, edges: *const EdgeList<C>,

@@ -5,27 +5,19 @@ use super::held::Held;
 use super::ready::{Prepared, Raw, Ready};
 use super::sys;
 use crate::core::answer::Either;
-use crate::engine::options::{Options, SliceOptions};
+use crate::engine::options::Area;
 
 /// A width at which the library computes.
 pub(crate) trait Width: 'static + Sized {
     /// Its coordinates.
     type C: Copy + Ord + Default + Into<i64>;
-    /// Its options.
-    type O;
-    /// Its options of slices.
-    type S;
+    /// Its areas.
+    type A: Area;
 
     /// The calls of the library.
-    const CALLS: sys::Calls<Self::C, Self::O, Self::S>;
+    const CALLS: sys::Calls<Self::C, Self::A>;
     /// The end of the coordinate range.
     const END: Self::C;
-
-    /// Options as the calls take them.
-    fn options(of: &Options) -> Self::O;
-
-    /// Options of slices as the calls take them.
-    fn slice_options(of: &SliceOptions) -> Self::S;
 
     /// An answer as one of either width.
     fn either(held: Held<Self>) -> Either;
@@ -37,24 +29,14 @@ pub(crate) trait Width: 'static + Sized {
     fn graph(arranged: Arranged<Self>) -> Graph;
 }
 
-// A width, whose calls and options have one name.
 macro_rules! width {
-    ($name:ident, $c:ty, $o:ty, $s:ty, $calls:ident) => {
+    ($name:ident, $c:ty, $a:ty, $calls:ident) => {
         impl Width for $name {
             type C = $c;
-            type O = $o;
-            type S = $s;
+            type A = $a;
 
-            const CALLS: sys::Calls<$c, $o, $s> = sys::$calls::CALLS;
+            const CALLS: sys::Calls<$c, $a> = sys::$calls::CALLS;
             const END: $c = <$c>::MAX >> 1;
-
-            fn options(of: &Options) -> $o {
-                of.$calls()
-            }
-
-            fn slice_options(of: &SliceOptions) -> $s {
-                of.$calls()
-            }
 
             fn either(held: Held<Self>) -> Either {
                 Either::$name(held)
@@ -76,5 +58,5 @@ pub(crate) struct Wide;
 /// At 32 bits.
 pub(crate) struct Narrow;
 
-width!(Wide, i64, sys::Options64, sys::SliceOptions64, wide);
-width!(Narrow, i32, sys::Options32, sys::SliceOptions32, narrow);
+width!(Wide, i64, sys::WideArea, wide);
+width!(Narrow, i32, u64, narrow);
