@@ -23,30 +23,30 @@ impl<W: Width> Held<W> {
     /// Coordinates of all points.
     pub(crate) fn coordinates(&self) -> &[W::C] {
         // SAFETY: after `POLYOVER_OK` each array has as many items as its count tells (polyover.h).
-        unsafe { items(self.raw.coordinates, self.raw.coordinate_count) }
+        unsafe { items(&self.raw.coordinates) }
     }
 
     /// How many points there are up to the end of each contour, or of each path.
     pub(crate) fn contour_ends(&self) -> &[usize] {
         // SAFETY: as above.
-        unsafe { items(self.raw.contour_ends, self.raw.contour_count) }
+        unsafe { items(&self.raw.contour_ends) }
     }
 
     /// How many contours there are up to the end of each shape.
     pub(crate) fn shape_ends(&self) -> &[usize] {
         // SAFETY: as above.
-        unsafe { items(self.raw.shape_ends, self.raw.shape_count) }
+        unsafe { items(&self.raw.shape_ends) }
     }
 
     /// Which shapes lie in which holes.
     pub(crate) fn links(&self) -> &[sys::Link] {
         // SAFETY: as above.
-        unsafe { items(self.raw.links, self.raw.link_count) }
+        unsafe { items(&self.raw.links) }
     }
 
     /// Which sides of each edge are filled.
     pub(crate) fn fills(&self) -> &[u8] {
         // SAFETY: as above.
-        unsafe { items(self.raw.fills, self.raw.fill_count) }
+        unsafe { items(&self.raw.fills) }
     }
 }

@@ -93,47 +93,45 @@ unsafe extern "C" fn polyover_rattle_dealloc(at: *mut c_void) {
 
 // ---- what is freed
 
-/// Frees an array; an array without items has no memory.
+/// Frees a list; a list without items has no memory.
 ///
 /// # Safety
-/// An array with items is a block of malloc, and is freed once.
-unsafe fn free_array<T>(at: *const T, count: usize) {
-    if count != 0 {
+/// A list with items is a block of malloc, and is freed once.
+unsafe fn free_list<T>(list: &sys::List<T>) {
+    if list.count != 0 {
         // SAFETY: the caller's word.
-        unsafe { free(at.cast_mut().cast()) }
+        unsafe { free(list.at.cast_mut().cast()) }
     }
 }
 
-/// A struct with arrays of the library.
-trait Arrays {
-    /// Frees its arrays.
+/// A struct with lists of the library.
+trait Lists {
+    /// Frees its lists.
     ///
     /// # Safety
-    /// The library left the struct, and its arrays are freed once.
-    unsafe fn free_arrays(&self);
+    /// The library left the struct, and its lists are freed once.
+    unsafe fn free_lists(&self);
 }
 
-/// Tells the arrays of a struct, each with the count of its items.
-macro_rules! arrays {
-    ($struct:ident $(<$c:ident>)?: $($array:ident[$count:ident]),*) => {
-        impl $(<$c>)? Arrays for sys::$struct $(<$c>)? {
-            unsafe fn free_arrays(&self) {
+/// Tells the lists of a struct.
+macro_rules! lists {
+    ($struct:ident $(<$c:ident>)?: $($list:ident),*) => {
+        impl $(<$c>)? Lists for sys::$struct $(<$c>)? {
+            unsafe fn free_lists(&self) {
                 // SAFETY: the caller's word.
-                unsafe { $(free_array(self.$array, self.$count);)* }
+                unsafe { $(free_list(&self.$list);)* }
             }
         }
     };
 }
 
-arrays!(Answer<C>: coordinates[coordinate_count], contour_ends[contour_count], shape_ends[shape_count],
-    links[link_count], fills[fill_count]);
-arrays!(Prepared: edges[edge_count], blocks[block_count], groups[group_count]);
-arrays!(Exact: edges[edge_count], blocks[block_count], groups[group_count]);
-arrays!(Graph: edges[edge_count]);
-arrays!(Traced<C>: coordinates[coordinate_count], fills[fill_count], source_ends[source_end_count],
-    sources[source_count]);
+lists!(Answer<C>: coordinates, contour_ends, shape_ends, links, fills);
+lists!(Prepared: edges, blocks, groups);
+lists!(Exact: edges, blocks, groups);
+lists!(Graph: edges);
+lists!(Traced<C>: coordinates, fills, source_ends, sources);
 
-/// Makes calls that free the arrays of a struct of the library, and leave all its fields 0.
+/// Makes calls that free the lists of a struct of the library, and leave all its fields 0.
 macro_rules! frees {
     ($($name:ident($struct:ty);)*) => {
         $(
@@ -142,7 +140,7 @@ macro_rules! frees {
                 // SAFETY: the caller's word.
                 unsafe {
                     let it = &mut *at;
-                    it.free_arrays();
+                    it.free_lists();
                     *it = ::core::mem::zeroed();
                 }
             }

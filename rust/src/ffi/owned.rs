@@ -53,14 +53,14 @@ impl<W: Width, R: Freed<W>> Owned<W, R> {
     }
 }
 
-/// The items of an array of such a struct.
+/// The items of a list of such a struct.
 ///
 /// # Safety
 /// Where the count is not 0, they are initialized and stay for as long as the struct.
-pub(super) unsafe fn items<'a, T>(at: *const T, count: usize) -> &'a [T] {
-    if count == 0 {
+pub(super) unsafe fn items<T>(list: &sys::List<T>) -> &[T] {
+    if list.count == 0 {
         return &[];
     }
     // SAFETY: the caller's word; an array of the library is aligned and smaller than `isize::MAX` bytes.
-    unsafe { slice::from_raw_parts(at, count) }
+    unsafe { slice::from_raw_parts(list.at, list.count) }
 }

@@ -15,13 +15,26 @@ pub(crate) const TOO_MANY_EDGES: Status = 9;
 /// `POLYOVER_PROVED`.
 pub(crate) const PROVED: u32 = 1;
 
+/// An array, and how many items it has: two fields of `polyover.h`, one behind the other.
+#[repr(C)]
+pub(crate) struct List<T> {
+    pub(crate) at: *const T,
+    pub(crate) count: usize,
+}
+
+impl<T> List<T> {
+    /// The items of a slice: of use for as long as these.
+    pub(crate) fn of(items: &[T]) -> Self {
+        let (at, count) = (items.as_ptr(), items.len());
+        Self { at, count }
+    }
+}
+
 /// `polyover_contours` and `polyover_paths`, of coordinates of one width.
 #[repr(C)]
 pub(crate) struct Contours<C> {
-    pub(crate) coordinates: *const C,
-    pub(crate) coordinate_count: usize,
-    pub(crate) ends: *const usize,
-    pub(crate) end_count: usize,
+    pub(crate) coordinates: List<C>,
+    pub(crate) ends: List<usize>,
 }
 
 /// An area of 128 bits: `min_area_high` and `min_area_low`.
@@ -69,46 +82,34 @@ pub(crate) struct Link {
 /// `polyover_result`, of coordinates of one width.
 #[repr(C)]
 pub(crate) struct Answer<C> {
-    pub(crate) coordinates: *const C,
-    pub(crate) coordinate_count: usize,
-    pub(crate) contour_ends: *const usize,
-    pub(crate) contour_count: usize,
-    pub(crate) shape_ends: *const usize,
-    pub(crate) shape_count: usize,
-    pub(crate) links: *const Link,
-    pub(crate) link_count: usize,
-    pub(crate) fills: *const u8,
-    pub(crate) fill_count: usize,
+    pub(crate) coordinates: List<C>,
+    pub(crate) contour_ends: List<usize>,
+    pub(crate) shape_ends: List<usize>,
+    pub(crate) links: List<Link>,
+    pub(crate) fills: List<u8>,
 }
 
 /// `polyover_prepared`, the same at both widths.
 #[repr(C)]
 pub(crate) struct Prepared {
-    pub(crate) edges: *const u8,
-    pub(crate) edge_count: usize,
-    pub(crate) blocks: *const u8,
-    pub(crate) block_count: usize,
-    pub(crate) groups: *const u8,
-    pub(crate) group_count: usize,
+    pub(crate) edges: List<u8>,
+    pub(crate) blocks: List<u8>,
+    pub(crate) groups: List<u8>,
 }
 
 /// `polyover_exact`, the same at both widths.
 #[repr(C)]
 pub(crate) struct Exact {
-    pub(crate) edges: *const u8,
-    pub(crate) edge_count: usize,
-    pub(crate) blocks: *const u8,
-    pub(crate) block_count: usize,
-    pub(crate) groups: *const u8,
-    pub(crate) group_count: usize,
+    pub(crate) edges: List<u8>,
+    pub(crate) blocks: List<u8>,
+    pub(crate) groups: List<u8>,
     pub(crate) fill: u32,
 }
 
 /// `polyover_graph`, the same at both widths.
 #[repr(C)]
 pub(crate) struct Graph {
-    pub(crate) edges: *const u8,
-    pub(crate) edge_count: usize,
+    pub(crate) edges: List<u8>,
     pub(crate) fill: u32,
     pub(crate) solver: u32,
     pub(crate) keep_given: u32,
@@ -117,10 +118,8 @@ pub(crate) struct Graph {
 /// `polyover_edge_list`, of coordinates of one width.
 #[repr(C)]
 pub(crate) struct EdgeList<C> {
-    pub(crate) coordinates: *const C,
-    pub(crate) coordinate_count: usize,
-    pub(crate) sides: *const u8,
-    pub(crate) side_count: usize,
+    pub(crate) coordinates: List<C>,
+    pub(crate) sides: List<u8>,
 }
 
 /// `polyover_source`.
@@ -136,14 +135,10 @@ pub(crate) struct Source {
 /// `polyover_traced`, of coordinates of one width.
 #[repr(C)]
 pub(crate) struct Traced<C> {
-    pub(crate) coordinates: *const C,
-    pub(crate) coordinate_count: usize,
-    pub(crate) fills: *const u8,
-    pub(crate) fill_count: usize,
-    pub(crate) source_ends: *const usize,
-    pub(crate) source_end_count: usize,
-    pub(crate) sources: *const Source,
-    pub(crate) source_count: usize,
+    pub(crate) coordinates: List<C>,
+    pub(crate) fills: List<u8>,
+    pub(crate) source_ends: List<usize>,
+    pub(crate) sources: List<Source>,
 }
 
 /// A call that writes where points lie in a shape that is made ready.

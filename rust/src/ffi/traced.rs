@@ -1,7 +1,7 @@
 //! Edges that are given one by one, and traced edges in memory of the library.
 
 use super::owned::{items, Freed, Owned};
-use super::sys::{self, EdgeList, Source, Traced};
+use super::sys::{self, EdgeList, List, Source, Traced};
 use super::width::Width;
 
 impl<C> EdgeList<C> {
@@ -9,10 +9,8 @@ impl<C> EdgeList<C> {
     /// for as long as the lists.
     pub(super) fn of(coordinates: &[C], sides: &[u8]) -> Self {
         Self {
-            coordinates: coordinates.as_ptr(),
-            coordinate_count: coordinates.len(),
-            sides: sides.as_ptr(),
-            side_count: sides.len(),
+            coordinates: List::of(coordinates),
+            sides: List::of(sides),
         }
     }
 }
@@ -41,24 +39,24 @@ impl<W: Width> HeldTrace<W> {
     /// Coordinates of both ends of each edge.
     pub(crate) fn coordinates(&self) -> &[W::C] {
         // SAFETY: after `POLYOVER_OK` each array has as many items as its count tells (polyover.h).
-        unsafe { items(self.raw.coordinates, self.raw.coordinate_count) }
+        unsafe { items(&self.raw.coordinates) }
     }
 
     /// Which sides of each edge are filled.
     pub(crate) fn fills(&self) -> &[u8] {
         // SAFETY: as above.
-        unsafe { items(self.raw.fills, self.raw.fill_count) }
+        unsafe { items(&self.raw.fills) }
     }
 
     /// How many sources there are up to the end of each edge.
     pub(crate) fn source_ends(&self) -> &[usize] {
         // SAFETY: as above.
-        unsafe { items(self.raw.source_ends, self.raw.source_end_count) }
+        unsafe { items(&self.raw.source_ends) }
     }
 
     /// The given edges that the edges come from, edge by edge.
     pub(crate) fn sources(&self) -> &[Source] {
         // SAFETY: as above.
-        unsafe { items(self.raw.sources, self.raw.source_count) }
+        unsafe { items(&self.raw.sources) }
     }
 }
