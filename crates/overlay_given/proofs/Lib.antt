@@ -22,6 +22,7 @@ pub mod Sums
 pub mod ToldContacts
 pub mod ToldRelations
 pub mod UncrossedEdges
+pub mod UprightEdges
 pub mod WalkSteps
 pub mod Walked
 pub mod Winds

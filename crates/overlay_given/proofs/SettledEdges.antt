@@ -15,11 +15,11 @@ use Rattle.overlay_exact.proofs.CrossingParts.{shares_at}
 use Rattle.overlay_given.specs.Crossing.{cross, crosses_line}
 
 -- the ends of f lie on different sides of the line of e
-abbrev AreOpposite : Edge → Edge → Type 0
+abbrev pub AreOpposite : Edge → Edge → Type 0
 AreOpposite e f = ((pos 0 <ℤ cross_at e.a e.b f.a) × (cross_at e.a e.b f.b <ℤ pos 0))
     ⊎ ((cross_at e.a e.b f.a <ℤ pos 0) × (pos 0 <ℤ cross_at e.a e.b f.b))
 
-opposite_of_test : (e f : Edge) → crosses_line e f ≡ true → AreOpposite e f
+pub opposite_of_test : (e f : Edge) → crosses_line e f ≡ true → AreOpposite e f
 opposite_of_test e f =
     let s = cross_at e.a e.b f.a in
     let t = cross_at e.a e.b f.b in

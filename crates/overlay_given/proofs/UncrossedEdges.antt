@@ -21,14 +21,17 @@ use Rattle.overlay_plane.proofs.LinesWithin.{only_common_is_end}
 use Rattle.overlay_plane.proofs.Placements.{AreCrossing, by_placement, both_across, beside_have_no_common}
 use Rattle.overlay_plane.proofs.WholeOnEdges.{at_itself, by_end, forward_from_test, side_at}
 use Rattle.overlay_plane.proofs.WholePlaces.{at_moved}
-use Rattle.overlay_order.specs.Content.{IsHeld}
+use Rattle.overlay_order.specs.Content.{IsHeld, IsAscending}
 use Rattle.overlay_pairs.specs.Near.{AreNear}
 use Rattle.overlay_pairs.specs.Places.{IsAt, AreSettledBefore}
 use Rattle.overlay_pairs.proofs.Entries.{one_entry}
+use Rattle.overlay_pairs.proofs.SettledLists.{starts_no_further_left}
+use Rattle.overlay_exact.proofs.ToldMeetings.{less_at}
 use Rattle.overlay_given.specs.Crossing.{cross, crosses_line}
 use Rattle.overlay_given.specs.Uncrossed.{SomeCross, NoneCross, CrossesNoneBehind, CrossesSomeBehind}
 use Rattle.overlay_given.proofs.NearTests.{FailsAt, edges_cross}
 use Rattle.overlay_given.proofs.SettledEdges.{settled_uncrossed}
+use Rattle.overlay_given.proofs.UprightEdges.{upright_uncrossed}
 
 -- ---- two edges
 
@@ -150,7 +153,15 @@ module _ (limit : ℕ) (es : List CountedEdge) (held : All (IsHeld limit) es) wh
       settled)
       ((near e at_e).all k f (omega (arith, past)) at_f)
 
-  -- so do the edges before place n
+  -- an upright edge crosses none
+  pub none_behind_upright : IsAscending es → (i : ℕ) (u : CountedEdge) → IsAt es i u → u.b.x ≡ u.a.x →
+      CrossesNoneBehind es i
+  none_behind_upright up i u at upright k e f past at_e at_f =
+      upright_uncrossed (ends_of e) (ends_of f) (leads e (i, at_e.0, at_e.1)) (leads f (k, at_f.0, at_f.1))
+      (subst (λ (g : CountedEdge). g.b.x ≡ g.a.x) (one_entry es i u e at at_e) upright)
+      (starts_no_further_left (ends_of e) (ends_of f) (less_at es i e at_e up i k e f past at_e at_f))
+
+  -- the edges before place n meet later edges in ends alone
   pub none_behind_settled : (n : ℕ) → AreSettledBefore es n → (i : ℕ) → i < n → CrossesNoneBehind es i
   none_behind_settled n settled i less k e f past at_e at_f =
       settled_uncrossed (ends_of e) (ends_of f) (leads e (i, at_e.0, at_e.1)) (leads f (k, at_f.0, at_f.1))

@@ -1,6 +1,6 @@
 //! Where edges meet: in ends alone, without crossing, or anywhere. Edges that do not cross meet in whole points.
 
-ghost use Rattle.std.specs.Prelude.{◌≡◌, ◌<◌, true, false, length, All, IfOk, IfSome};
+ghost use Rattle.std.specs.Prelude.{◌≡◌, ◌↔◌, ◌<◌, true, false, length, All, IsTrue, IfOk, IfSome};
 ghost use Rattle.overlay_order.specs.Content.{plain_edges, IsHeld, IsAscending};
 ghost use Rattle.overlay_pairs.specs.Near.{AreNear};
 ghost use Rattle.overlay_pairs.specs.Places.{AreSettledBefore};
@@ -67,12 +67,41 @@ fn none_cross<I: IntNumber, C: EdgeCount, A: Allocator>(
 {
     let mut near = Vec::new(alloc);
     for i in from..edges.len() {
-        find_open(&mut near, edges, strips, &None, i)?;
-        if !crosses_none(edges, i, &near) {
+        let none = crosses_none_behind(&mut near, edges, strips, i)?;
+        if !none {
             return Ok(false);
         }
     }
     Ok(true)
+}
+
+// Returns whether the edge at place i crosses no later edge. An upright edge does not: later edges start on its line,
+// or right of it. It leaves places in `near`.
+fn crosses_none_behind<I: IntNumber, C: EdgeCount, A: Allocator>(
+    near: &mut Vec<usize, A>,
+    edges: &[CountedEdge<I, C>],
+    strips: &Option<Strips<I, A>>,
+    i: usize,
+) -> Result<bool, AllocError>
+    requires held { All (IsHeld I.limit) (plain_edges I.whole C.counts edges.now) }
+    requires ascending { IsAscending (plain_edges I.whole C.counts edges.now) }
+    requires strips { IfSome strips.now (AreHeldStripsOf I.whole I.limit (plain_edges I.whole C.counts edges.now)) }
+    requires within { i < length edges.now }
+    ensures none { IfOk result (λ b. b ≡ true → CrossesNoneBehind (plain_edges I.whole C.counts edges.now) i) }
+    ensures some { IfOk result (λ b. b ≡ false → CrossesSomeBehind (plain_edges I.whole C.counts edges.now) i) }
+{
+    if is_upright(&edges[i]) {
+        return Ok(true);
+    }
+    find_open(near, edges, strips, &None, i)?;
+    Ok(crosses_none(edges, i, near))
+}
+
+// Returns whether the ends of the edge have one x-coordinate.
+fn is_upright<I: IntNumber, C: EdgeCount>(e: &CountedEdge<I, C>) -> bool
+    ensures { IsTrue result ↔ I.whole e.now.b.x ≡ I.whole e.now.a.x }
+{
+    e.b.x.compare(e.a.x).is_eq()
 }
 
 // Returns whether the edge at place i crosses no later edge. It meets those at other places than `near` in ends alone.
