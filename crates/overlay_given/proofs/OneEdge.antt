@@ -62,8 +62,8 @@ one_first shape es i j e at_e first other = ⊎_elim
     (eq-or-lt_of_le le))
     (cases_lt i j)
 
-module _ (test : SideTest) (filled : ℤ → Bool) (es : List CountedEdge) (subj clip : ℕ) (of_subj : IsFirstOf Subject es subj)
-    (of_clip : IsFirstOf Clip es clip) where
+module _ (test : SideTest) (filled : ℤ → Bool) (es : List CountedEdge) (subj clip : ℕ)
+    (of_subj : IsFirstOf Subject es subj) (of_clip : IsFirstOf Clip es clip) where
   -- it is the place of a piece that passes
   found_at : (shape : ShapeType) (i j : ℕ) → IsFirstOf shape es i → IsFirstOf shape es j → PassesOn test filled es i →
       PassesOn test filled es j

@@ -28,5 +28,6 @@ returns g c =
           (λ b. IsTrue b ↔ SomeFirstPasses test filled es)
           (firsts_tell test filled es c.first_of-subj.result c.first_of-clip.result c.first_of-subj.ensures
           c.first_of-clip.ensures
-          (λ passes. false≢true (sym c.if-passes.false ∙ c.in_ok-passes.ensures.ok.1 passes))) c.edge_passes-2.ensures.ok;
+          (λ passes. false≢true (sym c.if-passes.false ∙ c.in_ok-passes.ensures.ok.1 passes)))
+          c.edge_passes-2.ensures.ok;
     }

@@ -8,5 +8,5 @@ use Rattle.overlay_predicates.proofs.relate_exact.AnyIntRelateExact.covers_exact
 pub returns : goal.returns
 returns g c =
     let made = c.in_ok-predicates.ensures in
-    relation_of_two PathsCover Covers (clip_within false) _ _ c.in_ok-predicates.predicates c.covers.result made.ok made.made
-    c.covers.ensures
+    relation_of_two PathsCover Covers (clip_within false) _ _ c.in_ok-predicates.predicates
+    c.covers.result made.ok made.made c.covers.ensures

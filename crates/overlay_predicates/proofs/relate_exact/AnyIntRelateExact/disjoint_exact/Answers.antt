@@ -8,5 +8,5 @@ use Rattle.overlay_predicates.proofs.relate_exact.AnyIntRelateExact.disjoint_exa
 pub returns : goal.returns
 returns g c =
     let made = c.in_ok-predicates.ensures in
-    relation_of_two ArePathsApart AreContentsApart (path_apart false) _ _ c.in_ok-predicates.predicates c.disjoint.result made.ok made.made
-    c.disjoint.ensures
+    relation_of_two ArePathsApart AreContentsApart (path_apart false) _ _ c.in_ok-predicates.predicates
+    c.disjoint.result made.ok made.made c.disjoint.ensures

@@ -8,5 +8,5 @@ use Rattle.overlay_predicates.proofs.relate_exact.AnyIntRelateExact.interiors_in
 pub returns : goal.returns
 returns g c =
     let made = c.in_ok-predicates.ensures in
-    relation_of_two PathInteriorsIntersect InteriorsIntersect (interiors false) _ _ c.in_ok-predicates.predicates c.interiors_intersect.result made.ok made.made
-    c.interiors_intersect.ensures
+    relation_of_two PathInteriorsIntersect InteriorsIntersect (interiors false) _ _ c.in_ok-predicates.predicates
+    c.interiors_intersect.result made.ok made.made c.interiors_intersect.ensures

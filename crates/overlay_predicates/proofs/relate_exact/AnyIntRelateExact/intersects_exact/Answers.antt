@@ -8,5 +8,5 @@ use Rattle.overlay_predicates.proofs.relate_exact.AnyIntRelateExact.intersects_e
 pub returns : goal.returns
 returns g c =
     let made = c.in_ok-predicates.ensures in
-    relation_of_two PathsMeet ContentsMeet (path_meeting false) _ _ c.in_ok-predicates.predicates c.intersects.result made.ok made.made
-    c.intersects.ensures
+    relation_of_two PathsMeet ContentsMeet (path_meeting false) _ _ c.in_ok-predicates.predicates
+    c.intersects.result made.ok made.made c.intersects.ensures

@@ -8,5 +8,5 @@ use Rattle.overlay_predicates.proofs.relate_exact.AnyIntRelateExact.point_inters
 pub returns : goal.returns
 returns g c =
     let made = c.in_ok-predicates.ensures in
-    relation_of_two PathsMeetInPoints ContentsMeetInPoints (path_points false) _ _ c.in_ok-predicates.predicates c.point_intersects.result made.ok made.made
-    c.point_intersects.ensures
+    relation_of_two PathsMeetInPoints ContentsMeetInPoints (path_points false) _ _ c.in_ok-predicates.predicates
+    c.point_intersects.result made.ok made.made c.point_intersects.ensures

@@ -8,5 +8,5 @@ use Rattle.overlay_predicates.proofs.relate_exact.AnyIntRelateExact.touches_exac
 pub returns : goal.returns
 returns g c =
     let made = c.in_ok-predicates.ensures in
-    relation_of_two PathsTouch ContentsTouch (path_touch false) _ _ c.in_ok-predicates.predicates c.touches.result made.ok made.made
-    c.touches.ensures
+    relation_of_two PathsTouch ContentsTouch (path_touch false) _ _ c.in_ok-predicates.predicates
+    c.touches.result made.ok made.made c.touches.ensures

@@ -8,5 +8,5 @@ use Rattle.overlay_predicates.proofs.relate_exact.AnyIntRelateExact.within_exact
 pub returns : goal.returns
 returns g c =
     let made = c.in_ok-predicates.ensures in
-    relation_of_two ArePathsWithin IsWithin (subject_within false) _ _ c.in_ok-predicates.predicates c.within.result made.ok made.made
-    c.within.ensures
+    relation_of_two ArePathsWithin IsWithin (subject_within false) _ _ c.in_ok-predicates.predicates
+    c.within.result made.ok made.made c.within.ensures
