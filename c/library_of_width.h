@@ -24,6 +24,8 @@ polyover_status NAME(polyover_relate_one_with)(polyover_relations relation, poly
                                                const CONTOURS *subject, const CONTOURS *clip, uint32_t *holds);
 polyover_status NAME(polyover_relate_exact_with)(polyover_fill fill, const CONTOURS *subject, const CONTOURS *clip,
                                                  polyover_relations *relations);
+polyover_status NAME(polyover_relate_one_exact_with)(polyover_relations relation, polyover_fill fill,
+                                                     const CONTOURS *subject, const CONTOURS *clip, uint32_t *holds);
 polyover_status NAME(polyover_edges_with)(polyover_fill fill, polyover_solver solver, const CONTOURS *subject,
                                           const CONTOURS *clip, NUMBER *coordinates, size_t coordinate_room,
                                           uint8_t *fills, size_t fill_room, size_t *count);
@@ -84,6 +86,12 @@ polyover_status NAME(polyover_relate_exact)(polyover_fill fill, const CONTOURS *
                                             polyover_relations *relations) {
     const CONTOURS none = {0};
     return NAME(polyover_relate_exact_with)(fill, subject, clip ? clip : &none, relations);
+}
+
+polyover_status NAME(polyover_relate_one_exact)(polyover_relations relation, polyover_fill fill,
+                                                const CONTOURS *subject, const CONTOURS *clip, uint32_t *holds) {
+    const CONTOURS none = {0};
+    return NAME(polyover_relate_one_exact_with)(relation, fill, subject, clip ? clip : &none, holds);
 }
 
 polyover_status NAME(polyover_edges)(polyover_fill fill, polyover_solver solver, const CONTOURS *subject,

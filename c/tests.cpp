@@ -171,8 +171,13 @@ void relating() {
     const auto inner = value_of(relate_exact(fill::positive, inside, {around, it.three}));
     CHECK(inner.bits() == (POLYOVER_INTERSECTS | POLYOVER_INTERIORS_INTERSECT | POLYOVER_WITHIN));
     CHECK(value_of(relate_exact(fill::non_zero, it.subject, {})).bits() == POLYOVER_DISJOINT);
+    CHECK(value_of(relate_one_exact(polyover::relation::within, fill::positive, inside, {around, it.three})));
+    CHECK(!value_of(relate_one_exact(polyover::relation::covers, fill::positive, inside, {around, it.three})));
+    CHECK(value_of(relate_one_exact(polyover::relation::disjoint, fill::non_zero, it.subject, {})));
     const auto unknown = static_cast<polyover::relation>(3);
     CHECK(is_refused(status::bad_option, [&] { return relate_one(unknown, fill::non_zero, it.subject, it.clip); }));
+    CHECK(is_refused(status::bad_option,
+                     [&] { return relate_one_exact(unknown, fill::non_zero, it.subject, it.clip); }));
 }
 
 template <class Coordinate>
@@ -371,6 +376,10 @@ void refusals() {
     CHECK(is_refused(status::out_of_range, [&] { return relate(fill::non_zero, it.subject, beyond); }));
     CHECK(is_refused(status::bad_fill, [&] { return relate_exact(bad_fill, it.subject, beyond); }));
     CHECK(is_refused(status::out_of_range, [&] { return relate_exact(fill::non_zero, it.subject, beyond); }));
+    const auto touches = polyover::relation::touches;
+    CHECK(is_refused(status::bad_fill, [&] { return relate_one_exact(touches, bad_fill, it.subject, beyond); }));
+    CHECK(is_refused(status::out_of_range,
+                     [&] { return relate_one_exact(touches, fill::non_zero, it.subject, beyond); }));
     CHECK(is_refused(status::out_of_range, [&] { return prepare(fill::non_zero, beyond); }));
     CHECK(!polyover::in_range(far) && polyover::in_range(it.left) && in_range(it.subject.coordinates()));
     /* (rounds do not settle the needles; snap rounding does) */
@@ -391,6 +400,8 @@ void refused_memory() {
         is_refused(status::memory, [&] { return overlay(rule::xor_, fill::non_zero, it.subject, it.clip); }),
         is_refused(status::memory, [&] { return relate(fill::non_zero, it.subject, it.clip); }),
         is_refused(status::memory, [&] { return relate_exact(fill::non_zero, it.subject, it.clip); }),
+        is_refused(status::memory,
+                   [&] { return relate_one_exact(polyover::relation::within, fill::non_zero, it.subject, it.clip); }),
         is_refused(status::memory, [&] { return prepare(fill::non_zero, it.subject); }),
         is_refused(status::memory, [&] { return resolved(it.subject); }),
     };

@@ -19,6 +19,17 @@ static void TEST(let_exact_go)(EXACT *shape) {
     NAME(polyover_exact_free)(shape);
 }
 
+/* Checks that locations are told so, a letter for each of the first ones, and that the others stay 77. */
+static void TEST(told_so)(const polyover_location locations[16], size_t count, const char *wanted, int line) {
+    for (size_t at = 0; at < 16; at++) {
+        const polyover_location is = at >= count         ? 77
+                                     : wanted[at] == 'i' ? POLYOVER_INSIDE
+                                     : wanted[at] == 'b' ? POLYOVER_BOUNDARY
+                                                         : POLYOVER_OUTSIDE;
+        check(locations[at] == is, "a point lies as it should", line);
+    }
+}
+
 /* Checks that the points lie so, a letter for each, twice: the second answer is that of the same shape. */
 static void TEST(lie_exactly)(const EXACT *shape, const NUMBER *points, size_t count, const char *wanted, int line) {
     polyover_location locations[16];
@@ -26,13 +37,7 @@ static void TEST(lie_exactly)(const EXACT *shape, const NUMBER *points, size_t c
         memset(locations, 77, sizeof locations);
         const polyover_status status = NAME(polyover_exact_locate)(shape, points, count, locations, count / 2);
         check(status == POLYOVER_OK, "it is told", line);
-        for (size_t at = 0; at < 16; at++) {
-            const polyover_location is = at >= count / 2 ? 77
-                                         : wanted[at] == 'i' ? POLYOVER_INSIDE
-                                         : wanted[at] == 'b' ? POLYOVER_BOUNDARY
-                                                             : POLYOVER_OUTSIDE;
-            check(locations[at] == is, "a point lies as it should", line);
-        }
+        TEST(told_so)(locations, count / 2, wanted, line);
     }
 }
 

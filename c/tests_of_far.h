@@ -131,4 +131,7 @@ static void one_far_list(void) {
     relations = 77;
     CHECK(polyover_relate_exact(POLYOVER_EVEN_ODD, &second, &first, &relations) == POLYOVER_OK);
     CHECK(relations == POLYOVER_DISJOINT);
+    uint32_t holds = 77;
+    CHECK(polyover_relate_one_exact(POLYOVER_DISJOINT, POLYOVER_EVEN_ODD, &second, &first, &holds) == POLYOVER_OK);
+    CHECK(holds == 1);
 }

@@ -110,6 +110,14 @@ static polyover_status relate_exact(const asked *of, room *to) {
     return polyover_relate_exact(of->fill, &of->subject, &of->clip, &to->relations);
 }
 
+static polyover_status relate_one_exact(const asked *of, room *to) {
+    return polyover_relate_one_exact(POLYOVER_TOUCHES, of->fill, &of->subject, &of->clip, &to->relations);
+}
+
+static polyover_status relate_unknown(const asked *of, room *to) {
+    return polyover_relate_one_exact(3, of->fill, &of->subject, &of->clip, &to->relations);
+}
+
 static polyover_status edges(const asked *of, room *to) {
     return polyover_edges(of->fill, of->solver, &of->subject, &of->clip, to->coordinates, 64, to->bytes, 16,
                           &to->count);
@@ -365,7 +373,8 @@ static void answered(void) {
     const call all[] = {overlay, hierarchy, simplify, slice, clip, relate, edges, locate, resolved, overlay_result,
                         hierarchy_result, simplify_result, slice_result, clip_result, edges_result, prepare,
                         relate_one, tiles_result, graph_overlay, graph_hierarchy, graph_edges, slice_custom_result,
-                        simplify_shape_result, relate_exact, trace, prepare_exact, vectors_result};
+                        simplify_shape_result, relate_exact, trace, prepare_exact, vectors_result,
+                        relate_one_exact};
     const call with_more[] = {overlay, hierarchy, simplify, slice, clip, relate, edges, overlay_result,
                               hierarchy_result, simplify_result, slice_result, clip_result, edges_result,
                               relate_one};
@@ -407,11 +416,12 @@ static void numbers(void) {
     for (size_t at = 0; at < COUNT(by_solver); at++) {
         TESTED_FIRST(by_solver[at], &of, POLYOVER_BAD_OPTION);
     }
+    TESTED_FIRST(relate_unknown, &of, POLYOVER_BAD_OPTION);
     of.fill = 4;
     const call filled[] = {overlay, hierarchy, simplify, slice, clip, relate, edges, overlay_result,
                            hierarchy_result, simplify_result, slice_result, clip_result, edges_result, prepare,
                            relate_one, tiles_result, graph_overlay, slice_custom_result, simplify_shape_result,
-                           relate_exact, prepare_exact, vectors_result};
+                           relate_exact, prepare_exact, vectors_result, relate_one_exact, relate_unknown};
     for (size_t at = 0; at < COUNT(filled); at++) {
         TESTED_FIRST(filled[at], &of, POLYOVER_BAD_FILL);
     }
@@ -426,7 +436,7 @@ static void faults(void) {
                         prepare_exact};
     const call two[] = {overlay, hierarchy, slice, clip, relate, edges, overlay_result, hierarchy_result,
                         slice_result, clip_result, edges_result, relate_one, graph_overlay, slice_custom_result,
-                        relate_exact, vectors_result};
+                        relate_exact, vectors_result, relate_one_exact};
     asked of = squares();
     of.clip = bad;
     for (size_t at = 0; at < COUNT(two); at++) {

@@ -26,13 +26,7 @@ static void TEST(lie)(const PREPARED *prepared, const NUMBER *points, size_t cou
         memset(locations, 77, sizeof locations);
         const polyover_status status = NAME(polyover_prepared_locate)(prepared, points, count, locations, count / 2);
         check(status == POLYOVER_OK, "it is told", line);
-        for (size_t at = 0; at < 16; at++) {
-            const polyover_location is = at >= count / 2 ? 77
-                                         : wanted[at] == 'i' ? POLYOVER_INSIDE
-                                         : wanted[at] == 'b' ? POLYOVER_BOUNDARY
-                                                             : POLYOVER_OUTSIDE;
-            check(locations[at] == is, "a point lies as it should", line);
-        }
+        TEST(told_so)(locations, count / 2, wanted, line);
     }
 }
 

@@ -15,6 +15,9 @@ static polyover_relations TEST(related)(const NUMBER *subject, const NUMBER *cli
         uint32_t holds = 77;
         CHECK(NAME(polyover_relate_one)(bit, fill, POLYOVER_SNAPPED, &given, &other, &holds) == POLYOVER_OK);
         CHECK(holds == ((relations & bit) != 0));
+        holds = 77;
+        CHECK(NAME(polyover_relate_one_exact)(bit, fill, &given, &other, &holds) == POLYOVER_OK);
+        CHECK(holds == ((relations & bit) != 0));
     }
     return relations;
 }
@@ -88,12 +91,17 @@ static void TEST(relating_refused)(void) {
     CHECK(TEST(not_related)(0, &square, NULL) == POLYOVER_OK);
 }
 
-/* The exact relations of two contours of n points. */
+/* The exact relations of two contours of n points, told of all at once and of each alone. */
 static polyover_relations TEST(exactly_related)(const NUMBER *subject, const NUMBER *clip, size_t n,
                                                 polyover_fill fill) {
     const CONTOURS first = {subject, 2 * n, &n, 1}, second = {clip, 2 * n, &n, 1};
     polyover_relations relations = 77;
     CHECK(NAME(polyover_relate_exact)(fill, &first, &second, &relations) == POLYOVER_OK);
+    for (polyover_relations bit = POLYOVER_INTERSECTS; bit <= POLYOVER_COVERS; bit *= 2) {
+        uint32_t holds = 77;
+        CHECK(NAME(polyover_relate_one_exact)(bit, fill, &first, &second, &holds) == POLYOVER_OK);
+        CHECK(holds == ((relations & bit) != 0));
+    }
     return relations;
 }
 
@@ -105,6 +113,9 @@ static void TEST(exact_relations)(void) {
     const NUMBER first[] = {1, 2, 3, 2, 2, 0}, second[] = {0, 0, 2, 1, 3, 2};
     /* The clip runs clockwise, so that positive filling fills nothing of it. */
     const NUMBER sliver[] = {0, -1, 4, 5, 1, 2}, turned[] = {0, 0, 4, 5, 5, 6};
+    /* They touch the first square in its corner, and along its side. */
+    const NUMBER square[] = {0, 0, 2, 0, 2, 2, 0, 2}, corner[] = {2, 2, 4, 2, 4, 4, 2, 4};
+    const NUMBER beside[] = {2, 0, 4, 0, 4, 2, 2, 2};
     /* Both meet in (1/3, 2/3) alone, where the lines y = 2x, y = 5x - 1, y = 1 - x and y = 2 - 4x cross. */
     const NUMBER bow[] = {0, 0, 1, 2, 1, 4, 0, -1}, other[] = {0, 1, 1, 0, 1, -2, 0, 2};
     /* They have the border from (0, 0) to (5, 2), above (3, 1) and below (2, 1). */
@@ -112,6 +123,10 @@ static void TEST(exact_relations)(void) {
     CHECK(TEST(exactly_related)(first, second, 3, POLYOVER_NON_ZERO) == overlaps);
     CHECK(TEST(exactly_related)(sliver, turned, 3, POLYOVER_EVEN_ODD) == overlaps);
     CHECK(TEST(exactly_related)(sliver, turned, 3, POLYOVER_POSITIVE) == POLYOVER_DISJOINT);
+    CHECK(TEST(exactly_related)(square, corner, 4, POLYOVER_NON_ZERO) == (touches | POLYOVER_POINT_INTERSECTS));
+    CHECK(TEST(exactly_related)(square, beside, 4, POLYOVER_NON_ZERO) == touches);
+    CHECK(TEST(exactly_related)(square, square, 4, POLYOVER_NON_ZERO) ==
+          (overlaps | POLYOVER_WITHIN | POLYOVER_COVERS));
     CHECK(TEST(exactly_related)(bow, other, 4, POLYOVER_EVEN_ODD) == (touches | POLYOVER_POINT_INTERSECTS));
     CHECK(TEST(exactly_related)(below, above, 3, POLYOVER_NON_ZERO) == touches);
     CHECK(TEST(exactly_related)(below, around, 3, POLYOVER_NON_ZERO) == (overlaps | POLYOVER_WITHIN));
@@ -165,4 +180,32 @@ static void TEST(one_relation)(void) {
         CHECK(NAME(polyover_relate_one)(POLYOVER_DISJOINT, 0, solver, &square, NULL, &holds) == POLYOVER_OK);
         CHECK(holds == 1);
     }
+}
+
+/* One relation of contours as they are given, and numbers that are the bit of none. */
+static void TEST(one_exact_relation)(void) {
+    const NUMBER beyond[] = {0, 0, LIMIT, 0, -LIMIT - 1, 4, 0, 4}, inner[] = {1, 1, 2, 1, 2, 2, 1, 2};
+    const size_t four[] = {4}, falling[] = {4, 3};
+    const CONTOURS square = {TEST(subject_at), 8, four, 1}, bad = {TEST(subject_at), 8, falling, 2};
+    const CONTOURS far = {beyond, 8, four, 1}, small = {inner, 8, four, 1}, none = {NULL, 0, NULL, 0};
+    const polyover_relations unknown[] = {0, 3, 127, 128, UINT32_MAX};
+    uint32_t holds = 77;
+    for (size_t at = 0; at < sizeof unknown / sizeof *unknown; at++) {
+        CHECK(NAME(polyover_relate_one_exact)(unknown[at], 3, &bad, &far, &holds) == POLYOVER_BAD_OPTION);
+        CHECK(NAME(polyover_relate_one_exact)(unknown[at], 4, &bad, &far, &holds) == POLYOVER_BAD_FILL);
+    }
+    CHECK(NAME(polyover_relate_one_exact)(POLYOVER_WITHIN, UINT32_MAX, &bad, &far, &holds) == POLYOVER_BAD_FILL);
+    CHECK(NAME(polyover_relate_one_exact)(POLYOVER_WITHIN, 3, &bad, &far, &holds) == POLYOVER_BAD_ENDS);
+    CHECK(NAME(polyover_relate_one_exact)(POLYOVER_WITHIN, 3, &square, &bad, &holds) == POLYOVER_BAD_ENDS);
+    CHECK(NAME(polyover_relate_one_exact)(POLYOVER_WITHIN, 3, &far, &bad, &holds) == POLYOVER_OUT_OF_RANGE);
+    CHECK(NAME(polyover_relate_one_exact)(POLYOVER_COVERS, 3, &square, &far, &holds) == POLYOVER_OUT_OF_RANGE);
+    CHECK(holds == 77);
+    CHECK(NAME(polyover_relate_one_exact)(POLYOVER_COVERS, 0, &square, &small, &holds) == POLYOVER_OK);
+    CHECK(holds == 1);
+    CHECK(NAME(polyover_relate_one_exact)(POLYOVER_WITHIN, 0, &square, &small, &holds) == POLYOVER_OK);
+    CHECK(holds == 0);
+    CHECK(NAME(polyover_relate_one_exact)(POLYOVER_DISJOINT, 0, &square, NULL, &holds) == POLYOVER_OK);
+    CHECK(holds == 1);
+    CHECK(NAME(polyover_relate_one_exact)(POLYOVER_INTERSECTS, 0, &none, &none, &holds) == POLYOVER_OK);
+    CHECK(holds == 0);
 }

@@ -256,11 +256,16 @@ static void TEST(many_squares)(polyover_solver solver) {
     TEST(let_go)(&clip);
 }
 
-/* The exact relations of both. */
+/* The exact relations of both, told of all at once and of each alone. */
 static polyover_relations TEST(exactly)(const TEST(made) *subject, const TEST(made) *clip) {
     const CONTOURS first = TEST(given)(subject), second = TEST(given)(clip);
     polyover_relations relations = 77;
     CHECK(NAME(polyover_relate_exact)(POLYOVER_NON_ZERO, &first, &second, &relations) == POLYOVER_OK);
+    for (polyover_relations bit = POLYOVER_INTERSECTS; bit <= POLYOVER_COVERS; bit *= 2) {
+        uint32_t holds = 77;
+        CHECK(NAME(polyover_relate_one_exact)(bit, POLYOVER_NON_ZERO, &first, &second, &holds) == POLYOVER_OK);
+        CHECK(holds == ((relations & bit) != 0));
+    }
     return relations;
 }
 

@@ -322,6 +322,7 @@ static void TEST(all)(void) {
     TEST(one_relation)();
     TEST(exact_relations)();
     TEST(exact_relating_refused)();
+    TEST(one_exact_relation)();
     TEST(locations)();
     TEST(locating_refused)();
     TEST(edges)();

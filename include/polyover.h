@@ -281,10 +281,24 @@ polyover_status polyover_relate_exact(polyover_fill fill, const polyover_contour
 polyover_status polyover_relate_exact_32(polyover_fill fill, const polyover_contours_32 *subject,
                                          const polyover_contours_32 *clip, polyover_relations *relations);
 
-/* The same of one arrangement of the contours, in which edges that meet are cut by the solver as by `polyover_overlay`,
- * at points that are rounded. So relations of shapes as small as a few units may differ from those of the contours as
- * they are given. Of (1, 2), (2, 0), (3, 2) and (0, 0), (3, 2), (2, 1) POLYOVER_DISJOINT is told, though (2, 1) is
- * inside the first one: `polyover_relate_exact` tells that they intersect.
+/* Whether one relation holds of the subject and the clip as they are given. `relation` is its bit: POLYOVER_INTERSECTS,
+ * or another bit of polyover_relations. On POLYOVER_OK *holds is 1 where it holds, else 0, as `polyover_relate_exact`
+ * tells it; after any other status it stays. It takes the time of that call, or less where some edge decides.
+ *
+ * Tested first, in this order: POLYOVER_BAD_FILL; POLYOVER_BAD_OPTION where `relation` is not the bit of one relation;
+ * then of the subject, and then of the clip, POLYOVER_BAD_ENDS and POLYOVER_OUT_OF_RANGE. POLYOVER_TOO_MANY_EDGES and
+ * POLYOVER_MEMORY are left. */
+polyover_status polyover_relate_one_exact(polyover_relations relation, polyover_fill fill,
+                                          const polyover_contours *subject, const polyover_contours *clip,
+                                          uint32_t *holds);
+polyover_status polyover_relate_one_exact_32(polyover_relations relation, polyover_fill fill,
+                                             const polyover_contours_32 *subject, const polyover_contours_32 *clip,
+                                             uint32_t *holds);
+
+/* The relations of one arrangement of the contours, in which edges that meet are cut by the solver as by
+ * `polyover_overlay`, at points that are rounded. So relations of shapes as small as a few units may differ from those
+ * of the contours as they are given. Of (1, 2), (2, 0), (3, 2) and (0, 0), (3, 2), (2, 1) POLYOVER_DISJOINT is told,
+ * though (2, 1) is inside the first one: `polyover_relate_exact` tells that they intersect.
  *
  * Tested first, in this order: POLYOVER_BAD_FILL; POLYOVER_BAD_OPTION, for the solver; then of the subject, and then of
  * the clip, POLYOVER_BAD_ENDS and POLYOVER_OUT_OF_RANGE. POLYOVER_NOT_SETTLED, by POLYOVER_ROUNDS alone,
@@ -294,10 +308,10 @@ polyover_status polyover_relate(polyover_fill fill, polyover_solver solver, cons
 polyover_status polyover_relate_32(polyover_fill fill, polyover_solver solver, const polyover_contours_32 *subject,
                                    const polyover_contours_32 *clip, polyover_relations *relations);
 
-/* Whether one relation holds, given by its bit: POLYOVER_INTERSECTS, or another bit of polyover_relations. On
- * POLYOVER_OK *holds is 1 where it does, else 0; after any other status it stays. By POLYOVER_SNAPPED the answer is the
- * bit that `polyover_relate` gives. The arrangement is made as there; its edges are looked at up to the first that
- * decides.
+/* Whether one relation holds of the arrangement, given by its bit: POLYOVER_INTERSECTS, or another bit of
+ * polyover_relations. On POLYOVER_OK *holds is 1 where it does, else 0; after any other status it stays. By
+ * POLYOVER_SNAPPED the answer is the bit that `polyover_relate` gives. The arrangement is made as there; its edges are
+ * looked at up to the first that decides.
  *
  * The tests and statuses are those of `polyover_relate`. POLYOVER_BAD_OPTION comes also where `relation` is not the bit
  * of one relation. */

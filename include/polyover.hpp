@@ -317,6 +317,7 @@ struct width<std::int64_t> {
     static constexpr auto relate = polyover_relate;
     static constexpr auto relate_one = polyover_relate_one;
     static constexpr auto relate_exact = polyover_relate_exact;
+    static constexpr auto relate_one_exact = polyover_relate_one_exact;
     static constexpr auto locate = polyover_locate;
     static constexpr auto prepare = polyover_prepare;
     static constexpr auto prepared_locate = polyover_prepared_locate;
@@ -374,6 +375,7 @@ struct width<std::int32_t> {
     static constexpr auto relate = polyover_relate_32;
     static constexpr auto relate_one = polyover_relate_one_32;
     static constexpr auto relate_exact = polyover_relate_exact_32;
+    static constexpr auto relate_one_exact = polyover_relate_one_exact_32;
     static constexpr auto locate = polyover_locate_32;
     static constexpr auto prepare = polyover_prepare_32;
     static constexpr auto prepared_locate = polyover_prepared_locate_32;
@@ -416,6 +418,40 @@ template <class Value>
 #endif
     }
     return value;
+}
+
+/// The owner of a struct of polyover.h: its destructor gives the memory of the library back, and a move leaves a struct
+/// of zeros, which has none.
+template <class Raw, auto free>
+class owner {
+public:
+    owner() noexcept = default;
+    explicit owner(Raw taken) noexcept : raw_(taken) {}
+    owner(owner &&other) noexcept : raw_(other.release()) {}
+    owner &operator=(owner &&other) noexcept {
+        owner taken(std::move(other));
+        std::swap(raw_, taken.raw_);
+        return *this;
+    }
+
+    [[nodiscard]] const Raw &raw() const noexcept { return raw_; }
+    [[nodiscard]] Raw release() noexcept { return std::exchange(raw_, Raw{}); }
+
+protected:
+    ~owner() { free(&raw_); }
+
+private:
+    Raw raw_{};
+};
+
+/// Writes where points lie in a shape that is made ready, by its call, and returns the locations that are written.
+template <class Coordinate, class Call, class Raw>
+[[nodiscard]] returned<span<location>> located(Call call, const Raw &shape, span<const Coordinate> points,
+                                               span<location> locations) {
+    const polyover_status ended =
+        call(&shape, points.data(), points.size(), reinterpret_cast<polyover_location *>(locations.data()),
+             locations.size());
+    return answered(ended, span<location>(locations.data(), points.size() / 2));
 }
 
 /// The type itself, in a place from which a call does not take the type of its coordinates.
@@ -489,59 +525,50 @@ struct counts {
 /// An answer in memory of the library, which the destructor gives back. Arrays that have no part in it are empty. After
 /// a move the result that was moved has no items.
 template <class Coordinate>
-class basic_result {
+class basic_result
+    : public detail::owner<typename detail::width<Coordinate>::result, detail::width<Coordinate>::free_result> {
 public:
     using raw_type = typename detail::width<Coordinate>::result;
 
     /// A result without items.
     basic_result() noexcept = default;
     /// Takes over the memory of a result of polyover.h.
-    explicit basic_result(raw_type taken) noexcept : raw_(taken) {}
-    basic_result(basic_result &&other) noexcept : raw_(other.release()) {}
-    basic_result &operator=(basic_result &&other) noexcept {
-        basic_result taken(std::move(other));
-        std::swap(raw_, taken.raw_);
-        return *this;
-    }
-    ~basic_result() { detail::width<Coordinate>::free_result(&raw_); }
+    explicit basic_result(raw_type taken) noexcept : basic_result::owner(taken) {}
 
     /// Returns the points, x before y; of edges, x and y of the first and of the second end of each.
     [[nodiscard]] span<const Coordinate> coordinates() const noexcept {
-        return {raw_.coordinates, raw_.coordinate_count};
+        return {raw().coordinates, raw().coordinate_count};
     }
     /// Returns how many points there are up to the end of each contour; of a clip, of each path.
     [[nodiscard]] span<const std::size_t> contour_ends() const noexcept {
-        return {raw_.contour_ends, raw_.contour_count};
+        return {raw().contour_ends, raw().contour_count};
     }
     /// Returns how many contours there are up to the end of each shape: its outline, and then its holes.
-    [[nodiscard]] span<const std::size_t> shape_ends() const noexcept { return {raw_.shape_ends, raw_.shape_count}; }
+    [[nodiscard]] span<const std::size_t> shape_ends() const noexcept { return {raw().shape_ends, raw().shape_count}; }
     /// Returns which shapes lie in which holes: of `hierarchy`.
-    [[nodiscard]] span<const link> links() const noexcept { return {raw_.links, raw_.link_count}; }
+    [[nodiscard]] span<const link> links() const noexcept { return {raw().links, raw().link_count}; }
     /// Returns for each edge, or step, the sum of the bits of its filled sides (`side`): of `edges` and `vectors`.
-    [[nodiscard]] span<const std::uint8_t> fills() const noexcept { return {raw_.fills, raw_.fill_count}; }
+    [[nodiscard]] span<const std::uint8_t> fills() const noexcept { return {raw().fills, raw().fill_count}; }
 
     /// Returns all contours, or paths, as calls take them: a view, for as long as this result holds its memory.
     [[nodiscard]] basic_contours<Coordinate> contours() const noexcept { return {coordinates(), contour_ends()}; }
 
     /// Returns the coordinates of a contour, by its number from 0 to one less than `contour_ends().size()`.
     [[nodiscard]] span<const Coordinate> contour(std::size_t number) const noexcept {
-        const std::size_t start = number == 0 ? 0 : raw_.contour_ends[number - 1];
-        return {raw_.coordinates + 2 * start, 2 * (raw_.contour_ends[number] - start)};
+        const std::size_t start = number == 0 ? 0 : raw().contour_ends[number - 1];
+        return {raw().coordinates + 2 * start, 2 * (raw().contour_ends[number] - start)};
     }
     /// Returns the number of the outline of a shape, by the shape's number from 0. Its holes are the contours from
     /// there to the next outline; `first_contour(shape_ends().size())` is how many contours there are.
     [[nodiscard]] std::size_t first_contour(std::size_t shape) const noexcept {
-        return shape == 0 ? 0 : raw_.shape_ends[shape - 1];
+        return shape == 0 ? 0 : raw().shape_ends[shape - 1];
     }
 
     /// Returns the struct of polyover.h, whose memory stays with this object.
-    [[nodiscard]] const raw_type &raw() const noexcept { return raw_; }
+    using basic_result::owner::raw;
 
     /// Returns the struct of polyover.h, whose memory the caller frees from now on; this result has no items then.
-    [[nodiscard]] raw_type release() noexcept { return std::exchange(raw_, raw_type{}); }
-
-private:
-    raw_type raw_{};
+    using basic_result::owner::release;
 };
 
 using result = basic_result<std::int64_t>;
@@ -550,24 +577,18 @@ using result_32 = basic_result<std::int32_t>;
 /// A shape made ready to be asked again and again where points lie; `prepare` makes it. The destructor gives its memory
 /// back. After a move the shape that was moved has no boundary.
 template <class Coordinate>
-class basic_prepared {
+class basic_prepared
+    : public detail::owner<typename detail::width<Coordinate>::prepared, detail::width<Coordinate>::free_prepared> {
 public:
     using raw_type = typename detail::width<Coordinate>::prepared;
 
     /// A shape without a boundary: all points are outside.
     basic_prepared() noexcept = default;
     /// Takes over the memory of a prepared shape of polyover.h.
-    explicit basic_prepared(raw_type taken) noexcept : raw_(taken) {}
-    basic_prepared(basic_prepared &&other) noexcept : raw_(other.release()) {}
-    basic_prepared &operator=(basic_prepared &&other) noexcept {
-        basic_prepared taken(std::move(other));
-        std::swap(raw_, taken.raw_);
-        return *this;
-    }
-    ~basic_prepared() { detail::width<Coordinate>::free_prepared(&raw_); }
+    explicit basic_prepared(raw_type taken) noexcept : basic_prepared::owner(taken) {}
 
     /// Returns how many edges the boundary has.
-    [[nodiscard]] std::size_t edge_count() const noexcept { return raw_.edge_count; }
+    [[nodiscard]] std::size_t edge_count() const noexcept { return raw().edge_count; }
 
     /// Writes where each point lies, x before y in `points`, to the first items of `locations`, and returns these. It
     /// takes no memory, and several threads may ask at once.
@@ -575,20 +596,14 @@ public:
     /// Refused with `bad_ends` for an odd count of coordinates, with `out_of_range`, and with `too_small` if there are
     /// more points than items of `locations`; then these stay.
     returned<span<location>> locate(span<const Coordinate> points, span<location> locations) const {
-        const polyover_status ended = detail::width<Coordinate>::prepared_locate(
-            &raw_, points.data(), points.size(), reinterpret_cast<polyover_location *>(locations.data()),
-            locations.size());
-        return detail::answered(ended, span<location>(locations.data(), points.size() / 2));
+        return detail::located(detail::width<Coordinate>::prepared_locate, raw(), points, locations);
     }
 
     /// Returns the struct of polyover.h, whose memory stays with this object.
-    [[nodiscard]] const raw_type &raw() const noexcept { return raw_; }
+    using basic_prepared::owner::raw;
 
     /// Returns the struct of polyover.h, whose memory the caller frees from now on; this shape has no boundary then.
-    [[nodiscard]] raw_type release() noexcept { return std::exchange(raw_, raw_type{}); }
-
-private:
-    raw_type raw_{};
+    using basic_prepared::owner::release;
 };
 
 using prepared = basic_prepared<std::int64_t>;
@@ -597,41 +612,29 @@ using prepared_32 = basic_prepared<std::int32_t>;
 /// A shape as it is given, made ready to be asked again and again where points lie; `prepare_exact` makes it. Nothing
 /// is rounded. The destructor gives its memory back. After a move the shape that was moved has no edges.
 template <class Coordinate>
-class basic_exact {
+class basic_exact
+    : public detail::owner<typename detail::width<Coordinate>::exact, detail::width<Coordinate>::free_exact> {
 public:
     using raw_type = typename detail::width<Coordinate>::exact;
 
     /// A shape without edges: all points are outside.
     basic_exact() noexcept = default;
     /// Takes over the memory of such a shape of polyover.h.
-    explicit basic_exact(raw_type taken) noexcept : raw_(taken) {}
-    basic_exact(basic_exact &&other) noexcept : raw_(other.release()) {}
-    basic_exact &operator=(basic_exact &&other) noexcept {
-        basic_exact taken(std::move(other));
-        std::swap(raw_, taken.raw_);
-        return *this;
-    }
-    ~basic_exact() { detail::width<Coordinate>::free_exact(&raw_); }
+    explicit basic_exact(raw_type taken) noexcept : basic_exact::owner(taken) {}
 
     /// Returns how many edges the contours have.
-    [[nodiscard]] std::size_t edge_count() const noexcept { return raw_.edge_count; }
+    [[nodiscard]] std::size_t edge_count() const noexcept { return raw().edge_count; }
 
     /// Writes where each point lies, and is refused, as `basic_prepared::locate`.
     returned<span<location>> locate(span<const Coordinate> points, span<location> locations) const {
-        const polyover_status ended = detail::width<Coordinate>::exact_locate(
-            &raw_, points.data(), points.size(), reinterpret_cast<polyover_location *>(locations.data()),
-            locations.size());
-        return detail::answered(ended, span<location>(locations.data(), points.size() / 2));
+        return detail::located(detail::width<Coordinate>::exact_locate, raw(), points, locations);
     }
 
     /// Returns the struct of polyover.h, whose memory stays with this object.
-    [[nodiscard]] const raw_type &raw() const noexcept { return raw_; }
+    using basic_exact::owner::raw;
 
     /// Returns the struct of polyover.h, whose memory the caller frees from now on; this shape has no edges then.
-    [[nodiscard]] raw_type release() noexcept { return std::exchange(raw_, raw_type{}); }
-
-private:
-    raw_type raw_{};
+    using basic_exact::owner::release;
 };
 
 using exact = basic_exact<std::int64_t>;
@@ -842,7 +845,8 @@ vectors(polyover::rule rule, polyover::fill fill, basic_contours<Coordinate> sub
 /// The arrangement of a subject and of a clip under a fill rule; `arrange` makes it. It is asked as often as wanted, on
 /// several threads at once. The destructor gives its memory back. After a move the graph that was moved has no edges.
 template <class Coordinate>
-class basic_graph {
+class basic_graph
+    : public detail::owner<typename detail::width<Coordinate>::graph, detail::width<Coordinate>::free_graph> {
     using width = detail::width<Coordinate>;
     using options_type = detail::options_of<Coordinate>;
 
@@ -852,17 +856,10 @@ public:
     /// A graph without edges.
     basic_graph() noexcept = default;
     /// Takes over the memory of a graph of polyover.h.
-    explicit basic_graph(raw_type taken) noexcept : raw_(taken) {}
-    basic_graph(basic_graph &&other) noexcept : raw_(other.release()) {}
-    basic_graph &operator=(basic_graph &&other) noexcept {
-        basic_graph taken(std::move(other));
-        std::swap(raw_, taken.raw_);
-        return *this;
-    }
-    ~basic_graph() { width::free_graph(&raw_); }
+    explicit basic_graph(raw_type taken) noexcept : basic_graph::owner(taken) {}
 
     /// Returns how many edges the arrangement has.
-    [[nodiscard]] std::size_t edge_count() const noexcept { return raw_.edge_count; }
+    [[nodiscard]] std::size_t edge_count() const noexcept { return raw().edge_count; }
 
     /// Returns what the function `overlay` does of the subject and the clip. Refused with `bad_rule`; with
     /// `bad_option`, also where the solver or `keep_given` of the options is not that of the graph; with `memory`.
@@ -887,22 +884,20 @@ public:
 
     /// Returns what the function `edges` does of the subject and the clip. Refused with `memory`.
     [[nodiscard]] returned<basic_result<Coordinate>> edges() const {
-        return detail::result_of<Coordinate>(width::graph_edges, &raw_);
+        return detail::result_of<Coordinate>(width::graph_edges, &raw());
     }
 
     /// Returns the struct of polyover.h, whose memory stays with this object.
-    [[nodiscard]] const raw_type &raw() const noexcept { return raw_; }
+    using basic_graph::owner::raw;
 
     /// Returns the struct of polyover.h, whose memory the caller frees from now on; this graph has no edges then.
-    [[nodiscard]] raw_type release() noexcept { return std::exchange(raw_, raw_type{}); }
+    using basic_graph::owner::release;
 
 private:
     template <class Call, class Options>
     [[nodiscard]] returned<basic_result<Coordinate>> asked(Call call, polyover::rule rule, Options options) const {
-        return detail::result_of<Coordinate>(call, &raw_, detail::number(rule), options);
+        return detail::result_of<Coordinate>(call, &raw(), detail::number(rule), options);
     }
-
-    raw_type raw_{};
 };
 
 using graph = basic_graph<std::int64_t>;
@@ -959,49 +954,40 @@ using source = polyover_source;
 /// Edges of an arrangement, each with the given edges on which it lies; `trace` makes them. The destructor gives their
 /// memory back. After a move there are none where they were.
 template <class Coordinate>
-class basic_traced {
+class basic_traced
+    : public detail::owner<typename detail::width<Coordinate>::traced, detail::width<Coordinate>::free_traced> {
 public:
     using raw_type = typename detail::width<Coordinate>::traced;
 
     /// No edges.
     basic_traced() noexcept = default;
     /// Takes over the memory of traced edges of polyover.h.
-    explicit basic_traced(raw_type taken) noexcept : raw_(taken) {}
-    basic_traced(basic_traced &&other) noexcept : raw_(other.release()) {}
-    basic_traced &operator=(basic_traced &&other) noexcept {
-        basic_traced taken(std::move(other));
-        std::swap(raw_, taken.raw_);
-        return *this;
-    }
-    ~basic_traced() { detail::width<Coordinate>::free_traced(&raw_); }
+    explicit basic_traced(raw_type taken) noexcept : basic_traced::owner(taken) {}
 
     /// Returns x and y of the first and of the second end of each edge.
     [[nodiscard]] span<const Coordinate> coordinates() const noexcept {
-        return {raw_.coordinates, raw_.coordinate_count};
+        return {raw().coordinates, raw().coordinate_count};
     }
     /// Returns for each edge the sum of the bits of its filled sides (`side`).
-    [[nodiscard]] span<const std::uint8_t> fills() const noexcept { return {raw_.fills, raw_.fill_count}; }
+    [[nodiscard]] span<const std::uint8_t> fills() const noexcept { return {raw().fills, raw().fill_count}; }
     /// Returns how many sources there are up to the last one of each edge.
     [[nodiscard]] span<const std::size_t> source_ends() const noexcept {
-        return {raw_.source_ends, raw_.source_end_count};
+        return {raw().source_ends, raw().source_end_count};
     }
     /// Returns the sources of all edges, edge by edge.
-    [[nodiscard]] span<const source> sources() const noexcept { return {raw_.sources, raw_.source_count}; }
+    [[nodiscard]] span<const source> sources() const noexcept { return {raw().sources, raw().source_count}; }
 
     /// Returns the sources of an edge, by its number from 0 to one less than `source_ends().size()`.
     [[nodiscard]] span<const source> sources_of(std::size_t number) const noexcept {
-        const std::size_t start = number == 0 ? 0 : raw_.source_ends[number - 1];
-        return {raw_.sources + start, raw_.source_ends[number] - start};
+        const std::size_t start = number == 0 ? 0 : raw().source_ends[number - 1];
+        return {raw().sources + start, raw().source_ends[number] - start};
     }
 
     /// Returns the struct of polyover.h, whose memory stays with this object.
-    [[nodiscard]] const raw_type &raw() const noexcept { return raw_; }
+    using basic_traced::owner::raw;
 
     /// Returns the struct of polyover.h, whose memory the caller frees from now on; this object has no edges then.
-    [[nodiscard]] raw_type release() noexcept { return std::exchange(raw_, raw_type{}); }
-
-private:
-    raw_type raw_{};
+    using basic_traced::owner::release;
 };
 
 using traced = basic_traced<std::int64_t>;
@@ -1154,7 +1140,20 @@ template <class Coordinate>
     return detail::answered(ended, relations(bits));
 }
 
-/// Returns the same of one arrangement of both, whose points are rounded. Refused as `overlay` is, but for `bad_rule`.
+/// Returns whether one relation holds of them as they are given, in the time of all or less. Refused as `relate_exact`
+/// is, and with `bad_option` for a number that is no relation.
+template <class Coordinate>
+[[nodiscard]] returned<bool> relate_one_exact(polyover::relation relation, polyover::fill fill,
+                                              basic_contours<Coordinate> subject,
+                                              detail::contours_of<Coordinate> clip) {
+    std::uint32_t holds = 0;
+    const polyover_status ended = detail::width<Coordinate>::relate_one_exact(
+        detail::number(relation), detail::number(fill), &subject.raw(), &clip.raw(), &holds);
+    return detail::answered(ended, holds != 0);
+}
+
+/// Returns the relations of one arrangement of both, whose points are rounded. Refused as `overlay` is, but for
+/// `bad_rule`.
 template <class Coordinate>
 [[nodiscard]] returned<relations> relate(polyover::fill fill, basic_contours<Coordinate> subject,
                                          detail::contours_of<Coordinate> clip,
@@ -1165,8 +1164,8 @@ template <class Coordinate>
     return detail::answered(ended, relations(bits));
 }
 
-/// Returns whether one relation holds, which takes less time than all of them. Refused as `relate` is, and with
-/// `bad_option` for a number that is no relation.
+/// Returns whether one relation holds of the arrangement, which takes less time than all of them. Refused as `relate`
+/// is, and with `bad_option` for a number that is no relation.
 template <class Coordinate>
 [[nodiscard]] returned<bool> relate_one(polyover::relation relation, polyover::fill fill,
                                         basic_contours<Coordinate> subject, detail::contours_of<Coordinate> clip,

@@ -1,10 +1,11 @@
 /**
- * The library for C as WebAssembly has it: the one file that knows its structs, arguments and statuses
+ * The library for C as WebAssembly has it: this file and traced.js alone know its structs and arguments
  * (include/polyover.h). All sizes and addresses have 64 bits, and are BigInts in the calls.
  */
 
-import { BadInput, LibraryMissing, NotResolved, NotSettled } from "./errors.js";
-import { OutOfMemory, PolyoverError, TooManyEdges } from "./errors.js";
+import { BadInput, LibraryMissing, NotResolved, OutOfMemory } from "./errors.js";
+import { Held, Row, SIZE, STATUSES, check, suffixed } from "./held.js";
+import { tracedOf } from "./traced.js";
 
 export const RULES = ["subject", "clip", "intersect", "union", "difference", "inverse_difference", "xor"];
 export const FILLS = ["evenodd", "nonzero", "positive", "negative"];
@@ -24,25 +25,10 @@ export const RELATIONS = [
 /** The greatest coordinate, in 64 bits and in 32. */
 export const LIMIT = 2n ** 62n - 1n;
 export const LIMIT_32 = 2 ** 30 - 1;
-const STATUSES = [
-  "OK",
-  "MEMORY",
-  "BAD_ENDS",
-  "OUT_OF_RANGE",
-  "NOT_RESOLVED",
-  "BAD_RULE",
-  "BAD_FILL",
-  "BAD_OPTION",
-  "NOT_SETTLED",
-  "TOO_MANY_EDGES",
-  "TOO_SMALL",
-];
-const FAULTS = { MEMORY: OutOfMemory, NOT_SETTLED: NotSettled, TOO_MANY_EDGES: TooManyEdges };
 /** The arrays of a result, each an address and a count; a link has three sizes. */
 const ARRAYS = ["coordinates", "contourEnds", "shapeEnds", "links", "fills"];
 const LINK = 3;
 // the sizes of structs, in bytes
-const SIZE = 8;
 const CONTOURS = 4 * SIZE;
 const OPTIONS = 32;
 const CLIP_OPTIONS = 12;
@@ -64,27 +50,6 @@ const AS_GIVEN = {
 const GRAPH = 4 * SIZE;
 const MOST_64 = 2n ** 64n - 1n;
 
-/** Raises what a status stands for, if it is not OK; with the words, if there are any, for a bad option. */
-function check(status, words) {
-  const name = STATUSES[status];
-  if (name === "OK") {
-    return;
-  }
-  if (name === "BAD_OPTION" && words !== undefined) {
-    throw new BadInput(words);
-  }
-  if (name in FAULTS) {
-    throw new FAULTS[name]();
-  }
-  const fault = name === undefined || name === "TOO_SMALL" ? PolyoverError : BadInput;
-  throw new fault(`the library answers ${name ?? `the status ${status}`}`);
-}
-
-/** The name of a call at a width. */
-function suffixed(name, kind) {
-  return kind === Int32Array ? `${name}_32` : name;
-}
-
 /** A number of a group that is none, or out of range: which group it is of, where it stands there, and itself. */
 export class Misplaced extends BadInput {
   constructor(group, at, value) {
@@ -93,52 +58,14 @@ export class Misplaced extends BadInput {
   }
 }
 
-/** Memory of the module that is held while a call runs. */
-class Held {
-  constructor(library) {
-    this.library = library;
-    this.taken = [];
-  }
-
-  /** The address of a block of `bytes` bytes; 0 for none. */
-  take(bytes) {
-    if (bytes === 0) {
-      return 0;
-    }
-    const at = this.library.calls.malloc(BigInt(bytes));
-    if (at === 0n) {
-      throw new OutOfMemory();
-    }
-    this.taken.push(at);
-    return Number(at);
-  }
-
-  /** Gives all of it back. */
-  giveAll() {
-    for (const at of this.taken) {
-      this.library.calls.free(at);
+/** Whether two points are equal, each by the place of the first of its four halves. */
+function isSame(halves, one, other) {
+  for (let half = 0; half < 4; half++) {
+    if (halves[one + half] !== halves[other + half]) {
+      return false;
     }
   }
-}
-
-/** An array of the module: where it is, and how many items it has. */
-class Row {
-  constructor(held, kind, count) {
-    this.kind = kind;
-    this.count = count;
-    this.at = held.take(count * kind.BYTES_PER_ELEMENT);
-    this.memory = held.library.memory;
-  }
-
-  /** Its items, where they are; only until the module takes memory again. */
-  view() {
-    return new this.kind(this.memory.buffer, this.at, this.count);
-  }
-
-  /** As two arguments of a call. */
-  get arguments() {
-    return [BigInt(this.at), BigInt(this.count)];
-  }
+  return true;
 }
 
 /**
@@ -181,6 +108,25 @@ export class Library {
       }
     }
     return row;
+  }
+
+  /** The whole numbers of one contour of floats, without points that are equal to the one before them. */
+  withoutRepeats(group, grid) {
+    return this.hold((held) => {
+      const { at, count } = this.numbers(held, group, grid);
+      const numbers = new BigInt64Array(this.memory.buffer, at, count);
+      // (by halves, which takes no BigInts)
+      const halves = new Int32Array(this.memory.buffer, at, 2 * count);
+      let [kept, before] = [0, count - 2];
+      for (let point = 0; point < count; point += 2) {
+        if (!isSame(halves, 2 * point, 2 * before)) {
+          numbers.copyWithin(kept, point, point + 2);
+          kept += 2;
+        }
+        before = point;
+      }
+      return numbers.slice(0, kept > 0 ? kept : Math.min(count, 2));
+    });
   }
 
   /** The address of the struct of a group, whose coordinates are times 2 to the power. */
@@ -309,6 +255,17 @@ export class Library {
     return this.answer("polyover_overlay_result", asked, (held) => [rule, fill, this.options(held, look, asked.kind)]);
   }
 
+  /** The same shapes, by contours that may touch themselves, with the filled sides of the step from each point on. */
+  vectors(asked, rule, fill, look) {
+    const how = { ...look, touching: false };
+    return this.answer("polyover_vectors_result", asked, (held) => [rule, fill, this.options(held, how, asked.kind)]);
+  }
+
+  /** Edges with the given steps on which they lie: by a rule, or all of them. */
+  trace(asked, rule, fill, solver, isClosed) {
+    return this.hold((held) => tracedOf(this, held, asked, [rule, fill, solver], isClosed));
+  }
+
   hierarchy(asked, rule, fill, look) {
     return this.answer("polyover_hierarchy_result", asked, (held) => [
       rule,
@@ -345,16 +302,26 @@ export class Library {
 
   /** The bits of the relations that hold of the contours as they are given: nothing is rounded. */
   relate(asked, fill) {
-    return this.bits(asked, 0, suffixed("polyover_relate_exact", asked.kind), [fill]);
+    return this.told(asked, 0, suffixed("polyover_relate_exact", asked.kind), [fill]);
+  }
+
+  /** Whether the relation at a place in RELATIONS holds of them. */
+  relateOne(asked, at, fill) {
+    return this.told(asked, 0, suffixed("polyover_relate_one_exact", asked.kind), [1 << at, fill]) === 1;
   }
 
   /** The bits of those that hold of the arrangement, of coordinates of 64 bits times 2 to the power. */
   relateArranged(asked, fill, solver, power) {
-    return this.bits(asked, power, "polyover_relate", [fill, solver]);
+    return this.told(asked, power, "polyover_relate", [fill, solver]);
   }
 
-  /** The bits of relations that a call tells; its first arguments are given. */
-  bits({ groups, grid }, power, name, given) {
+  /** Whether one of them holds of it. */
+  relateOneArranged(asked, at, fill, solver, power) {
+    return this.told(asked, power, "polyover_relate_one", [1 << at, fill, solver]) === 1;
+  }
+
+  /** The number that a call tells of relations; its first arguments are given. */
+  told({ groups, grid }, power, name, given) {
     return this.hold((held) => {
       const both = groups.map((group) => this.contours(held, group, grid, power));
       const found = new Row(held, Uint32Array, 1);

@@ -2,6 +2,9 @@
 
 import { LOCATIONS } from "./abi.js";
 import { Flat, FlatShapes } from "./flat.js";
+import { SOURCE } from "./traced.js";
+
+const SIDES = ["subject", "clip"];
 
 /** The points of coordinates from one place to another. */
 function pointsIn(coordinates, start, end) {
@@ -73,6 +76,36 @@ export function edgesIn({ coordinates, fills }, form) {
     return { coordinates, fills };
   }
   return Array.from(fills, (sum, number) => [...pointsIn(coordinates, 2 * number, 2 * number + 2), sum]);
+}
+
+/** Shapes with filled sides in a form: `FlatShapes` with one sum for each point, or contours of steps, as edges are. */
+export function vectorsIn(found, form) {
+  const { coordinates, contourEnds, shapeEnds, fills } = found;
+  if (form === "arrays") {
+    return { shapes: shapesIn(found, form), fills };
+  }
+  const filled = pathsIn(coordinates, contourEnds).map((points, number) => {
+    const start = number === 0 ? 0 : contourEnds[number - 1];
+    return points.map((point, at) => [point, [...points[(at + 1) % points.length]], fills[start + at]]);
+  });
+  return parted(filled, shapeEnds);
+}
+
+/** A source: the side, the numbers of path and step, and two truths. */
+function sourceIn(sources, number) {
+  const [side, path, step, cut, back] = sources.subarray(SOURCE * number, SOURCE * (number + 1));
+  return { side: SIDES[side], path, step, cut: cut === 1, reversed: back === 1 };
+}
+
+/** Traced edges in a form: arrays, with five numbers for each source, or edges with a list of sources behind. */
+export function tracedIn(found, form) {
+  if (form === "arrays") {
+    return found;
+  }
+  const { sourceEnds, sources } = found;
+  const all = Array.from({ length: sources.length / SOURCE }, (_, number) => sourceIn(sources, number));
+  const listed = parted(all, sourceEnds);
+  return edgesIn(found, form).map((edge, number) => [...edge, listed[number]]);
 }
 
 /** Locations in a form: numbers, which are places in LOCATIONS, or words. */

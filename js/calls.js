@@ -1,17 +1,19 @@
 /** The calls: contours, paths and points in, shapes, paths, edges, relations and locations out. */
 
 import { FILLS, LIMIT, Library, RELATIONS, RULES, SOLVERS } from "./abi.js";
-import { edgesIn, linesIn, linksIn, locationsIn, shapesIn } from "./answers.js";
+import { edgesIn, linesIn, linksIn, locationsIn, shapesIn, tracedIn, vectorsIn } from "./answers.js";
 import { Arrangement } from "./arrangement.js";
 import { BadInput } from "./errors.js";
 import { misfit, sideOf } from "./cells.js";
 import { isGeometry, partsOf } from "./geojson.js";
-import { EXACT, alike, askedOf, chosen, chosenAsGiven, grouped, listed, pointsOf } from "./given.js";
+import { EXACT, alike, askedOf, chosen, chosenAsGiven, chosenOfSteps, grouped } from "./given.js";
+import { listed, pointsOf, relationAt, stepped } from "./given.js";
 import { Prepared } from "./prepared.js";
 import { shown } from "./shown.js";
 
 const LOOK = ["clockwise", "keep", "touching", "minimumArea", "solver"];
 const OVERLAY = ["rule", "fill", ...LOOK, "answer"];
+const VECTORS = OVERLAY.filter((name) => name !== "touching");
 const SIMPLIFY = ["fill", ...LOOK, "answer"];
 const CLIP = ["fill", "invert", "boundary", "solver", "answer"];
 const FILLED = ["fill", "solver", "answer"];
@@ -76,6 +78,17 @@ export class Polyover {
     });
   }
 
+  /**
+   * The shapes round the same region by their steps, each with the sum of the bits of its filled sides. Contours may
+   * touch themselves in points, and a point stays where the sides change.
+   */
+  vectors(subject, clip = [], options = {}) {
+    const { rule, fill, answer, ...look } = chosen(options, VECTORS, this.#grid);
+    return this.#filled({ subject, clip }, { fill, solver: look.solver }, answer, (asked, form) =>
+      vectorsIn(this.#library.vectors(asked, rule, fill, look), form),
+    );
+  }
+
   /** The shapes round what the contours fill; one simple contour stays as it is given, or is reversed. */
   simplify(subject, options = {}) {
     const { fill, answer, ...look } = chosen(options, SIMPLIFY, this.#grid);
@@ -89,14 +102,22 @@ export class Polyover {
    * With another solver than "exact" they are those of an arrangement, told at the finest scale in the range.
    */
   relate(subject, clip, options = {}) {
-    const { fill, solver } = chosenAsGiven(options);
-    const isExact = solver === EXACT;
-    // (the regions of two geometries are the same under each rule: no polygons need be joined)
-    const rule = isExact && [subject, clip].every(isGeometry) ? NONZERO : fill;
-    return this.#filled({ subject, clip }, { fill: rule, solver: isExact ? SNAPPED : solver }, "lists", (asked) => {
-      const bits = isExact ? this.#library.relate(asked, rule) : this.#arrangedBits(asked, fill, solver);
-      return Object.fromEntries(RELATIONS.map((name, at) => [name, ((bits >> at) & 1) === 1]));
-    });
+    const bits = this.#related(subject, clip, options, (asked, fill) => this.#library.relate(asked, fill), (...asked) =>
+      this.#library.relateArranged(...asked),
+    );
+    return Object.fromEntries(RELATIONS.map((name, at) => [name, ((bits >> at) & 1) === 1]));
+  }
+
+  /** Whether the relation with the name holds, as `relate` tells it, in less time. */
+  relateOne(relation, subject, clip, options = {}) {
+    const at = relationAt(relation);
+    return this.#related(
+      subject,
+      clip,
+      options,
+      (asked, fill) => this.#library.relateOne(asked, at, fill),
+      (asked, ...how) => this.#library.relateOneArranged(asked, at, ...how),
+    );
   }
 
   /** The parts of open paths inside the shape; with `invert` those outside, with `boundary` those along it too. */
@@ -172,17 +193,40 @@ export class Polyover {
     );
   }
 
+  /**
+   * The edges of the arrangement, all or by a rule, each with the steps of lists or arrays on which it lies; of open
+   * paths where `closed` is false.
+   */
+  trace(subject, clip = [], options = {}) {
+    const { rule, fill, closed, solver, answer } = chosenOfSteps(options);
+    return this.#asked([stepped("subject", subject), stepped("clip", clip)], answer, (asked, form) =>
+      tracedIn(this.#library.trace(asked, rule, fill, solver, closed), form),
+    );
+  }
+
   /** Whether `locate` takes the contours: whether two steps of one share points only where they are ends of both. */
   isResolved(shape) {
     return this.#asked([this.#contours("shape", shape)], "lists", (asked) => this.#library.isResolved(asked));
   }
 
-  /** The bits of the relations of an arrangement, of coordinates times the greatest power of two in the range. */
-  #arrangedBits(asked, fill, solver) {
-    const whole = { ...asked, groups: alike(asked.groups, Float64Array, asked.grid) };
-    const extent = this.#library.extent(whole);
-    const power = extent === 0n || extent > LIMIT ? 0 : (LIMIT / extent).toString(2).length - 1;
-    return this.#library.relateArranged(whole, fill, solver, power);
+  /**
+   * What is told of the contours as they are given, or of an arrangement: of coordinates times the greatest power of
+   * two in the range.
+   */
+  #related(subject, clip, options, toldExactly, toldOfArrangement) {
+    const { fill, solver } = chosenAsGiven(options);
+    const isExact = solver === EXACT;
+    // (the regions of two geometries are the same under each rule: no polygons need be joined)
+    const rule = isExact && [subject, clip].every(isGeometry) ? NONZERO : fill;
+    return this.#filled({ subject, clip }, { fill: rule, solver: isExact ? SNAPPED : solver }, "lists", (asked) => {
+      if (isExact) {
+        return toldExactly(asked, rule);
+      }
+      const whole = { ...asked, groups: alike(asked.groups, Float64Array, asked.grid) };
+      const extent = this.#library.extent(whole);
+      const power = extent === 0n || extent > LIMIT ? 0 : (LIMIT / extent).toString(2).length - 1;
+      return toldOfArrangement(whole, fill, solver, power);
+    });
   }
 
   // ---- what is given
@@ -244,19 +288,22 @@ export class Polyover {
   /** The contours of a polygon: they wind once round what its outline winds round, and none of its holes does. */
   #coveredBy(place, [outline, ...holes]) {
     const around = this.#wound(place, outline);
-    if (holes.length === 0) {
+    const wound = holes.map((hole, at) => this.#wound(`${place}, ring ${at + 2}`, hole));
+    const within = wound.filter(({ coordinates }) => coordinates.length > 0);
+    if (within.length === 0) {
       return around;
     }
-    const within = holes.map((hole, at) => this.#wound(`${place}, ring ${at + 2}`, hole));
     const groups = [inOne([around]), inOne(within)];
     return this.#library.overlay({ groups, kind: BigInt64Array, grid: this.#grid }, DIFFERENCE, NONZERO, PLAIN);
   }
 
   /** The contours that wind once round what a ring winds round. (Rings that run against each other may overlap.) */
   #wound(place, ring) {
-    return this.#asked([listed(place, [ring])], "arrays", (asked) =>
-      this.#library.simplify({ ...asked, kind: BigInt64Array }, NONZERO, PLAIN),
-    );
+    return this.#asked([listed(place, [ring])], "arrays", ({ groups: [group], grid }) => {
+      const numbers = this.#library.withoutRepeats(group, grid);
+      const groups = [{ ...group, numbers, ends: Uint32Array.of(numbers.length / 2) }];
+      return this.#library.simplify({ groups, kind: BigInt64Array }, NONZERO, PLAIN);
+    });
   }
 }
 

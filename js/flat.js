@@ -41,7 +41,7 @@ function ends32(what, ends) {
 }
 
 /** That counts rise from 0 to another count. */
-function checkEnds(what, ends, count, counted) {
+export function checkEnds(what, ends, count, counted) {
   let before = 0;
   for (const end of ends) {
     if (end < before) {

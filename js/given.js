@@ -1,12 +1,13 @@
 /** What is given to a call: groups of contours, paths or points, and options. */
 
-import { FILLS, LIMIT, LIMIT_32, Misplaced, RULES, SOLVERS } from "./abi.js";
+import { FILLS, LIMIT, LIMIT_32, Misplaced, RELATIONS, RULES, SOLVERS } from "./abi.js";
 import { areaOf } from "./area.js";
 import { BadInput } from "./errors.js";
 import { Flat, checkHeld, isNumbers } from "./flat.js";
 import { isGeometry, partsOf } from "./geojson.js";
 import { checkNames, truth } from "./options.js";
 import { shown } from "./shown.js";
+import { ALL_EDGES } from "./traced.js";
 
 // ---- options
 
@@ -39,6 +40,9 @@ const OPTIONS = {
 export const EXACT = SOLVERS.length;
 const AS_GIVEN = { ...OPTIONS, solver: ["exact", placeIn([...SOLVERS, "exact"], "solver")] };
 
+const RULE_OF_EDGES = (value) => (value === undefined ? ALL_EDGES : placeIn(RULES, "rule")(value));
+const OF_STEPS = { ...OPTIONS, rule: [undefined, RULE_OF_EDGES], closed: [true, truth("closed")] };
+
 /** The options of a call, each of which has one of these names, with the defaults of those not given. */
 export function chosen(options, names, grid, table = OPTIONS) {
   checkNames(options, names);
@@ -50,6 +54,14 @@ export function chosen(options, names, grid, table = OPTIONS) {
 export function chosenAsGiven(options) {
   return chosen(options, ["fill", "solver"], undefined, AS_GIVEN);
 }
+
+/** The options of a call that tells of given steps: all edges where no rule is asked for. */
+export function chosenOfSteps(options) {
+  return chosen(options, ["rule", "fill", "closed", "solver", "answer"], undefined, OF_STEPS);
+}
+
+/** The place of a relation, by its name. */
+export const relationAt = placeIn(RELATIONS, "relation");
 
 // ---- groups
 
@@ -138,6 +150,14 @@ export function listed(name, paths) {
   } catch (fault) {
     throw fault instanceof Misplaced ? placed(fault, [{ name, numbers: [], ends }]) : fault;
   }
+}
+
+/** Contours or paths whose steps are told of by their numbers: a geometry has none that stay as they are. */
+export function stepped(name, paths) {
+  if (isGeometry(paths)) {
+    throw new BadInput(`${name}: a geometry in the place of a list of contours: a trace names steps of lists`);
+  }
+  return grouped(name, paths);
 }
 
 /** Contours or paths as a group: lists of points, or `Flat`. */

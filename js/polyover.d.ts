@@ -32,6 +32,8 @@ export interface MultiLineString {
 export type Path = readonly (readonly Coordinate[])[];
 /** What a call takes as contours or as lines. */
 export type Paths = Iterable<Path> | Flat | GeoJSON;
+/** The same, but for geometries. */
+export type ListedPaths = Iterable<Path> | Flat;
 /** What a call takes as points. */
 export type Points = Path | Numbers | GeoJSON;
 
@@ -78,6 +80,14 @@ export interface OverlayOptions extends LookOptions {
   /** "union" if it is not given. */
   rule?: Rule;
 }
+/** Contours of these shapes may touch themselves always. */
+export type VectorsOptions = Omit<OverlayOptions, "touching">;
+export interface TraceOptions extends FillOptions {
+  /** The edges where it holds on one side alone; all if it is not given. */
+  rule?: Rule;
+  /** Whether the paths are closed, which they are if it is not given. */
+  closed?: boolean;
+}
 /** What an arrangement is asked for: the fill rule and the solver are its own. */
 export type ArrangedOptions = Omit<OverlayOptions, "fill" | "solver">;
 export type SliceOptions = FillOptions & Pick<LookOptions, "clockwise" | "minimumArea">;
@@ -99,6 +109,31 @@ export interface FlatEdges {
   coordinates: Numbers;
   /** The sum of the filled sides of each edge. */
   fills: Uint8Array;
+}
+/** Shapes by the steps of their contours, each with the sum of its filled sides. */
+export type Vectors<N extends Coordinate = number> = Edge<N>[][][];
+export interface FlatVectors {
+  shapes: FlatShapes;
+  /** For each point in order the sum of the filled sides of the step that begins there. */
+  fills: Uint8Array;
+}
+/** A given step on which an edge lies: paths and their steps are counted from 0. */
+export interface Source {
+  side: "subject" | "clip";
+  path: number;
+  step: number;
+  /** Whether it was cut into pieces. */
+  cut: boolean;
+  /** Whether it runs against the edge. */
+  reversed: boolean;
+}
+/** An edge, and the given steps on which it lies. */
+export type TracedEdge<N extends Coordinate = number> = [...edge: Edge<N>, sources: Source[]];
+export interface FlatTraced extends FlatEdges {
+  /** How many sources there are up to the last one of each edge. */
+  sourceEnds: Uint32Array;
+  /** Five numbers for each source: 0 for the subject or 1, path, step, and 1 if it was cut, and if it is reversed. */
+  sources: Uint32Array;
 }
 export interface Relations {
   intersects: boolean;
@@ -134,6 +169,16 @@ export interface EdgesAs<N extends Coordinate> {
   lists: Edge<N>[];
   arrays: FlatEdges;
   geojson: Edge<N>[];
+}
+export interface VectorsAs<N extends Coordinate> {
+  lists: Vectors<N>;
+  arrays: FlatVectors;
+  geojson: Vectors<N>;
+}
+export interface TracedAs<N extends Coordinate> {
+  lists: TracedEdge<N>[];
+  arrays: FlatTraced;
+  geojson: TracedEdge<N>[];
 }
 export interface LinksAs {
   lists: Link[];
@@ -202,6 +247,12 @@ export class Polyover {
     clip?: Q,
     options?: OverlayOptions & AnswerOptions<F>,
   ): { shapes: ShapesAs<NumberOf<P> | NumberOf<Q>>[F]; links: LinksAs[F] };
+  /** The shapes round the same region, each contour by its steps, with the sum of the filled sides of each. */
+  vectors<P extends Paths, Q extends Paths = [], F extends Form = FormOf<P>>(
+    subject: P,
+    clip?: Q,
+    options?: VectorsOptions & AnswerOptions<F>,
+  ): VectorsAs<NumberOf<P> | NumberOf<Q>>[F];
   /** The shapes round what the contours fill; one simple contour stays as it is given, or is reversed. */
   simplify<P extends Paths, F extends Form = FormOf<P>>(
     subject: P,
@@ -209,6 +260,8 @@ export class Polyover {
   ): ShapesAs<NumberOf<P>>[F];
   /** Which relations hold of the contours as they are given: nothing is rounded. */
   relate(subject: Paths, clip: Paths, options?: RelateOptions): Relations;
+  /** Whether the relation holds, as `relate` tells it, in less time. */
+  relateOne(relation: keyof Relations, subject: Paths, clip: Paths, options?: RelateOptions): boolean;
   /** The parts of open paths inside the shape, or as the options say. */
   clip<P extends Paths, Q extends Paths, F extends Form = FormOf<P>>(
     shape: P,
@@ -254,6 +307,12 @@ export class Polyover {
     clip?: Q,
     options?: FillOptions & AnswerOptions<F>,
   ): EdgesAs<NumberOf<P> | NumberOf<Q>>[F];
+  /** The edges of the arrangement, all or by a rule, each with the given steps on which it lies. */
+  trace<P extends ListedPaths, Q extends ListedPaths = [], F extends Form = FormOf<P>>(
+    subject: P,
+    clip?: Q,
+    options?: TraceOptions & AnswerOptions<F>,
+  ): TracedAs<NumberOf<P> | NumberOf<Q>>[F];
   /** Whether `locate` takes the contours. */
   isResolved(shape: Paths): boolean;
 }
@@ -328,11 +387,17 @@ export class RemotePolyover {
     clip?: Q,
     options?: OverlayOptions & AnswerOptions<F>,
   ): Promise<{ shapes: ShapesAs<NumberOf<P> | NumberOf<Q>>[F]; links: LinksAs[F] }>;
+  vectors<P extends Paths, Q extends Paths = [], F extends Form = FormOf<P>>(
+    subject: P,
+    clip?: Q,
+    options?: VectorsOptions & AnswerOptions<F>,
+  ): Promise<VectorsAs<NumberOf<P> | NumberOf<Q>>[F]>;
   simplify<P extends Paths, F extends Form = FormOf<P>>(
     subject: P,
     options?: LookOptions & AnswerOptions<F>,
   ): Promise<ShapesAs<NumberOf<P>>[F]>;
   relate(subject: Paths, clip: Paths, options?: RelateOptions): Promise<Relations>;
+  relateOne(relation: keyof Relations, subject: Paths, clip: Paths, options?: RelateOptions): Promise<boolean>;
   clip<P extends Paths, Q extends Paths, F extends Form = FormOf<P>>(
     shape: P,
     lines: Q,
@@ -365,6 +430,11 @@ export class RemotePolyover {
     clip?: Q,
     options?: FillOptions & AnswerOptions<F>,
   ): Promise<EdgesAs<NumberOf<P> | NumberOf<Q>>[F]>;
+  trace<P extends ListedPaths, Q extends ListedPaths = [], F extends Form = FormOf<P>>(
+    subject: P,
+    clip?: Q,
+    options?: TraceOptions & AnswerOptions<F>,
+  ): Promise<TracedAs<NumberOf<P> | NumberOf<Q>>[F]>;
   isResolved(shape: Paths): Promise<boolean>;
 }
 

@@ -8,8 +8,8 @@ const THREADS = "node:worker_threads";
 const OF_PREPARED = ["locate", "contains"];
 const OF_ARRANGEMENT = ["overlay", "hierarchy", "edges"];
 const CALLS = [
-  ...["overlay", "hierarchy", "simplify", "relate", "clip", "slice", "tiles", "locate", "edges"],
-  ...["isResolved", "built"],
+  ...["overlay", "hierarchy", "vectors", "simplify", "relate", "relateOne", "clip", "slice", "tiles", "locate"],
+  ...["edges", "trace", "isResolved", "built"],
 ];
 
 /** A worker of Node with a browser's ways. */

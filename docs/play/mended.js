@@ -1,6 +1,6 @@
 /**
  * Polygons of files whose contours do not wind once round what they cover: those with a ring that meets itself, or with
- * holes that overlap or lie outside. In the worker, by the library.
+ * holes that overlap or reach outside. In the worker, by the library.
  */
 
 /** Up to so many points all pairs are compared. */
@@ -16,7 +16,8 @@ function visitsOnce(/** @type {number[][]} */ ring) {
 function windsOnce(library, /** @type {number[][][]} */ rings, /** @type {boolean} */ areResolved) {
   if (!rings.every(visitsOnce) || !(areResolved || library.isResolved(rings))) return false;
   if (rings.length === 1) return true;
-  return library.overlay(rings, [], { rule: "subject", fill: "negative" }).length === 0;
+  // (exactly: what they fill so has a point in common with itself, if any)
+  return !library.relate(rings, rings, { fill: "negative" }).intersects;
 }
 
 /**

@@ -12,6 +12,7 @@
 
 import { areEqual, digitsOf, floatOf, isNumber, jsonOf, shown, wholeOf } from "./decimal.js";
 import { KINDS, LIMIT } from "./drawing.js";
+import { twiceIn } from "./once.js";
 import { BadText } from "./text.js";
 
 /** The most digits behind the point that are read, where the file does not say how many it has. */
@@ -168,8 +169,16 @@ export function readGeojson(/** @type {string} */ text, least = 0) {
   return { polygons, others, digits, kept, said: [...noted(reader), ...said] };
 }
 
-/** The value of a text. */
+/** The value of a text, in whose objects each member comes once. */
 function parsed(/** @type {string} */ text) {
+  const value = valueOf(text);
+  const twice = twiceIn(text);
+  if (twice !== undefined) throw new BadText(`the member ${shown(twice)} comes twice in one object`);
+  return value;
+}
+
+/** The value of a text. */
+function valueOf(/** @type {string} */ text) {
   try {
     return jsonOf(text);
   } catch (fault) {

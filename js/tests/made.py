@@ -19,7 +19,10 @@ sys.path.insert(0, str(Path(__file__).resolve().parents[2] / "python"))
 import polyover  # noqa: E402
 from polyover.text import FILLS, LIMIT, RULES, SNAPPED, SOLVERS  # noqa: E402
 
-CALLS = ("overlay", "hierarchy", "simplify", "relate", "clip", "slice", "locate", "edges", "is_resolved", "prepare")
+CALLS = (
+    *("overlay", "hierarchy", "simplify", "relate", "clip", "slice", "locate", "edges", "is_resolved", "prepare"),
+    *("vectors", "trace"),
+)
 SMALL, WIDE = 2**30 - 1, 2**50
 
 
@@ -55,8 +58,10 @@ def made(random: Random) -> tuple[str, list[Any], dict[str, Any], int]:
     """A call, what is given to it, and its options."""
     call, reach = random.choice(CALLS), random.choice((3, 10, 1000, SMALL, WIDE, LIMIT))
     first = contours(random, reach)
-    if call in ("overlay", "hierarchy"):
+    if call in ("overlay", "hierarchy", "vectors"):
         options = {**look(random, reach), "rule": random.choice(list(RULES))}
+        if call == "vectors":
+            del options["ogc"]
         return call, [first, contours(random, reach)], options, reach
     if call == "simplify":
         return call, [first[: random.choice((1, 9))]], look(random, reach), reach
@@ -71,7 +76,10 @@ def made(random: Random) -> tuple[str, list[Any], dict[str, Any], int]:
     options = filled(random)
     if call == "prepare":
         return call, [first, path(random, reach)], options, reach
-    if call == "edges":
+    if call == "trace":
+        options["closed"] = random.random() < 0.7
+        options |= random.choice(({}, {"rule": random.choice(list(RULES))}))
+    if call in ("edges", "trace"):
         return call, [first, contours(random, reach)], options, reach
     if call == "clip":
         options |= {name: random.random() < 0.4 for name in ("invert", "boundary")}

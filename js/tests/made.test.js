@@ -42,7 +42,21 @@ function expected({ call, answer }) {
   if (call === "relate") {
     return Object.fromEntries(Object.entries(answer).map(([name, holds]) => [RELATIONS[name] ?? name, holds]));
   }
-  return call === "edges" ? answer.map(([a, b, sides]) => [a, b, Number(sides)]) : answer;
+  if (call === "trace") {
+    return answer.map(([a, b, sides, sources]) => [a, b, Number(sides), sources.map(sourceOf)]);
+  }
+  if (call === "vectors") {
+    return answer.map((shape) => shape.map((contour) => contour.map(edgeOf)));
+  }
+  return call === "edges" ? answer.map(edgeOf) : answer;
+}
+
+function edgeOf([a, b, sides]) {
+  return [a, b, Number(sides)];
+}
+
+function sourceOf([side, path, step, cut, reversed]) {
+  return { side, path: Number(path), step: Number(step), cut, reversed };
 }
 
 /** Paths in arrays of a kind. */
@@ -60,14 +74,29 @@ function listed(answer, number) {
   if (answer instanceof Uint8Array) {
     return Array.from(answer, (at) => LOCATIONS[at]);
   }
+  if (answer?.shapes && answer.fills) {
+    let at = 0;
+    const steps = (contour) => contour.map((from, place) => [from, contour[(place + 1) % contour.length]]);
+    const filled = (contour) => steps(contour).map((step) => [...step, answer.fills[at++]]);
+    return listed(answer.shapes, number).map((shape) => shape.map(filled));
+  }
   if (answer?.shapes) {
     return { shapes: listed(answer.shapes, number), links: inRows(answer.links, 3) };
   }
   if (answer?.fills) {
     const points = turned(inRows(answer.coordinates, 2), number);
-    return Array.from(answer.fills, (sum, at) => [points[2 * at], points[2 * at + 1], sum]);
+    const edges = Array.from(answer.fills, (sum, at) => [points[2 * at], points[2 * at + 1], sum]);
+    return answer.sources ? withSources(edges, answer) : edges;
   }
   return answer;
+}
+
+/** Traced edges of arrays, each with its sources. */
+function withSources(edges, { sources, sourceEnds }) {
+  const all = inRows(sources, 5).map(([side, path, step, cut, back]) =>
+    sourceOf([["subject", "clip"][side], path, step, cut === 1, back === 1]),
+  );
+  return edges.map((edge, at) => [...edge, all.slice(at === 0 ? 0 : sourceEnds[at - 1], sourceEnds[at])]);
 }
 
 /** The items of an array, so many a row. */

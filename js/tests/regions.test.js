@@ -75,6 +75,35 @@ test("holes overlap, whichever way they run", () => {
   }
 });
 
+test("a hole sticks out by less than half a unit", () => {
+  // (its point (2, 1) is 1/5 above the edge to (5, 2), which then runs through it: 1/2 more is covered)
+  const hole = [[2, 1], [1, -2], [3, -2]];
+  const shape = polygon([[0, 0], [0, -4], [5, -4], [5, 2]], hole);
+  for (const fill of ["nonzero", "evenodd", "positive", "negative"]) {
+    const other = { fill, answer: "lists" };
+    assert.equal(area(polyover.overlay(shape, [], other)), 25.5 - 3);
+    assert.deepEqual(polyover.overlay(shape, polygon(hole), { ...other, rule: "intersect" }), []);
+    assert.equal(polyover.relate(shape, polygon(hole), { fill }).touches, true);
+  }
+  assert.deepEqual(polyover.locate(shape, [[2, 0], [2, 1], [0, -1]]), [OUT, ON, ON]);
+});
+
+test("a ring begins as it is given, whatever is dropped of it", () => {
+  const [corners, lists] = [[[4, 4], [0, 4], [0, 0], [4, 0]], { answer: "lists" }];
+  const [again, near] = [[corners[0], ...corners], [corners[0], [4.2, 4.1], ...corners.slice(1)]];
+  const [thin, dot] = [[[1, 1], [2, 2], [3, 3]], [[1, 1], [1.1, 1], [1, 1.1]]];
+  for (const shape of [polygon(corners), polygon(again), polygon([...again, [4, 0]]), polygon(corners, thin)]) {
+    assert.deepEqual(polyover.simplify(shape, lists), [[corners]]);
+  }
+  for (const shape of [polygon(near), polygon(near, dot, thin)]) {
+    assert.deepEqual(polyover.scaled(1).simplify(shape, lists), [[corners]]);
+  }
+  // (the first point, and the one that is equal to it once rounded)
+  const behind = polygon([[4.1, 4], ...corners.slice(1), [4, 4]]);
+  assert.deepEqual(polyover.scaled(1).simplify(behind, lists), [[[...corners.slice(1), corners[0]]]]);
+  assert.deepEqual(polyover.scaled(1).simplify(polygon(dot), lists), []);
+});
+
 test("a ring that meets itself is located by what it winds round", () => {
   const bow = [[0, 0], [4, 4], [4, 0], [0, 4]];
   assert.deepEqual(polyover.locate(polygon(bow), [[1, 2], [3, 2], [2, 1], [2, 2]]), [IN, IN, OUT, ON]);

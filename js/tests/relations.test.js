@@ -60,9 +60,32 @@ for (const [name, subject, clip, byFill] of WORKED) {
       const told = polyover.relate([subject], [clip], { fill });
       assert.deepEqual(Object.keys(told), NAMES);
       assert.deepEqual(held(told), NAMES.filter((each) => expected.includes(each)), fill);
+      for (const relation of NAMES) {
+        assert.equal(polyover.relateOne(relation, [subject], [clip], { fill }), expected.includes(relation), relation);
+      }
     }
   });
 }
+
+test("one relation", () => {
+  // (a square, one at its corner, and one along its side)
+  const [square, corner, beside] = [box(0, 0, 2), box(2, 2, 2), box(2, 0, 2)];
+  const one = (relation, clip, options) => polyover.relateOne(relation, [square], [clip], options);
+  assert.deepEqual(NAMES.filter((name) => one(name, corner)), [...TOUCHES, "pointIntersects"]);
+  assert.deepEqual(NAMES.filter((name) => one(name, beside)), TOUCHES);
+  assert.deepEqual(NAMES.filter((name) => one(name, square)), [...OVERLAPS, "within", "covers"]);
+  for (const solver of ["snapped", "rounds", "exact"]) {
+    assert.deepEqual(NAMES.filter((name) => one(name, beside, { solver })), TOUCHES);
+  }
+  assert.equal(polyover.relateOne("within", polygon(box(1, 1, 1)), polygon(square), { fill: "negative" }), true);
+  const tenths = [[[[0, 0], [0.1, 0], [0, 0.1]]], [[[0.1, 0], [1, 0], [1, 1]]]];
+  assert.equal(polyover.scaled(10).relateOne("touches", ...tenths), true);
+  for (const relation of ["interiors_intersect", "", undefined, 1, "toString"]) {
+    assert.throws(() => one(relation, corner), { name: "BadInput", message: /^unknown relation .*: one of inters/ });
+  }
+  assert.throws(() => one("within", [[0, 0], [1.5, 0], [0, 1]]), { message: /^clip: contour 1, point 2: / });
+  assert.throws(() => one("within", corner, { rule: "xor" }), BadInput);
+});
 
 test("relations of nothing", () => {
   for (const fill of FILLS) {
@@ -139,6 +162,7 @@ test("relations in a worker", async () => {
       for (const [fill, expected] of Object.entries(byFill)) {
         const told = await remote.relate([subject], [clip], { fill });
         assert.deepEqual(held(told), NAMES.filter((each) => expected.includes(each)));
+        assert.equal(await remote.relateOne("touches", [subject], [clip], { fill }), expected.includes("touches"));
       }
     }
     assert.deepEqual(held(await remote.relate([CUP], [NEEDLE], { solver: "snapped" })), OVERLAPS);
@@ -169,6 +193,8 @@ test("made relations are those of the library for C", { skip: SKIPPED }, () => {
     const isBig = typeof subject[0][0][0] === "bigint";
     const kinds = isBig ? [BigInt64Array] : [BigInt64Array, Float64Array, ...(is32 ? [Int32Array] : [])];
     assert.equal(bitsOf(polyover.relate(subject, clip, { fill })), bits, line);
+    const each = NAMES.map((name) => [name, polyover.relateOne(name, subject, clip, { fill })]);
+    assert.equal(bitsOf(Object.fromEntries(each)), bits, line);
     for (const kind of kinds) {
       const told = polyover.relate(flat(subject, kind), flat(clip, kind), { fill });
       assert.equal(bitsOf(told), bits, `${kind.name} ${line}`);

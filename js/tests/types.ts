@@ -3,7 +3,8 @@
 import { BadInput, ERRORS, Flat, FlatShapes, load, multiPolygon, NotResolved } from "../polyover.js";
 import { Polyover as Calls, Prepared as PreparedOf } from "../polyover.js";
 import type { Built, Edge, Link, Location, MultiPolygon, Polyover, Prepared, Relations } from "../polyover.js";
-import type { RemotePolyover, RemotePrepared, Shapes } from "../polyover.js";
+import type { FlatTraced, FlatVectors, RemotePolyover, RemotePrepared, Shapes, Source, TracedEdge, Vectors } from
+  "../polyover.js";
 
 const square = [[0, 0], [4, 0], [4, 4], [0, 4]];
 
@@ -24,11 +25,18 @@ export async function asked(): Promise<unknown[]> {
   const found: { shapes: Shapes; links: Link[] } = polyover.hierarchy([square]);
   const relations: Relations = polyover.relate([square], arrays.contours);
   const exact: Relations = polyover.relate([square], [square], { solver: "exact" });
+  const one: boolean = polyover.relateOne("within", [square], [square], { solver: "exact" });
   const arranged: Relations = polyover.relate([square], [square], { fill: "evenodd", solver: "rounds" });
   const places: Location[] = polyover.locate([square], [[1, 1]]);
   const numbers: Uint8Array = polyover.locate([square], new Float64Array(2));
   const big: Shapes<bigint> = polyover.overlay([[[0n, 0n], [4n, 0n], [4n, 4n]]]);
   const edges: Edge[] = polyover.edges([square]);
+  const traced: TracedEdge[] = polyover.trace([square], [square], { rule: "xor", closed: false });
+  const [, , , [source]] = traced[0];
+  const on: Source = source;
+  const flatly: FlatTraced = polyover.trace(arrays.contours, [square], { solver: "rounds" });
+  const vectors: Vectors = polyover.vectors([square], [], { rule: "subject", keep: true });
+  const filled: FlatVectors = polyover.vectors([square], [], { answer: "arrays" });
   const parts: Flat = polyover.clip(arrays.contours, [square], { invert: true });
   const tiles: Shapes = polyover.tiles([square], 2, 2n);
   const is: boolean = polyover.isResolved([square]);
@@ -45,6 +53,8 @@ export async function asked(): Promise<unknown[]> {
   both.free();
   const remote: RemotePolyover = await load({ worker: true });
   const later: Shapes = await remote.overlay([square], [], { touching: true });
+  const farVectors: FlatVectors = await remote.vectors(arrays.contours);
+  const farTraced: TracedEdge<bigint>[] = await remote.trace([[[0n, 0n], [1n, 1n]]]);
   const far: RemotePrepared = await remote.prepare(arrays.contours);
   const answered: boolean[] = await far.contains({ type: "Point", coordinates: [1, 1] });
   const farBoth = await remote.arrangement(arrays.contours);
@@ -70,6 +80,10 @@ export async function asked(): Promise<unknown[]> {
   polyover.prepare([square], { answer: "lists" });
   // @ts-expect-error: an arrangement has a fill rule of its own
   both.overlay({ fill: "evenodd" });
+  // @ts-expect-error: a geometry has no steps of its own
+  polyover.trace(geometry);
+  // @ts-expect-error: and contours with filled sides may touch themselves always
+  polyover.vectors([square], [], { touching: true });
   // @ts-expect-error: contours are lists of points, in a list
   polyover.overlay(square);
   // @ts-expect-error: a module is no number
@@ -81,6 +95,7 @@ export async function asked(): Promise<unknown[]> {
 
   return [
     ...[asked, inside, truths, answered, lists, named, other, found, relations, places, numbers, edges, parts, is],
+    ...[traced, on, flatly, vectors, filled, farVectors, farTraced],
     ...[exact, arranged, shared, linked, between, halves, farShapes],
     ...[tiles, later, big, built, kind, bytes, there, multiPolygon(lists)],
   ];

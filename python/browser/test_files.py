@@ -200,6 +200,7 @@ class Files(unittest.TestCase):
             ("bad.geojson", '{"type": "LineString", "coordinates": [[1, 2]]}', "feature 1, line 1: 1 points: a line"),
             ("bad.geojson", '{"type": "MultiPoint", "coordinates": [[1, 2], [3]]}', "feature 1, point 2: [3] is no"),
             ("bad.geojson", '{"type": "FeatureCollection"}', "features: nothing in the place of a list"),
+            ("bad.geojson", '{"type": "Point", "type": "Polygon"}', 'the member "type" comes twice in one object'),
         ):
             self.page.open(DRAWN)
             self.page.give(name, text)

@@ -16,6 +16,7 @@ from .scaled import Scaled
 from .shapes import Paths, Shapes
 from .text import LOCATIONS, Fill, RelationSolver, Rule, Solver
 from .traced import Source, TracedEdge, trace
+from .vectors import VectorEdge, vectors
 
 __version__ = "0.2.0"
 
@@ -44,6 +45,7 @@ __all__ = [
     "Source",
     "TooManyEdges",
     "TracedEdge",
+    "VectorEdge",
     "backend",
     "built",
     "clip",
@@ -69,5 +71,6 @@ __all__ = [
     "trace",
     "union",
     "union_all",
+    "vectors",
     "within",
 ]

@@ -216,8 +216,25 @@ class Version(argparse.Action):
         parser.exit()
 
 
+class Once(argparse.Action):
+    """Keeps the value of an option or a word, which comes once: a second value is refused."""
+
+    is_given = False
+
+    def __call__(self, parser: argparse.ArgumentParser, namespace: Any, values: Any, *_: Any) -> None:
+        if self.is_given:
+            raise argparse.ArgumentError(self, "it comes twice")
+        self.is_given = True
+        setattr(namespace, self.dest, values)
+
+
 class Parser(argparse.ArgumentParser):
-    """A parser whose help is written to its end, or fails."""
+    """A parser whose help is written to its end, or fails, and whose options take one value."""
+
+    def __init__(self, *given: Any, **how: Any) -> None:
+        super().__init__(*given, **how)
+        # (where no action is named)
+        self.register("action", None, Once)
 
     def print_help(self, file: Any = None) -> None:
         write_all(self.format_help())

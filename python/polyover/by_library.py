@@ -21,12 +21,12 @@ RULE_NUMBERS = {name: number for number, name in enumerate(RULES)}
 FILL_NUMBERS = {name: number for number, name in enumerate(FILLS)}
 SOLVER_NUMBERS: dict[str, int] = {name: number for number, name in enumerate(SOLVERS)}
 Found = Callable[[Held], Any]
-RESULTS = ("overlay", "hierarchy", "simplify", "edges", "clip", "slice")
+RESULTS = ("overlay", "hierarchy", "simplify", "edges", "clip", "slice", "vectors")
 # the function of the library that each call takes
 TAKES = {
     **{name: f"polyover_{name}_result" for name in RESULTS},
-    **{name: f"polyover_{name}" for name in ("relate", "relate_one", "relate_exact", "locate", "arrange")},
-    **{name: f"polyover_{name}" for name in ("prepare", "prepare_exact")},
+    **{name: f"polyover_{name}" for name in ("relate", "relate_one", "relate_exact", "relate_one_exact")},
+    **{name: f"polyover_{name}" for name in ("locate", "arrange", "prepare", "prepare_exact")},
     "tiles": "polyover_slice_result",
     "slice_custom": "polyover_slice_custom_result",
     "is_resolved": "polyover_resolved",
@@ -89,6 +89,12 @@ def linked_in(held: Held) -> tuple[list[Any], list[Any]]:
     return shapes_in(held), list(zip(told[0::3], told[1::3], told[2::3]))
 
 
+def filled_in(held: Held) -> list[Any]:
+    """The shapes of an answer, whose points have each the bits of the filled sides of the step that begins there."""
+    points = list(zip(points_in(held.coordinates), held.fills.tolist()))
+    return parted(parted(points, held.contour_ends.tolist()), held.shape_ends.tolist())
+
+
 def edges_in(held: Held) -> list[Any]:
     """The edges of an answer: two points each, and the bits of its filled sides."""
     points = points_in(held.coordinates)
@@ -121,6 +127,14 @@ def hierarchy(subject: Any, clip: Any, rule: str, fill: str, look: Any) -> tuple
     both = asked.contours(subject), asked.contours(clip)
     numbers = RULE_NUMBERS[rule], FILL_NUMBERS[fill], options(look)
     return linked_in(asked.answer("polyover_hierarchy_result", *numbers, *both))
+
+
+def vectors(subject: Any, clip: Any, rule: str, fill: str, look: Any) -> list[Any]:
+    """The shapes of an overlay, with the filled sides of each step."""
+    asked = library()
+    both = asked.contours(subject), asked.contours(clip)
+    numbers = RULE_NUMBERS[rule], FILL_NUMBERS[fill], options(look)
+    return filled_in(asked.answer("polyover_vectors_result", *numbers, *both))
 
 
 def simplify(subject: Any, fill: str, look: Any, found: Found = shapes_in) -> Any:
@@ -161,6 +175,16 @@ def exact_bits(subject: Any, clip: Any, fill: str) -> int:
     both = asked.contours(subject), asked.contours(clip)
     check(asked.call("polyover_relate_exact", FILL_NUMBERS[fill], *both, relations))
     return relations.value
+
+
+def relate_one_exact(relation: str, subject: Any, clip: Any, fill: str) -> bool:
+    """Whether the relation with the name holds of the contours as they are given. (An older library tells all.)"""
+    if not can("relate_one_exact"):
+        return relate_exact(subject, clip, fill)[relation]
+    asked, holds = library(), c_uint32()
+    both = asked.contours(subject), asked.contours(clip)
+    check(asked.call("polyover_relate_one_exact", RELATION_BITS[relation], FILL_NUMBERS[fill], *both, holds))
+    return holds.value == 1
 
 
 def relate_one(relation: str, subject: Any, clip: Any, fill: str, solver: str) -> bool:

@@ -6,14 +6,16 @@ from operator import index
 from typing import Any, Literal, NamedTuple, overload
 
 from . import by_library, by_program
-from .errors import BadInput, LibraryMissing
+from .errors import BadInput, BadType, LibraryMissing
 from .flat import Flat, FlatFloats, FlatShapes, whole_path
-from .geojson import is_geometry, points_of
+from .geojson import LISTS, is_geometry, points_of
 from .shapes import Paths, Shapes
 from .text import FILLS, LOCATIONS, RULES, SNAPPED, SOLVERS, Fill, Rule, Solver, coordinate, items_of, known
 from .told import Told, counted
 
 AREA_LIMIT = 2**127 - 1
+# (types whose items have no order, or are no numbers that were written so)
+UNFIT = (set, frozenset, dict, bytes, bytearray, str)
 NO_OPTIONS = (
     "no library whose slices have a direction and a minimum area, and the program has neither: "
     "the library of this version is in a release's wheel, or scripts/build or make -C c builds it"
@@ -117,6 +119,11 @@ def listed_queries(points: Any) -> Any:
 
 def are_pairs(points: Any) -> bool:
     """Whether a list has points of two members."""
+    kinds = set(map(type, points))
+    if kinds <= LISTS:
+        return set(map(len, points)) <= {2}
+    if any(issubclass(kind, UNFIT) for kind in kinds):
+        return False
     try:
         for _, _ in points:
             pass
@@ -147,7 +154,9 @@ def place_of(name: str, number: int) -> str:
 def iterated(place: str, things: Any, what: str) -> list[Any]:
     """The items of a list, or of whatever can be gone over."""
     if not isinstance(things, (list, tuple)):
-        if isinstance(things, (str, bytes, dict)) or not hasattr(things, "__iter__"):
+        if isinstance(things, UNFIT):
+            raise BadType(f"{place}: {type(things).__name__} in the place of {what}")
+        if not hasattr(things, "__iter__"):
             raise BadInput(f"{place}: {things!r} in the place of {what}")
         # (arrays of numbers are numbers of Python sooner than one by one)
         found = things.tolist() if hasattr(things, "tolist") else None
@@ -157,6 +166,8 @@ def iterated(place: str, things: Any, what: str) -> list[Any]:
 
 def checked_point(place: str, point: Any, told: Told | None) -> Any:
     """A point of two members, or of more where that is counted."""
+    if isinstance(point, UNFIT):
+        raise BadType(f"{place}: {type(point).__name__} in the place of a point")
     try:
         members = tuple(point)
     except TypeError:

@@ -29,6 +29,10 @@ class BadInput(PolyoverError, ValueError):
     """What was given can't be asked: a coordinate that is no whole number or out of range, an unknown rule."""
 
 
+class BadType(BadInput, TypeError):
+    """What was given is of a type that has no order of its members, or no numbers, as a set or a text."""
+
+
 class ProgramMissing(PolyoverError):
     """There is no program to ask."""
 

@@ -101,13 +101,13 @@ def drained(things: list[Any]) -> Iterator[Any]:
 
 
 def systems_of(things: Sequence[Any]) -> Iterator[tuple[int, Any]]:
-    """The members crs that features and their geometries have themselves, each with the number of the feature, which
-    loses its own."""
+    """The members crs that features and their geometries have themselves, each with the number of the feature. They
+    lose them."""
     for number, each in enumerate(things, 1):
         if isinstance(each, dict):
             geometry = each.get("geometry")
             if isinstance(geometry, dict) and "crs" in geometry:
-                yield number, geometry["crs"]
+                yield number, geometry.pop("crs")
             if "crs" in each:
                 yield number, each.pop("crs")
 
@@ -200,7 +200,7 @@ def read(name: str, kinds: Sequence[str], given: Any, tells_nulls: bool = True, 
     with naming(name):
         content = content_of(name, form)
     watch = watch_over(given, kinds, content.system, told)
-    reader = Reader(kinds, given.skip_invalid, told)
+    reader = Reader(kinds, given.skip_invalid, told, tells_members=True)
     # (what is a fault in a later line of a sequence is told behind what is one in an earlier line)
     found_in = many.features(reader, content.things) if form is GEOJSON else reader.features(content.things)
     features: Iterable[Feature] = watched(features_of(found_in, reader, name, tells_nulls), watch, told)

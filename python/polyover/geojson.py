@@ -9,6 +9,7 @@ from typing import Any, Iterable, Iterator, NamedTuple, Sequence
 
 from .contour import points_in
 from .errors import BadInput
+from .members import tell_left_out
 from .numbers import is_finite
 from .shapes import ring
 from .told import Told, counted
@@ -127,10 +128,11 @@ class Feature:
 
 
 class Reader:
-    """Reads polygons, lines or points; counts what it passes over."""
+    """Reads polygons, lines or points; counts what it passes over, and, where that is wanted, what geometries have
+    beside coordinates."""
 
-    def __init__(self, kinds: Sequence[str], skip_invalid: bool, told: Told) -> None:
-        self.kinds, self.skip_invalid, self.told = kinds, skip_invalid, told
+    def __init__(self, kinds: Sequence[str], skip_invalid: bool, told: Told, tells_members: bool = False) -> None:
+        self.kinds, self.skip_invalid, self.told, self.tells_members = kinds, skip_invalid, told, tells_members
         self.wanted = " or ".join(kinds)
         self.passed_over = ""
         self.finds_any = False
@@ -180,10 +182,13 @@ class Reader:
         """A point, as a line of one."""
         yield Part(place, [[tuple(checked_point(place, 1, point))]])
 
-    def parts(self, place: Place, geometry: object) -> Iterator[Part]:
+    def parts(self, place: Place, thing: object) -> Iterator[Part]:
         """The polygons, the lines or the points of a geometry."""
-        geometry = interface_of(geometry)
+        geometry = interface_of(thing)
         kind = kind_of(place, geometry)
+        is_taken = kind in self.kinds or kind == "GeometryCollection"
+        if self.tells_members and is_taken and len(geometry) > 2:
+            tell_left_out(self.told, place, geometry)
         if kind == "GeometryCollection":
             if len(place.geometries) >= NESTED:
                 raise BadInput(f"{place._replace(geometries=())}: more than {NESTED} collections in one another")
@@ -237,8 +242,10 @@ class Reader:
 
     def plain_part(self, place: Place, geometry: object) -> Part | None:
         """The line or polygon of a geometry that is one, of points of two numbers of Python's own, where it is wanted
-        and no path has too few points."""
+        no path has too few points, and no member is to be told of."""
         if type(geometry) is not dict or geometry.get("type") != self.kinds[0]:
+            return None
+        if self.tells_members and len(geometry) > 2:
             return None
         kind, coordinates = self.kinds[0], geometry.get("coordinates")
         found: Any = None

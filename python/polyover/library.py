@@ -139,7 +139,7 @@ class Held:
 
     @property
     def fills(self) -> memoryview:
-        """The bits of the filled sides of each edge."""
+        """The bits of the filled sides of each edge, or of each step."""
         return self.numbers(BYTES, self.result.fills, self.result.fill_count)
 
 
@@ -239,6 +239,7 @@ FUNCTIONS = {
     "polyover_overlay_result": (*OVERLAY, RESULT),
     "polyover_simplify_result": (c_uint32, POINTER(Options), CONTOURS, RESULT),
     "polyover_hierarchy_result": (*OVERLAY, RESULT),
+    "polyover_vectors_result": (*OVERLAY, RESULT),
     "polyover_edges_result": (*TWO, RESULT),
     "polyover_clip_result": (c_uint32, POINTER(ClipOptions), CONTOURS, CONTOURS, RESULT),
     "polyover_slice_result": (*TWO, RESULT),
@@ -247,6 +248,7 @@ FUNCTIONS = {
     "polyover_relate": (*TWO, POINTER(c_uint32)),
     "polyover_relate_one": (c_uint32, *TWO, POINTER(c_uint32)),
     "polyover_relate_exact": (c_uint32, CONTOURS, CONTOURS, POINTER(c_uint32)),
+    "polyover_relate_one_exact": (*TWO, POINTER(c_uint32)),
     "polyover_resolved": (CONTOURS,),
     "polyover_locate": (CONTOURS, *ARRAY, *ARRAY, POINTER(c_size_t)),
     "polyover_prepare": (c_uint32, c_uint32, CONTOURS, PREPARED),
@@ -269,6 +271,7 @@ FRAMED = {
     "polyover_resolved": (c_void_p,),
     "polyover_overlay": (c_uint32, c_uint32, *(c_void_p,) * 3, *(c_void_p, c_size_t) * 3, c_void_p),
     "polyover_relate_exact": (c_uint32, *(c_void_p,) * 3),
+    "polyover_relate_one_exact": (c_uint32, c_uint32, *(c_void_p,) * 3),
 }
 
 

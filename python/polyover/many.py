@@ -54,11 +54,12 @@ def features(reader: Reader, things: Iterable[tuple[int, Any]]) -> Iterator[Feat
 
 
 def coordinates_in(thing: Any, kind: str) -> Any:
-    """The coordinates of a feature of a kind, where they are a list with items; None of other things."""
+    """The coordinates of a feature of a kind, where they are a list with items, and its geometry has nothing more; None
+    of other things."""
     if type(thing) is not dict or thing.get("type") != "Feature" or type(thing.get("properties")) not in PROPERTIES:
         return None
     geometry = thing.get("geometry")
-    if type(geometry) is not dict or geometry.get("type") != kind:
+    if type(geometry) is not dict or geometry.get("type") != kind or len(geometry) > 2:
         return None
     coordinates = geometry.get("coordinates")
     return coordinates if type(coordinates) in LISTS and coordinates else None

@@ -3,7 +3,7 @@ takes less than one call of all polygons, whose edges the library compares with 
 
 from __future__ import annotations
 
-from typing import Callable, Sequence
+from typing import Callable, Iterator, Sequence
 
 from .contour import Row
 from .nearby import Nearby
@@ -11,6 +11,8 @@ from .text import RELATION_BITS
 
 # the bits of the relations of two lists of contours, for the fill rule nonzero
 Told = Callable[[Sequence[Row], Sequence[Row]], int]
+# whether the relation with a name holds of them
+Holds = Callable[[str, Sequence[Row], Sequence[Row]], bool]
 Polygons = Sequence[Sequence[Row]]
 INTERSECTS, INTERIORS = RELATION_BITS["intersects"], RELATION_BITS["interiors_intersect"]
 POINTS, WITHIN = RELATION_BITS["point_intersects"], RELATION_BITS["within"]
@@ -52,3 +54,38 @@ def are_all_within(polygons: Polygons, others: Polygons, told: Told) -> bool:
     """Whether all polygons lie in what the others cover."""
     near = Nearby(row for rows in others for row in rows)
     return all(told(rows, near.part_within(rows)) & WITHIN for rows in polygons if any(rows))
+
+
+# ---- one relation, up to the polygon that decides
+
+
+def asked_one_by_one(name: str, polygons: Polygons, others: Polygons, holds: Holds) -> Iterator[bool]:
+    """Whether the relation holds of each polygon and what is near it of the others."""
+    near = Nearby(row for rows in others for row in rows)
+    for rows in polygons:
+        if any(rows):
+            part = near.part_within(rows)
+            yield bool(part) and holds(name, rows, part)
+
+
+def has_any(name: str, polygons: Polygons, others: Polygons, holds: Holds) -> bool:
+    """Whether any polygon intersects the others, or so do interiors."""
+    return any(asked_one_by_one(name, polygons, others, holds))
+
+
+def lie_within(polygons: Polygons, others: Polygons, holds: Holds) -> bool:
+    """Whether there are polygons, and all of them lie in what the others cover."""
+    return any(map(any, polygons)) and all(asked_one_by_one("within", polygons, others, holds))
+
+
+def has_relation(name: str, subject: Polygons, clip: Polygons, holds: Holds, told: Told) -> bool:
+    """Whether the relation holds of what two lists of polygons cover, each by its contours."""
+    if name in ("intersects", "interiors_intersect"):
+        return has_any(name, subject, clip, holds)
+    if name == "disjoint":
+        return not has_any("intersects", subject, clip, holds)
+    if name == "touches":
+        return not has_any("interiors_intersect", subject, clip, holds) and has_any("intersects", subject, clip, holds)
+    if name == "within":
+        return lie_within(subject, clip, holds)
+    return lie_within(clip, subject, holds) if name == "covers" else relations(subject, clip, told)[name]

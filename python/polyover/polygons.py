@@ -6,7 +6,6 @@ these points. Other polygons are overlaid by themselves first."""
 
 from __future__ import annotations
 
-from bisect import bisect_right
 from dataclasses import dataclass
 from typing import Any, Sequence
 
@@ -14,6 +13,7 @@ from . import calls
 from .contour import Row, WholePath, box_of, double_area, is_flat, shifted, surplus_of, visits_once, without_repeats
 from .flat import flat_rows
 from .told import Told, counted
+from .windings import wind_below_0
 
 COLLAPSED = "# [{0} collapses to a line or a point, and is|{0}s collapse to lines or points, and are] left out"
 CROSSED = counted("# [ring crosses or overlaps itself, and covers what it winds|rings cross or overlap themselves, and "
@@ -117,39 +117,38 @@ def mark_simple(rings: Polygon, told: Told) -> None:
 
 
 def polygons_with_bad_holes(polygons: Sequence[Polygon]) -> set[int]:
-    """The numbers of polygons with holes that overlap, or are not inside the outline: which wind round less than 0."""
+    """The numbers of polygons with holes that overlap, or are not inside the outline: which wind round a point less
+    than 0 times."""
     asked = [at for at, rings in enumerate(polygons) if len(rings) > 1 and all(ring.is_simple for ring in rings)]
     groups = [asked] if asked else []
     found: set[int] = set()
     while groups:
         group = groups.pop()
-        laid, starts = laid_apart([polygons[at] for at in group])
-        if surplus_of(laid) and len(group) > 1:
+        laid = laid_apart([polygons[at] for at in group])
+        if len(group) == 1:
+            found |= set(group) if wind_below_0(in_range(laid)[0]) else set()
+        elif surplus_of(laid) or wind_below_0(laid):
             groups += [group[len(group) // 2 :], group[: len(group) // 2]]
-            continue
-        shapes = calls.overlay(in_range(laid)[0], (), "subject", "negative", ogc=False)
-        found |= {group[bisect_right(starts, shape[0][0][0]) - 1] for shape in shapes}
     return found
 
 
-def laid_apart(polygons: Sequence[Polygon]) -> tuple[list[WholePath], list[int]]:
-    """The contours of polygons in their directions, moved so that their boxes are apart, and the least x of each."""
+def laid_apart(polygons: Sequence[Polygon]) -> list[WholePath]:
+    """The contours of polygons in their directions, moved so that their boxes are apart."""
     boxes = [box_of([point for ring in rings for point in ring.whole]) for rings in polygons]
     start = -sum(right - left + 2 for left, _, right, _ in boxes) // 2 if len(boxes) > 1 else 0
-    laid, starts = [], []
+    laid = []
     for rings, (left, low, right, _) in zip(polygons, boxes):
         move = (start - left, -low) if len(boxes) > 1 else (0, 0)
-        starts.append(left + move[0])
         for at, ring in enumerate(rings):
             contour = taken(ring, at == 0)[0]
             laid.append([(x + move[0], y + move[1]) for x, y in contour])
         start += right - left + 2
-    return laid, starts
+    return laid
 
 
 def has_bad_holes(rows: Sequence[Row]) -> bool:
     """Whether the same is so of one polygon, whose rings stand in rows, in their directions."""
-    return len(calls.overlay(flat_rows(rows), (), "subject", "negative", ogc=False, arrays=True)) > 0
+    return wind_below_0(flat_rows(rows))
 
 
 # ---- polygons of any kind

@@ -17,6 +17,7 @@ from .columns import whole_row
 from .contour import directed
 from .flat import Flat
 from .geojson import LISTS, NUMBERS, plain_points
+from .windings import wind_below_0
 
 LITTLE = sys.byteorder == "little"
 POLYGON, MULTIPOLYGON = 3, 6
@@ -269,15 +270,9 @@ def contours_of(polygons: Sequence[Polygon], axes: Sequence[Any]) -> Flat | None
     contours = Flat.of_arrays(numbers, ends)
     if not calls.asked("is_resolved").is_resolved(contours):
         return None
-    is_bad = polygons and len(polygons[0]) > 1 and has_bad_holes(contours)
+    # (of holes that overlap, or are not inside the outline)
+    is_bad = polygons and len(polygons[0]) > 1 and wind_below_0(contours)
     return None if is_bad else contours
-
-
-def has_bad_holes(contours: Flat) -> bool:
-    """Whether holes of a polygon overlap, or are not inside its outline: its contours wind round less than 0."""
-    by = calls.asked("overlay")
-    look = calls.Look(ogc=False, clockwise=False, keep=False, minimum_area=0)
-    return bool(by.overlay(contours, (), "subject", "negative", look))
 
 
 def region(thing: Any, axes: Sequence[Any], is_one: bool) -> Flat | None:

@@ -67,7 +67,7 @@ def relate_one(
     """Returns whether the relation with the name holds, as `relate` tells it."""
     fill = known(FILLS, fill, "fill rule")
     if is_told_exactly(solver):
-        return told_exactly(subject, clip, fill)[relation]
+        return one_told_exactly(relation, subject, clip, fill)
     return bool(told_finest(partial(relation_as_given, relation), subject, clip, fill, splitting(solver)))
 
 
@@ -81,9 +81,21 @@ def told_exactly(subject: Any, clip: Any, fill: Fill) -> dict[str, bool]:
         return by_library.relate_exact(subject, clip, fill)
 
 
+def one_told_exactly(relation: str, subject: Any, clip: Any, fill: Fill) -> bool:
+    """Returns whether one relation holds of them."""
+    subject, clip = listed("subject", subject), listed("clip", clip)
+    with placed(subject=subject, clip=clip):
+        return by_library.relate_one_exact(relation, subject, clip, fill)
+
+
 def bits_of_rows(subject: Sequence[Row], clip: Sequence[Row]) -> int:
     """Returns the sum of the bits of the relations of contours in rows, for the fill rule nonzero."""
     return by_library.exact_bits(flat_rows(subject), flat_rows(clip), "nonzero")
+
+
+def holds_of_rows(relation: str, subject: Sequence[Row], clip: Sequence[Row]) -> bool:
+    """Returns whether one relation holds of them, for that fill rule."""
+    return by_library.relate_one_exact(relation, flat_rows(subject), flat_rows(clip), "nonzero")
 
 
 # ---- of an arrangement

@@ -12,7 +12,8 @@ from typing import Any, Callable, Iterable, Sequence
 from . import by_library, calls, piecewise, quick, relations, small
 from .columns import ERROR, EXACT, LEAST, row_of_points, whole_points
 from .contour import Row, WholePath, WholePoint, points_in, row_of
-from .errors import BadInput
+from .edges_at_scale import EdgesAtScale, is_of_geometry
+from .errors import BadInput, BadType
 from .flat import Flat, FlatFloats, FlatShapes, copied, flat_rows, parted
 from .geojson import is_geometry, points_of
 from .library import library
@@ -92,7 +93,7 @@ class Axis:
         return [(value * over + less) / times for value in whole]
 
 
-class Scaled(RulesAtScale):
+class Scaled(RulesAtScale, EdgesAtScale):
     """Coordinates that are floats, taken as whole numbers: each less the origin's, times the scale, and rounded.
 
     So a coordinate is taken at most half a unit from where it is, which is `lost` in the floats' own unit; an answer is
@@ -105,6 +106,8 @@ class Scaled(RulesAtScale):
         self.scale = fraction_of(scale, "the scale")
         if self.scale <= 0:
             raise BadInput(f"the scale {scale} is not above 0")
+        if isinstance(origin, calls.UNFIT):
+            raise BadType(f"the origin is no {type(origin).__name__}, but a point of two numbers")
         if not hasattr(origin, "__len__") or len(origin) != 2:
             raise BadInput(f"the origin {origin!r} is no point of two numbers")
         self.origin = tuple(fraction_of(value, "the origin") for value in origin)
@@ -380,12 +383,12 @@ class Scaled(RulesAtScale):
         self, relation: str, subject: Group, clip: Group, fill: Fill, solver: RelationSolver | None
     ) -> bool:
         if solver is None or solver == AS_GIVEN:
-            found = small.relations(library(), self.axes, subject, clip, fill)
+            found = small.relations(library(), self.axes, subject, clip, fill, RELATION_BITS[relation])
             if found is not None:
-                return bool(found & RELATION_BITS[relation])
+                return bool(found)
             layers = self._layers(subject, clip, fill, solver)
             if layers:
-                return piecewise.relations(*layers, relations.bits_of_rows)[relation]
+                return piecewise.has_relation(relation, *layers, relations.holds_of_rows, relations.bits_of_rows)
         return relations.relate_one(relation, *self._related(subject, clip, fill, solver), solver=solver)
 
     def _layers(
@@ -516,11 +519,6 @@ def are_many(group: Group) -> bool:
         return True
     kind: Any = type(group)
     return quick.is_of_shapely(kind) and len(getattr(group, "geoms", ())) > MANY
-
-
-def is_of_geometry(group: Group) -> bool:
-    """Whether what was given for paths is a geometry, and no answer of a call."""
-    return is_geometry(group) and not isinstance(group, (Paths, Flat))
 
 
 def taken(name: str, group: Group) -> Group:

@@ -51,7 +51,8 @@ class Width:
 
     def __init__(self, asked: Library, words: memoryview, kind: str) -> None:
         self.kind, self.size = kind, words.cast("B").cast(kind).itemsize
-        self.resolved, self.overlay, self.relate = asked.framed("" if kind == "q" else "_32")
+        calls = asked.framed("" if kind == "q" else "_32")
+        self.resolved, self.overlay, self.relate, self.relate_one = calls
         self.numbers, self.start = words.cast("B").cast(kind), WORD * COORDINATES // self.size
         self.answer = WORD * ANSWER // self.size
 
@@ -66,7 +67,7 @@ def listed(group: Any, at: int) -> Given | None:
     row: list[float] = []
     ends = []
     for path in group:
-        if type(path) not in LISTS or set(map(len, path)) != {2}:
+        if type(path) not in LISTS or not set(map(type, path)) <= LISTS or set(map(len, path)) != {2}:
             return None
         row += chain.from_iterable(path)
         ends.append(len(row) // 2)
@@ -186,16 +187,20 @@ class Frame:
         parts = parted(points, words[CONTOUR_ENDS : CONTOUR_ENDS + contours].tolist())
         return Shapes(map(Paths, parted(parts, words[SHAPE_ENDS : SHAPE_ENDS + shapes].tolist())))
 
-    def relations(self, axes: Sequence[Any], subject: Any, clip: Any, fill: int) -> int | None:
-        """The bits of the relations that hold, if the groups are taken and the call ends well."""
+    def relations(self, axes: Sequence[Any], subject: Any, clip: Any, fill: int, asked: int) -> int | None:
+        """The bits of the relations that hold, or with a relation's bit whether that holds, if the groups are taken and
+        the call ends well."""
         words, width = self.words, self.take_rings(axes, subject, clip)
         if width:
             # (it fills what rings cover, those too that visit a point twice)
             fill = NONZERO
         else:
             width = self.take(axes, subject, clip)
+        if not width:
+            return None
         words[COUNTS] = 0
-        if not width or width.relate(fill, self.base, self.clip, self.counts):
+        given = fill, self.base, self.clip, self.counts
+        if width.relate_one(asked, *given) if asked else width.relate(*given):
             return None
         return words[COUNTS]
 
@@ -251,13 +256,15 @@ def overlay(asked: Library | None, axes: Sequence[Any], subject: Any, clip: Any,
         asked.frames.append(frame)
 
 
-def relations(asked: Library | None, axes: Sequence[Any], subject: Any, clip: Any, fill: Any) -> Any:
-    """The bits of the relations that hold of two groups as they are given, likewise."""
+def relations(
+    asked: Library | None, axes: Sequence[Any], subject: Any, clip: Any, fill: Any, relation: int = 0
+) -> Any:
+    """The bits of the relations that hold of two groups as they are given, likewise; with a relation's bit 1 or 0."""
     if asked is None or not asked.has_frames:
         return None
     frame = asked.frames.pop() if asked.frames else Frame(asked)
     try:
-        return frame.relations(axes, subject, clip, FILLS[fill])
+        return frame.relations(axes, subject, clip, FILLS[fill], relation)
     except UNFIT:
         return None
     finally:

@@ -269,26 +269,6 @@ class Polygons(unittest.TestCase):
         self.assertEqual((status, left), (1, None))
         self.assertIn("a.geojson: feature 2: its member crs is another", said)
 
-    def test_words_that_stand_for_nothing(self):
-        for words, fault in ((["simplify", "a", "--min-area", "1/0"], "--min-area: invalid number from 0 on value"),
-                             (["tiles", "a", "1", "1/0"], "HIGH: invalid number"),
-                             (["simplify", "a", "--out", ""], "--out: invalid name of a file"),
-                             (["simplify", "a", "--svg", ""], "--svg: invalid name of a file"),
-                             (["play", "--out", ""], "--out: invalid name of a file")):
-            said = io.StringIO()
-            with contextlib.redirect_stderr(said), self.assertRaises(SystemExit) as ended:
-                main(words)
-            self.assertEqual(ended.exception.code, 2)
-            self.assertIn(fault, said.getvalue())
-
-    def test_help(self):
-        for words in (["--help"], ["--version"], ["overlay", "--help"], ["svg", "--help"], ["run", "--help"]):
-            said = io.StringIO()
-            with contextlib.redirect_stdout(said), self.assertRaises(SystemExit) as ended:
-                main(words)
-            self.assertEqual(ended.exception.code, 0)
-            self.assertIn("polyover", said.getvalue())
-
 
 class Files(unittest.TestCase):
     """Files are read whole, and left whole."""

@@ -82,16 +82,22 @@ def made_move(chance, limit):
 
 
 def answered(width, fill, subject, clip):
-    """The relations that the library tells at a width."""
+    """The relations that the library tells at a width: all at once, and each alone."""
     ending, kind, _ = width
-    call, told = getattr(library.library().functions, f"polyover_relate_exact{ending}"), c_uint32()
+    functions, told, one = library.library().functions, c_uint32(), c_uint32()
+    call, call_of_one = (getattr(functions, f"polyover_relate_{name}{ending}") for name in ("exact", "one_exact"))
     given = [
         library.Contours(array(kind, chain(*chain(*contours))), array(library.SIZES, accumulate(map(len, contours))))
         for contours in (subject, clip)
     ]
     call.argtypes = (c_uint32, POINTER(library.Contours), POINTER(library.Contours), POINTER(c_uint32))
+    call_of_one.argtypes = (c_uint32, *call.argtypes)
     library.check(call(list(FILLED).index(fill), *given, byref(told)))
-    return {name: bool(told.value >> at & 1) for at, name in enumerate(NAMES)}
+    each = {}
+    for at, name in enumerate(NAMES):
+        library.check(call_of_one(1 << at, list(FILLED).index(fill), *given, byref(one)))
+        each[name] = one.value == 1
+    return {name: bool(told.value >> at & 1) for at, name in enumerate(NAMES)}, each
 
 
 class Definition(unittest.TestCase):
@@ -136,7 +142,7 @@ class Library(unittest.TestCase):
                     move = made_move(chance, width[2])
                     given = (subject, clip), (move(subject), move(clip))
                     for both in given:
-                        self.assertEqual(answered(width, fill, *both), expected, (width, fill, both))
+                        self.assertEqual(answered(width, fill, *both), (expected, expected), (width, fill, both))
         self.assertGreater(min(seen[name, holds] for name in NAMES for holds in (False, True)), COUNT // 50)
 
 

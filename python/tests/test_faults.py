@@ -53,7 +53,7 @@ LISTS = (
     ([SQUARE, [(0, 0), (1, None)]], "subject: contour 2, point 2: None is no whole number"),
     ([[(0.5, 0)]], "subject: contour 1, point 1: 0.5 is no whole number: Scaled takes floats"),
     ([[(2**62, 0)]], "subject: contour 1, point 1: 4611686018427387904 is out of range"),
-    ("ab", "subject: 'ab' in the place of a list"),
+    ("ab", "subject: str in the place of a list"),
 )
 
 

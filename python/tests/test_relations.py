@@ -8,6 +8,7 @@ from unittest import mock
 import polyover
 from polyover import relations
 from polyover.by_library import can
+from polyover.library import library
 from polyover.text import RELATIONS
 
 from .features import collection, feature, ran
@@ -27,6 +28,9 @@ SLIVER, TURNED = [(0, -1), (4, 5), (1, 2)], [(0, 0), (4, 5), (5, 6)]
 BOW, OTHER = [(0, 0), (1, 2), (1, 4), (0, -1)], [(0, 1), (1, 0), (1, -2), (0, 2)]
 # they have the border from (0, 0) to (5, 2), above (3, 1) and below (2, 1)
 BELOW, ABOVE, AROUND = [(0, 0), (3, 1), (5, 2)], [(0, 0), (5, 2), (2, 1)], [(0, 0), (5, 0), (5, 2)]
+# they touch the first square in its corner, and along its side
+SQUARE, CORNER = [(0, 0), (2, 0), (2, 2), (0, 2)], [(2, 2), (4, 2), (4, 4), (2, 4)]
+BESIDE = [(2, 0), (4, 0), (4, 2), (2, 2)]
 OVERLAP, MEET = ["intersects", "interiors_intersect"], ["intersects", "touches"]
 BY_HAND = [
     (SUBJECT, CLIP, "nonzero", OVERLAP),
@@ -38,6 +42,9 @@ BY_HAND = [
     (AROUND, BELOW, "positive", [*OVERLAP, "covers"]),
     (SUBJECT, SUBJECT[::-1], "nonzero", [*OVERLAP, "within", "covers"]),
     (SUBJECT, [], "nonzero", ["disjoint"]),
+    (SQUARE, CORNER, "nonzero", [*MEET, "point_intersects"]),
+    (SQUARE, BESIDE, "evenodd", MEET),
+    (SQUARE, SQUARE, "positive", [*OVERLAP, "within", "covers"]),
 ]
 FAR = 4611686018427387903
 with_exact = unittest.skipUnless(can("relate_exact"), "no library for C that tells relations exactly (make -C c)")
@@ -83,6 +90,26 @@ class AsGiven(unittest.TestCase):
                     one_by_one = [name for name in RELATIONS if getattr(owner, name)(*given, **options)]
                     self.assertEqual(one_by_one, names, given)
 
+    def test_one_relation_is_asked_alone(self):
+        fails = mock.patch.object(relations.by_library, "exact_bits", side_effect=AssertionError("all relations"))
+        with fails:
+            for subject, clip, fill, names in BY_HAND:
+                for owner in (polyover, polyover.Scaled(1)):
+                    one_by_one = [name for name in RELATIONS if getattr(owner, name)([subject], [clip], fill)]
+                    self.assertEqual(one_by_one, names)
+            layer = collection(feature("Polygon", [[*SQUARE, SQUARE[0]]]))
+            self.assertTrue(polyover.Scaled(1).covers(layer, layer) and not polyover.Scaled(1).touches(layer, layer))
+
+    def test_a_library_without_the_call_is_asked_for_all(self):
+        asked = library()
+        patches = mock.patch.object(asked, "names", asked.names - {"polyover_relate_one_exact"}), mock.patch.object(
+            asked, "has_frames", False)
+        with patches[0], patches[1]:
+            for subject, clip, fill, names in BY_HAND:
+                for owner in (polyover, polyover.Scaled(1)):
+                    one_by_one = [name for name in RELATIONS if getattr(owner, name)([subject], [clip], fill)]
+                    self.assertEqual(one_by_one, names)
+
     def test_at_the_ends_of_the_range(self):
         square = [(-FAR, -FAR), (FAR, -FAR), (FAR, FAR), (-FAR, FAR)]
         self.assertTrue(polyover.relate([SUBJECT], [square])["within"])
@@ -125,8 +152,7 @@ class AsGiven(unittest.TestCase):
                 self.assertEqual(scaled.relate(*given, "evenodd"), expected, layers)
             with mock.patch("polyover.scaled.MANY", 0):
                 self.assertEqual(scaled.relate(*whole), expected, layers)
-            name = chance.choice(RELATIONS)
-            self.assertEqual(getattr(scaled, name)(*apart), expected[name])
+            self.assertEqual({name: getattr(scaled, name)(*apart) for name in RELATIONS}, expected, layers)
         self.assertGreater(len(told), 5)
 
     def test_words(self):

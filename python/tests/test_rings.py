@@ -4,6 +4,7 @@ import unittest
 import warnings
 
 import polyover
+from polyover.text import FILLS
 
 try:
     from polyover.contour import double_area
@@ -144,6 +145,25 @@ class Holes(unittest.TestCase):
         self.assertEqual(self.covered([square(0, 0, 4, 4), square(10, 0, 14, 4)]), 16)
         self.assertEqual(self.covered([square(0, 0, 4, 4), square(2, 0, 6, 4)]), 8)
         self.assertEqual(self.covered([square(0, 0, 4, 4), square(-1, -1, 5, 5)]), 0)
+
+    # the point (2, 1) of the hole is 1/5 above the edge to (5, 2), which then runs through it: 1/2 more is covered
+    OUTLINE, HOLE = [[0, 0], [0, -4], [5, -4], [5, 2], [0, 0]], [[2, 1], [1, -2], [3, -2], [2, 1]]
+
+    def test_a_hole_that_sticks_out_by_less_than_half_a_unit(self):
+        bad = [self.OUTLINE, self.HOLE]
+        self.assertEqual(self.covered(bad), 25.5 - 3)
+        beside = [[square(20 * at, 0, 20 * at + 9, 9), square(20 * at + 1, 1, 20 * at + 2, 2)] for at in range(1, 9)]
+        self.assertEqual(self.covered(*beside[:5], bad, *beside[5:]), 8 * 80 + 22.5)
+
+    def test_nothing_of_such_a_hole_is_covered(self):
+        bad = polygon(self.OUTLINE, self.HOLE)
+        beside = feature("Polygon", [square(8, 8, 9, 9)])
+        for subject in (bad, collection(feature("Polygon", bad["coordinates"]), beside)):
+            for fill in FILLS:
+                scaled = polyover.Scaled(1)
+                self.assertEqual(scaled.overlay(subject, polygon(self.HOLE), "intersect", fill), [])
+                self.assertTrue(scaled.touches(subject, polygon(self.HOLE), fill))
+                self.assertEqual(scaled.locate(subject, [(2, 0), (2, 1), (0, -1)]), ["outside", "boundary", "boundary"])
 
     def test_beside_others(self):
         other = [square(20, 0, 30, 10), square(22, 2, 24, 4)]

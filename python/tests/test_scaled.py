@@ -43,8 +43,9 @@ class ScaledFloats(unittest.TestCase):
 
     def test_texts_are_no_numbers(self):
         scaled = polyover.Scaled(1)
-        for contour in ([("0.5", 0), (4, 0), (4, 4)], ["00", "40", "44"]):
-            with self.assertRaisesRegex(polyover.BadInput, "subject: contour 1, point 1: .* is no point of two finite"):
+        for contour, told in (([("0.5", 0), (4, 0), (4, 4)], ".* is no point of two finite"),
+                              (["00", "40", "44"], "str in the place of a point")):
+            with self.assertRaisesRegex(polyover.BadInput, f"subject: contour 1, point 1: {told}"):
                 scaled.overlay([contour])
         with self.assertRaisesRegex(polyover.BadInput, "the scale '10' is no finite number"):
             polyover.Scaled("10")

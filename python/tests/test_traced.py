@@ -91,6 +91,17 @@ class Answers(unittest.TestCase):
         rows = memoryview(array("q", [number for point in OTHER for number in point])).cast("B").cast("q", (4, 2))
         self.assertEqual(polyover.trace([SQUARE], [rows]), CROSSING)
 
+    def test_at_a_scale(self):
+        halves = [[(x / 2, y / 2) for x, y in contour] for contour in (SQUARE, OTHER)]
+        scaled = polyover.Scaled(2)
+        wanted = [((a[0] / 2, a[1] / 2), (b[0] / 2, b[1] / 2), *others) for a, b, *others in CROSSING]
+        self.assertEqual(scaled.trace(halves[:1], halves[1:]), wanted)
+        self.assertEqual(scaled.trace(halves[:1], rule="subject")[0].sources, [subject(0, 3, False, True)])
+        self.assertEqual(len(scaled.trace([[(0, 0), (1, 1)]], closed=False)), 1)
+        shape = {"type": "Polygon", "coordinates": halves[:1]}
+        with self.assertRaisesRegex(polyover.BadInput, "^clip: a geometry in the place of a list of contours: a trace"):
+            scaled.trace(halves, shape)
+
     def test_nothing(self):
         for paths in ([], [[]], [[(1, 1)]], [[(1, 1), (1, 1)]], [[(1, 1), (2, 2)]]):
             self.assertEqual(polyover.trace(paths), [])

@@ -45,6 +45,37 @@ class Wrong(unittest.TestCase):
             with self.assertRaises((TypeError, ValueError)):
                 polyover.overlay([contour])
 
+    def test_types_without_an_order_or_without_numbers(self):
+        # (each has two members: the point (0, 4), or its digits)
+        for point in ({0, 4}, frozenset({0, 4}), {0: 1, 4: 1}, b"\x00\x04", bytearray(b"\x00\x04"), "04"):
+            kind, contour = type(point).__name__, [(0, 0), point, (4, 4)]
+            told = f": contour 2, point 2: {kind} in the place of a point$"
+            for owner in (polyover, polyover.Scaled(1)):
+                for name in ("overlay", "simplify", "edges", "intersects"):
+                    given = [[SQUARE]] * (name == "intersects") + [[SQUARE, contour]]
+                    with self.assertRaisesRegex(TypeError, told) as found:
+                        getattr(owner, name)(*given)
+                    self.assertIsInstance(found.exception, polyover.BadInput)
+                with self.assertRaisesRegex(TypeError, f"^shape{told}"):
+                    owner.slice([SQUARE, contour], [])
+                with self.assertRaisesRegex(TypeError, f"^points, point 1: {kind} in the place of a point$"):
+                    owner.locate([SQUARE], [point])
+            for call in (polyover.Prepared, polyover.Arrangement, polyover.trace):
+                with self.assertRaisesRegex(TypeError, f"point 2: {kind} in the place of a point$"):
+                    call([contour])
+            with self.assertRaisesRegex(TypeError, f"^the origin is no {kind}, but a point of two numbers$"):
+                polyover.Scaled(1, point)
+
+    def test_sets_of_points_and_of_contours(self):
+        contour = frozenset([(0, 0), (4, 0), (4, 4)])
+        for call in (polyover.overlay, polyover.Scaled(1).overlay):
+            with self.assertRaisesRegex(TypeError, "^subject: contour 1: frozenset in the place of a list of points$"):
+                call([contour])
+            with self.assertRaisesRegex(TypeError, "^clip: set in the place of a list of contours$"):
+                call([SQUARE], {tuple(SQUARE)})
+        with self.assertRaisesRegex(TypeError, "^points: set in the place of a list of points$"):
+            polyover.locate([SQUARE], {(1, 1)})
+
     def test_minimum_area(self):
         for area in (-1, 2**127, 0.5):
             with self.assertRaises(polyover.BadInput):

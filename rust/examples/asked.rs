@@ -13,7 +13,7 @@ use polyover::core::relate::{PredicateOverlay, Relations};
 use polyover::core::solver::Solver;
 use polyover::error::OverlayError;
 use polyover::i_float::int::point::IntPoint;
-use polyover::prepared::PreparedShape;
+use polyover::prepared::{ExactShape, PreparedShape};
 use polyover::segm::boolean::ShapeCountBoolean;
 use polyover::string::{clip::ClipRule, overlay::StringOverlay};
 
@@ -191,6 +191,7 @@ fn answer(it: &Request) -> Result<String, OverlayError> {
         "clip" => all(&strings.try_clip(fill, it.clip_rule, solver)?, |it| all(it, point)),
         "slice" => shapes(&strings.try_slice(fill, solver)?),
         "prepare" => locations(&PreparedShape::new(one, fill, solver)?.try_locate(&other.concat())?),
+        "prepare_exact" => locations(&ExactShape::new(one, fill)?.try_locate(&other.concat())?),
         "locate" => locations(&one.try_locate_points(&other.concat())?),
         call => panic!("no call {call}"),
     })

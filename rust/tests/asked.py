@@ -22,8 +22,13 @@ import polyover  # noqa: E402
 from polyover import by_library  # noqa: E402
 from polyover.text import FILLS, RULES, SOLVERS  # noqa: E402
 
-# the calls that the example answers
-CALLS = ("overlay", "trace", "hierarchy", "simplify", "relate", "exact", "clip", "slice", "locate", "edges", "prepare")
+# the calls that the example answers, by those of made requests
+CALLS = {
+    **{name: (name,) for name in ("hierarchy", "simplify", "clip", "slice", "locate", "edges")},
+    "overlay": ("overlay", "trace"),
+    "relate": ("relate", "exact"),
+    "prepare": ("prepare", "prepare_exact"),
+}
 
 
 def paths(given: Any) -> str:
@@ -42,7 +47,7 @@ def request(call: str, given: list[Any], options: dict[str, Any]) -> str:
         options.get("minimum_area", 0),
     ]
     first, second = given[0], given[1] if len(given) > 1 else []
-    if call in ("locate", "prepare"):
+    if call in ("locate", "prepare", "prepare_exact"):
         second = [second]
     return f"{call} {' '.join(map(str, numbers))}\n{paths(first)}\n{paths(second)}\n"
 
@@ -66,8 +71,8 @@ def traced(given: list[Any], options: dict[str, Any]) -> list[Any]:
 
 
 def answer(call: str, given: list[Any], options: dict[str, Any]) -> str:
-    """What the library for C answers, or why it is refused: of `relate` relations of the arrangement, of `exact` those
-    of the contours as they are."""
+    """What the library for C answers, or why it is refused: of `relate` and `prepare` of the arrangement, of `exact`
+    and `prepare_exact` of the contours as they are."""
     try:
         if call == "trace":
             return told(traced(given, options))
@@ -75,6 +80,8 @@ def answer(call: str, given: list[Any], options: dict[str, Any]) -> str:
             return told(list(by_library.relate(given[0], given[1], options["fill"], "snapped").values()))
         if call == "exact":
             return told(list(by_library.relate_exact(given[0], given[1], options["fill"]).values()))
+        if call == "prepare_exact":
+            return told(polyover.Prepared(given[0], options["fill"], solver="exact").locate(given[1]))
         return told(made.answer_of(call, given, options))
     except polyover.PolyoverError as error:
         return type(error).__name__
@@ -89,8 +96,8 @@ def main() -> int:
     asked: list[tuple[str, str]] = []
     while len(asked) < count:
         call, given, options, _ = made.made(random)
-        call = random.choice({"relate": ("relate", "exact"), "overlay": ("overlay", "trace")}.get(call, (call,)))
         if call in CALLS:
+            call = random.choice(CALLS[call])
             asked.append((request(call, given, options), answer(call, given, options)))
     text = "".join(it for it, _ in asked)
     ran = subprocess.run([program], input=text, capture_output=True, text=True, check=False)

@@ -1,4 +1,4 @@
-//! Free functions of `overlay_given` and `overlay_contacts`.
+//! Free functions of `overlay_given` and `overlay_contacts`, and the shared ends of `overlay_relate`.
 
 use crate::figures::{Width, point};
 use crate::refusals::Trial;
@@ -15,6 +15,7 @@ use overlay_given::uncrossed::{MeetingKind, meeting_kind};
 use overlay_given::walk::find_sides;
 use overlay_order::count::ShapeCountBoolean;
 use overlay_order::edge::CountedEdge;
+use overlay_relate::shared_end::has_shared_end;
 use std::process::Abort;
 use std::test::Fail;
 
@@ -90,6 +91,9 @@ fn check_settled<I: Width + ExactInt>(trial: &Trial<'_, impl Abort>) -> Result<(
         settled_relations(&content, FillRule::NonZero)
     })?;
     assert!(trial.rt; told.point_intersects && told.touches && !told.disjoint);
+    let graph = content.graph(FillRule::NonZero)?;
+    let is_shared = trial.refuse_call("overlay_relate::has_shared_end", || has_shared_end(&graph))?;
+    assert!(trial.rt; is_shared);
     Ok(())
 }
 

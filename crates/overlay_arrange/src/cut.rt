@@ -154,40 +154,46 @@ pub(crate) fn push_pieces<I: IntNumber, C: EdgeCount, A: Allocator>(
     ensures only { IfErr result (λ e. (e ≡ OverlayError.Memory) ⊎ (e ≡ OverlayError.TooManyEdges)) }
 {
     let is_whole = stays_whole(e, points);
-    let e = *e;
+    let cut = CutEdge { e: *e, is_whole };
     let mut from = e.a;
     for to in points {
-        push_piece(pieces, &e, from, *to, is_whole, store)?;
+        push_piece(pieces, &cut, from, *to, store)?;
         from = *to;
     }
-    push_piece(pieces, &e, from, e.b, is_whole, store)
+    push_piece(pieces, &cut, from, e.b, store)
+}
+
+/// An edge that is led along a chain, and whether it stays whole: the chain is the edge itself.
+#[derive(Clone, Copy)]
+struct CutEdge<I, C> {
+    e: CountedEdge<I, C>,
+    is_whole: bool,
 }
 
 /// Adds the piece of the edge from one point of its chain to the next, if they differ.
 fn push_piece<I: IntNumber, C: EdgeCount, A: Allocator>(
     pieces: &mut Content<I, C, A>,
-    e: &CountedEdge<I, C>,
+    cut: &CutEdge<I, C>,
     from: IntPoint<I>,
     to: IntPoint<I>,
-    is_whole: bool,
     store: &mut C::Store,
 ) -> Result<(), OverlayError>
-    requires light { weight_of_counts (C.counts e.now.count) < 2 ^ 31 }
+    requires light { weight_of_counts (C.counts cut.now.e.count) < 2 ^ 31 }
     requires from { InRange I.limit (plain_point I.whole from) }
     requires to { InRange I.limit (plain_point I.whole to) }
     ensures ok { OnOk result (edges_in pieces.new
-        ≡ edges_in pieces.old ++ map (piece_along (plain_edge I.whole C.counts e.now))
+        ≡ edges_in pieces.old ++ map (piece_along (plain_edge I.whole C.counts cut.now.e))
         (steps_between (plain_point I.whole from) (plain_point I.whole to))) }
     ensures carried { OnOk result (AddsGiven
-        (GivesPiece C.splits C.reverses (IsTrue is_whole) (carried_edge I.whole C.counts e.now))
+        (GivesPiece C.splits C.reverses (IsTrue cut.now.is_whole) (carried_edge I.whole C.counts cut.now.e))
         (steps_between (plain_point I.whole from) (plain_point I.whole to)) pieces.old pieces.new) }
     ensures store { IsStoreReached C.writes store.old store.new }
     ensures too_many { IsErrOf result OverlayError.TooManyEdges → 2 ^ 31 ≤ weight (edges_in pieces.old
-        ++ map (piece_along (plain_edge I.whole C.counts e.now))
+        ++ map (piece_along (plain_edge I.whole C.counts cut.now.e))
         (steps_between (plain_point I.whole from) (plain_point I.whole to))) }
     ensures only { IfErr result (λ e. (e ≡ OverlayError.Memory) ⊎ (e ≡ OverlayError.TooManyEdges)) }
 {
-    if let Some(piece) = piece(e, from, to, is_whole, store) {
+    if let Some(piece) = piece(cut, from, to, store) {
         pieces.push(piece)?;
     }
     Ok(())
@@ -196,17 +202,17 @@ fn push_piece<I: IntNumber, C: EdgeCount, A: Allocator>(
 /// Returns the piece of the edge from one point of its chain to the next, if they differ. It carries the edge's value,
 /// or a split of it where the edge is cut, reversed where the piece runs against the edge.
 fn piece<I: IntNumber, C: EdgeCount>(
-    e: &CountedEdge<I, C>,
+    cut: &CutEdge<I, C>,
     from: IntPoint<I>,
     to: IntPoint<I>,
-    is_whole: bool,
     store: &mut C::Store,
 ) -> Option<CountedEdge<I, C>>
-    requires light { weight_of_counts (C.counts e.now.count) < 2 ^ 31 }
+    requires light { weight_of_counts (C.counts cut.now.e.count) < 2 ^ 31 }
     ensures counts { option_to_list (option_map (plain_edge I.whole C.counts) result)
-        ≡ map (piece_along (plain_edge I.whole C.counts e.now))
+        ≡ map (piece_along (plain_edge I.whole C.counts cut.now.e))
         (steps_between (plain_point I.whole from) (plain_point I.whole to)) }
-    ensures carried { AreGiven (GivesPiece C.splits C.reverses (IsTrue is_whole) (carried_edge I.whole C.counts e.now))
+    ensures carried { AreGiven
+        (GivesPiece C.splits C.reverses (IsTrue cut.now.is_whole) (carried_edge I.whole C.counts cut.now.e))
         (steps_between (plain_point I.whole from) (plain_point I.whole to))
         (option_to_list (option_map (carried_edge I.whole C.counts) result)) }
     ensures store { IsStoreReached C.writes store.old store.new }
@@ -216,12 +222,12 @@ fn piece<I: IntNumber, C: EdgeCount>(
         Ordering::Less => Some(CountedEdge {
             a: from,
             b: to,
-            count: part_of(e.count, is_whole, store),
+            count: part_of(cut.e.count, cut.is_whole, store),
         }),
         Ordering::Greater => Some(CountedEdge {
             a: to,
             b: from,
-            count: part_of(e.count, is_whole, store).reversed(store),
+            count: part_of(cut.e.count, cut.is_whole, store).reversed(store),
         }),
     }
 }

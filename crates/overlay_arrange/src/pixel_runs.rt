@@ -24,30 +24,44 @@ use std::cmp::Ordering;
 // First step, in places, of the search for a point that lies above an edge.
 const FIRST_STEP: usize = 8;
 
-/// Adds the points of a strip, from `from` up to `to`, whose pixels the edge may meet. Their x-coordinates lie between
-/// `left` and `right`.
+/// A strip: the points of a list from `from` up to `to`, by their heights.
+#[derive(Clone, Copy)]
+pub(crate) struct Strip<'a, I> {
+    /// The list: the points of all strips.
+    pub(crate) points: &'a [IntPoint<I>],
+    /// The place of the first point of the strip.
+    pub(crate) from: usize,
+    /// The place behind its last point.
+    pub(crate) to: usize,
+    /// An x-coordinate: no point of the strip lies left of it.
+    pub(crate) left: I,
+    /// An x-coordinate: no point of the strip lies right of it.
+    pub(crate) right: I,
+}
+
+/// Adds the points of a strip whose pixels the edge may meet.
 pub(crate) fn push_run<I: IntNumber, C: EdgeCount, A: Allocator>(
     points: &mut Vec<IntPoint<I>, A>,
-    strips: &[IntPoint<I>],
+    strip: &Strip<'_, I>,
     e: &CountedEdge<I, C>,
     course: &Course<I>,
-    left: I,
-    right: I,
-    from: usize,
-    to: usize,
 ) -> Result<(), AllocError>
     requires one { IsHeld I.limit (plain_edge I.whole C.counts e.now) }
-    requires ordered { from ≤ to }
-    requires within { to ≤ length strips.now }
-    requires upwards { AreUpwards (plain_points I.whole strips.now) from to }
-    ensures ok { OnOk result (AddsRun (I.whole left) (I.whole right) (plain_edge I.whole C.counts e.now)
-        (plain_points I.whole strips.now) from to
+    requires ordered { strip.now.from ≤ strip.now.to }
+    requires within { strip.now.to ≤ length strip.now.points.now }
+    requires upwards { AreUpwards (plain_points I.whole strip.now.points.now) strip.now.from strip.now.to }
+    ensures ok { OnOk result (AddsRun (I.whole strip.now.left) (I.whole strip.now.right)
+        (plain_edge I.whole C.counts e.now) (plain_points I.whole strip.now.points.now) strip.now.from strip.now.to
         (plain_points I.whole points.old.items) (plain_points I.whole points.new.items)) }
 {
-    let (first, last) = x_along(e, left, right);
-    let low = near_start(strips, e, course, first, from, to);
-    let high = near_end(strips, e, course, last, low, to);
-    push_points(points, strips, low, high, is_less(e.b.y, e.a.y))
+    let (first, last) = x_along(e, strip.left, strip.right);
+    let low = near_start(strip, e, course, first);
+    let rest = Strip {
+        from: low,
+        ..*strip
+    };
+    let high = near_end(&rest, e, course, last);
+    push_points(points, strip.points, low, high, is_less(e.b.y, e.a.y))
 }
 
 /// Adds the points from `from` up to `to`, last first where an edge falls: in the order along the edge.
@@ -144,100 +158,84 @@ fn x_within<I: IntNumber, C: EdgeCount>(e: &CountedEdge<I, C>, x: I) -> I
 
 /// Returns a place as [`place_not_below`] does: the guessed place, if it is right.
 fn near_start<I: IntNumber, C: EdgeCount>(
-    strips: &[IntPoint<I>],
+    strip: &Strip<'_, I>,
     e: &CountedEdge<I, C>,
     course: &Course<I>,
     x: I,
-    from: usize,
-    to: usize,
 ) -> usize
     requires one { IsHeld I.limit (plain_edge I.whole C.counts e.now) }
     requires amid { IsAmidX (plain_edge I.whole C.counts e.now) (I.whole x) }
-    requires ordered { from ≤ to }
-    requires within { to ≤ length strips.now }
-    requires upwards { AreUpwards (plain_points I.whole strips.now) from to }
-    ensures ordered { from ≤ result }
-    ensures within { result ≤ to }
+    requires ordered { strip.now.from ≤ strip.now.to }
+    requires within { strip.now.to ≤ length strip.now.points.now }
+    requires upwards { AreUpwards (plain_points I.whole strip.now.points.now) strip.now.from strip.now.to }
+    ensures ordered { strip.now.from ≤ result }
+    ensures within { result ≤ strip.now.to }
     ensures below { ArePassedAbove (plain_edge I.whole C.counts e.now) (I.whole x)
-        (plain_points I.whole strips.now) from result }
+        (plain_points I.whole strip.now.points.now) strip.now.from result }
 {
-    let guess = guessed_start(strips, course, x, from, to);
-    if guess == from || passes_above(e, x, strips[guess - 1].y) {
+    let guess = guessed_start(strip, course, x);
+    if guess == strip.from || passes_above(e, x, strip.points[guess - 1].y) {
         guess
     } else {
-        place_not_below(strips, e, x, from, to)
+        place_not_below(strip, e, x)
     }
 }
 
 /// Returns roughly the place up to which the points of a strip lie below the edge at x.
-fn guessed_start<I: IntNumber>(
-    strips: &[IntPoint<I>],
-    course: &Course<I>,
-    x: I,
-    from: usize,
-    to: usize,
-) -> usize
-    requires ordered { from ≤ to }
-    requires within { to ≤ length strips.now }
-    ensures ordered { from ≤ result }
-    ensures within { result ≤ to }
+fn guessed_start<I: IntNumber>(strip: &Strip<'_, I>, course: &Course<I>, x: I) -> usize
+    requires ordered { strip.now.from ≤ strip.now.to }
+    requires within { strip.now.to ≤ length strip.now.points.now }
+    ensures ordered { strip.now.from ≤ result }
+    ensures within { result ≤ strip.now.to }
 {
-    if from == to {
-        return from;
+    if strip.from == strip.to {
+        return strip.from;
     }
-    let floor = strips[from].y;
+    let floor = strip.points[strip.from].y;
     let least = course.least_at(x, floor);
-    from + strips[from..to].partition_point(|v| v.y.distance(floor) < least)
+    strip.from + strip.points[strip.from..strip.to].partition_point(|v| v.y.distance(floor) < least)
 }
 
 /// Returns a place as [`place_above`] does: the guessed place, if it is right.
 fn near_end<I: IntNumber, C: EdgeCount>(
-    strips: &[IntPoint<I>],
+    strip: &Strip<'_, I>,
     e: &CountedEdge<I, C>,
     course: &Course<I>,
     x: I,
-    from: usize,
-    to: usize,
 ) -> usize
     requires one { IsHeld I.limit (plain_edge I.whole C.counts e.now) }
     requires amid { IsAmidX (plain_edge I.whole C.counts e.now) (I.whole x) }
-    requires ordered { from ≤ to }
-    requires within { to ≤ length strips.now }
-    requires upwards { AreUpwards (plain_points I.whole strips.now) from to }
-    ensures ordered { from ≤ result }
-    ensures within { result ≤ to }
+    requires ordered { strip.now.from ≤ strip.now.to }
+    requires within { strip.now.to ≤ length strip.now.points.now }
+    requires upwards { AreUpwards (plain_points I.whole strip.now.points.now) strip.now.from strip.now.to }
+    ensures ordered { strip.now.from ≤ result }
+    ensures within { result ≤ strip.now.to }
     ensures above { ArePassedBelow (plain_edge I.whole C.counts e.now) (I.whole x)
-        (plain_points I.whole strips.now) result to }
+        (plain_points I.whole strip.now.points.now) result strip.now.to }
 {
-    let guess = guessed_end(strips, course, x, from, to);
-    if guess == to || passes_below(e, x, strips[guess].y) {
+    let guess = guessed_end(strip, course, x);
+    if guess == strip.to || passes_below(e, x, strip.points[guess].y) {
         guess
     } else {
-        place_above(strips, e, x, from, to)
+        place_above(strip, e, x)
     }
 }
 
-/// Returns roughly the place from which on the points of a strip lie above the edge at x. The points from `from` on are
-/// looked at by turns.
-fn guessed_end<I: IntNumber>(
-    strips: &[IntPoint<I>],
-    course: &Course<I>,
-    x: I,
-    from: usize,
-    to: usize,
-) -> usize
-    requires ordered { from ≤ to }
-    requires within { to ≤ length strips.now }
-    ensures ordered { from ≤ result }
-    ensures within { result ≤ to }
+/// Returns roughly the place from which on the points of a strip lie above the edge at x. Its points are looked at
+/// by turns, the first one first.
+fn guessed_end<I: IntNumber>(strip: &Strip<'_, I>, course: &Course<I>, x: I) -> usize
+    requires ordered { strip.now.from ≤ strip.now.to }
+    requires within { strip.now.to ≤ length strip.now.points.now }
+    ensures ordered { strip.now.from ≤ result }
+    ensures within { result ≤ strip.now.to }
 {
-    if from == to {
-        return from;
+    if strip.from == strip.to {
+        return strip.from;
     }
-    let floor = strips[from].y;
+    let floor = strip.points[strip.from].y;
     let most = course.most_at(x, floor);
-    let mut at = from;
-    while at < to && strips[at].y.distance(floor) <= most {
+    let mut at = strip.from;
+    while at < strip.to && strip.points[at].y.distance(floor) <= most {
         at += 1;
     }
     at
@@ -245,27 +243,25 @@ fn guessed_end<I: IntNumber>(
 
 /// Returns a place up to which the points of a strip lie below the edge, for points from x on in its rising direction.
 fn place_not_below<I: IntNumber, C: EdgeCount>(
-    strips: &[IntPoint<I>],
+    strip: &Strip<'_, I>,
     e: &CountedEdge<I, C>,
     x: I,
-    from: usize,
-    to: usize,
 ) -> usize
     requires one { IsHeld I.limit (plain_edge I.whole C.counts e.now) }
     requires amid { IsAmidX (plain_edge I.whole C.counts e.now) (I.whole x) }
-    requires ordered { from ≤ to }
-    requires within { to ≤ length strips.now }
-    requires upwards { AreUpwards (plain_points I.whole strips.now) from to }
-    ensures ordered { from ≤ result }
-    ensures within { result ≤ to }
+    requires ordered { strip.now.from ≤ strip.now.to }
+    requires within { strip.now.to ≤ length strip.now.points.now }
+    requires upwards { AreUpwards (plain_points I.whole strip.now.points.now) strip.now.from strip.now.to }
+    ensures ordered { strip.now.from ≤ result }
+    ensures within { result ≤ strip.now.to }
     ensures below { ArePassedAbove (plain_edge I.whole C.counts e.now) (I.whole x)
-        (plain_points I.whole strips.now) from result }
+        (plain_points I.whole strip.now.points.now) strip.now.from result }
 {
-    let mut low = from;
-    let mut high = to;
+    let mut low = strip.from;
+    let mut high = strip.to;
     while low < high {
         let middle = low + (high - low) / 2;
-        if passes_above(e, x, strips[middle].y) {
+        if passes_above(e, x, strip.points[middle].y) {
             low = middle + 1;
         } else {
             high = middle;
@@ -276,27 +272,25 @@ fn place_not_below<I: IntNumber, C: EdgeCount>(
 
 /// Returns a place from which on the points of a strip lie above the edge, for points up to x in its rising direction.
 fn place_above<I: IntNumber, C: EdgeCount>(
-    strips: &[IntPoint<I>],
+    strip: &Strip<'_, I>,
     e: &CountedEdge<I, C>,
     x: I,
-    from: usize,
-    to: usize,
 ) -> usize
     requires one { IsHeld I.limit (plain_edge I.whole C.counts e.now) }
     requires amid { IsAmidX (plain_edge I.whole C.counts e.now) (I.whole x) }
-    requires ordered { from ≤ to }
-    requires within { to ≤ length strips.now }
-    requires upwards { AreUpwards (plain_points I.whole strips.now) from to }
-    ensures ordered { from ≤ result }
-    ensures within { result ≤ to }
+    requires ordered { strip.now.from ≤ strip.now.to }
+    requires within { strip.now.to ≤ length strip.now.points.now }
+    requires upwards { AreUpwards (plain_points I.whole strip.now.points.now) strip.now.from strip.now.to }
+    ensures ordered { strip.now.from ≤ result }
+    ensures within { result ≤ strip.now.to }
     ensures above { ArePassedBelow (plain_edge I.whole C.counts e.now) (I.whole x)
-        (plain_points I.whole strips.now) result to }
+        (plain_points I.whole strip.now.points.now) result strip.now.to }
 {
-    let mut low = from;
-    let mut high = place_over(strips, e, x, from, to);
+    let mut low = strip.from;
+    let mut high = place_over(strip, e, x);
     while low < high {
         let middle = low + (high - low) / 2;
-        if passes_below(e, x, strips[middle].y) {
+        if passes_below(e, x, strip.points[middle].y) {
             high = middle;
         } else {
             low = middle + 1;
@@ -305,35 +299,33 @@ fn place_above<I: IntNumber, C: EdgeCount>(
     high
 }
 
-/// Returns a place as [`place_above`] does, near `from` if few points lie near the edge: each step is twice as long as
-/// the step before.
+/// Returns a place as [`place_above`] does, near the first point if few points lie near the edge: each step is twice as
+/// long as the step before.
 fn place_over<I: IntNumber, C: EdgeCount>(
-    strips: &[IntPoint<I>],
+    strip: &Strip<'_, I>,
     e: &CountedEdge<I, C>,
     x: I,
-    from: usize,
-    to: usize,
 ) -> usize
     requires one { IsHeld I.limit (plain_edge I.whole C.counts e.now) }
     requires amid { IsAmidX (plain_edge I.whole C.counts e.now) (I.whole x) }
-    requires ordered { from ≤ to }
-    requires within { to ≤ length strips.now }
-    requires upwards { AreUpwards (plain_points I.whole strips.now) from to }
-    ensures ordered { from ≤ result }
-    ensures within { result ≤ to }
+    requires ordered { strip.now.from ≤ strip.now.to }
+    requires within { strip.now.to ≤ length strip.now.points.now }
+    requires upwards { AreUpwards (plain_points I.whole strip.now.points.now) strip.now.from strip.now.to }
+    ensures ordered { strip.now.from ≤ result }
+    ensures within { result ≤ strip.now.to }
     ensures above { ArePassedBelow (plain_edge I.whole C.counts e.now) (I.whole x)
-        (plain_points I.whole strips.now) result to }
+        (plain_points I.whole strip.now.points.now) result strip.now.to }
 {
-    let mut at = from;
+    let mut at = strip.from;
     let mut step: usize = FIRST_STEP;
-    while at < to {
-        if passes_below(e, x, strips[at].y) {
+    while at < strip.to {
+        if passes_below(e, x, strip.points[at].y) {
             return at;
         }
         at = at.saturating_add(step);
         step = step.saturating_add(step);
     }
-    to
+    strip.to
 }
 
 /// Returns true only if the edge passes above the pixels of all points up to the height y, from x on in its rising

@@ -17,7 +17,7 @@ use crate::content::Content;
 use crate::course::course_of;
 use crate::cut::sort_along;
 use crate::pixel::meets_pixel_inside;
-use crate::pixel_runs::push_run;
+use crate::pixel_runs::{Strip, push_run};
 use overlay_geom::error::OverlayError;
 use overlay_geom::number::IntNumber;
 use overlay_geom::point::IntPoint;
@@ -238,7 +238,14 @@ fn take_by_strips<I: IntNumber, C: EdgeCount, A: Allocator>(
     let mut at = low / width * width;
     while goes_on(hot, e.b.x, at) {
         let end = on_by(at, width, hot.len());
-        push_run(points, strips, e, &line, hot[at].x, hot[end - 1].x, at, end)?;
+        let strip = Strip {
+            points: strips,
+            from: at,
+            to: end,
+            left: hot[at].x,
+            right: hot[end - 1].x,
+        };
+        push_run(points, &strip, e, &line)?;
         at = end;
     }
     Ok(())

@@ -3,4 +3,3 @@ pub mod ExactRelations
 pub mod GivenContacts
 pub mod ScaledClosures
 pub mod SettledRelations
-pub mod SortedEnds

@@ -1,14 +1,11 @@
--- The filled sides of edges of an arrangement, told by their fill bits, and the ends of borders.
-use Rattle.std.specs.Prelude.{ℕ, ℤ, Bool, List, map}
+-- The filled sides of edges of an arrangement, told by their fill bits.
+use Rattle.std.specs.Prelude.{ℕ, ℤ, Bool, List}
 use Rattle.overlay_geom.specs.Edges.{CountedEdge, subj_of, clip_of}
-use Rattle.overlay_geom.specs.Points.{plain_point}
 use Rattle.overlay_plane.specs.Predicates.{fills_above, fills_below}
 use Rattle.overlay_order.specs.Counts.{has_bit}
 use Rattle.overlay_given.specs.Sides.{sides_pass}
 use Rattle.overlay_given.specs.declared.sides.FilledSides.{FilledSides}
 use Rattle.overlay_given.specs.declared.sides.SideTest.{SideTest}
-use Rattle.overlay_relate.specs.EdgeTests.{BorderEnd}
-use Rattle.overlay_contacts.specs.declared.shape_end.ShapeEnd.{ShapeEnd}
 
 -- the filled sides that fill bits tell
 abbrev pub sides_of_bits : ℕ → FilledSides
@@ -34,10 +31,3 @@ edge_passes test filled es e = sides_pass test (sides_beside filled es e)
 
 abbrev pub bits_pass : SideTest → ℕ → Bool
 bits_pass test n = sides_pass test (sides_of_bits n)
-
--- the end of a border for one of the program
-abbrev pub plain_end : {I : Type 0} → (I → ℤ) → ShapeEnd I → BorderEnd
-plain_end whole m = record { point = plain_point whole m.point; of_subj = m.of_subj }
-
-abbrev pub plain_ends : {I : Type 0} → (I → ℤ) → List (ShapeEnd I) → List BorderEnd
-plain_ends whole ms = map (plain_end whole) ms

@@ -5,5 +5,3 @@ pub mod contacts;
 mod edge_sides;
 pub mod relations;
 pub mod settled;
-mod shape_end;
-mod shared_end;

@@ -13,7 +13,6 @@ ghost use Rattle.overlay_contacts.specs.ExactRelations.{AreExactRelations};
 ghost use Rattle.overlay_contacts.specs.SettledRelations.{TellOfEdges, relations_of};
 
 use crate::edge_sides::some_edge_passes;
-use crate::shared_end::has_shared_end;
 use overlay_arrange::content::Content;
 use overlay_geom::fill_rule::FillRule;
 use overlay_geom::number::IntNumber;
@@ -21,6 +20,7 @@ use overlay_given::sides::SideTest;
 use overlay_graph::graph::Graph;
 use overlay_order::count::EdgeCount;
 use overlay_relate::relations::Relations;
+use overlay_relate::shared_end::has_shared_end;
 use std::alloc::{AllocError, Allocator};
 
 /// Returns the relations of subject and clip, told by the filled sides of edges that meet in ends alone. Each answer is

@@ -27,7 +27,7 @@ module _ (keep : Bool) (paths : List GivenPath) (content : List CountedEdge)
   module _ (inner outer : CountedEdge → ℤ) (inner_side outer_side : ShapeType)
       (inner_winds : (p : PlanePoint) → winding_by inner content p ≡ winding_of_paths inner_side paths p)
       (outer_winds : (p : PlanePoint) → winding_by outer content p ≡ winding_of_paths outer_side paths p) where
-    one_within : PathLiesWithin filled paths inner_side outer_side ↔ LiesWithin filled content inner outer
+    pub one_within : PathLiesWithin filled paths inner_side outer_side ↔ LiesWithin filled content inner outer
     one_within = (
       λ lies. record {
         some = let (p, h, t) = lies.some in

@@ -13,6 +13,7 @@ pub mod overlay;
 pub mod prepared;
 pub mod relate;
 pub mod relate_exact;
+pub mod relate_one_exact;
 pub mod simplify;
 pub mod simplify_shape;
 pub mod slice;

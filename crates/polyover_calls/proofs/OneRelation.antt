@@ -43,7 +43,7 @@ read_back relation.Disjoint = refl
 read_back relation.Covers = refl
 
 -- a bit is that of one relation
-one_with_bit : (r q : Relation) → bit_of r ≡ bit_of q → r ≡ q
+pub one_with_bit : (r q : Relation) → bit_of r ≡ bit_of q → r ≡ q
 one_with_bit r q same = sym (read_back r) ∙ ap relation_at same ∙ read_back q
 
 pub one_telling_of_relation : {I : Type 0} (whole : I → ℤ) (limit number fill : ℕ) (subject clip : Contours I)

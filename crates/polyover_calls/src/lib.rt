@@ -35,7 +35,7 @@ pub mod prepared_points;
 pub mod read;
 pub mod relate;
 pub mod relate_one;
-mod relation;
+pub mod relation;
 pub mod shape;
 pub mod simplify;
 pub mod slice;

@@ -8,19 +8,26 @@ use crate::status::Status;
 
 /// A relation of a subject and a clip.
 #[derive(Clone, Copy)]
-pub(crate) enum Relation {
+pub enum Relation {
+    /// The closures of the interiors have a common point.
     Intersects,
+    /// The interiors have one.
     InteriorsIntersect,
+    /// The shapes intersect, and their interiors do not.
     Touches,
+    /// The shapes intersect, in single points alone.
     PointIntersects,
+    /// The subject lies within the clip.
     Within,
+    /// The shapes have no common point.
     Disjoint,
+    /// The subject covers the clip.
     Covers,
 }
 
-/// The relation with the bit; `BadOption` where none has it.
+/// Returns the relation with the bit, and `BadOption` where none has it.
 #[tactic(auto, using(crate::proofs::RelatedOne::no_relation))]
-pub(crate) fn relation_of(bit: u32) -> Result<Relation, Status>
+pub fn relation_of(bit: u32) -> Result<Relation, Status>
     ensures { MatchResult result (λ r. bit ≡ bit_of r) (λ s. (s ≡ BadOption) × ¬ (IsRelation bit)) }
 {
     match bit {

@@ -1,2 +1,4 @@
+pub mod OneRelation
 pub mod OneTelling
 pub mod Told
+pub mod ToldOne

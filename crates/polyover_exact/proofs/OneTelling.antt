@@ -23,7 +23,7 @@ use Rattle.polyover_exact.specs.Determined.{RelationsAreToldOnce}
 use Rattle.polyover_exact.specs.Exact.{AreExactBits, ExactlyRelatingEnds, IsUnknownFill}
 
 -- no path weighs too much among paths that a builder holds
-light : (paths : List (AddedPath CountedEdge)) (content : List CountedEdge) → HoldsPaths paths content →
+pub light : (paths : List (AddedPath CountedEdge)) (content : List CountedEdge) → HoldsPaths paths content →
     ¬ (SomePathWeighsTooMuch paths)
 light paths content holds stops =
     let stop = stops.1 in

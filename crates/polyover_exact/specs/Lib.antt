@@ -1,2 +1,3 @@
 pub mod Determined
 pub mod Exact
+pub mod One

@@ -3,3 +3,4 @@
 
 pub mod only_answers;
 pub mod relate;
+pub mod relate_one;

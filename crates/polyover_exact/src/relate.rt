@@ -102,8 +102,8 @@ fn bits(relations: Relations) -> u32
         + bit_if(relations.covers, 64)
 }
 
-// Returns the bit of a relation that holds, and else 0.
-fn bit_if(holds: bool, value: u32) -> u32
+/// Returns the bit of a relation that holds, and else 0.
+pub(crate) fn bit_if(holds: bool, value: u32) -> u32
     ensures value { result ≡ bit holds value }
     ensures at_most { result ≤ value }
 {

@@ -27,6 +27,17 @@ impl Query for Exactly {
     }
 }
 
+/// One of them, by its bit.
+struct ExactlySo(u32, FillRule);
+
+impl Query for ExactlySo {
+    type Answer = bool;
+
+    fn ask<E: Engine>(&self, first: Given<'_, E::C>, second: Given<'_, E::C>) -> Result<bool, OverlayError> {
+        E::relate_one_exact(self.0, self.1, first, second)
+    }
+}
+
 /// Contours of a subject and of a clip, to be asked how they lie to each other as they were added. Queries leave them
 /// as they are.
 ///
@@ -85,7 +96,7 @@ impl<I: OverlayInt> ExactPredicates<I> {
         predicates
     }
 
-    /// Tells all relations at once, in the time of one.
+    /// Tells all relations at once.
     ///
     /// # Errors
     /// `Memory`; `OutOfRange`, of `i64` alone; `TooManyEdges`.
@@ -93,7 +104,7 @@ impl<I: OverlayInt> ExactPredicates<I> {
         I::ask(&Exactly(self.fill_rule), self.subject.as_given(), self.clip.as_given())
     }
 
-    /// Tells all relations at once, in the time of one.
+    /// Tells all relations at once.
     ///
     /// # Panics
     /// Where [`Self::try_relations`] is refused.
@@ -115,7 +126,8 @@ macro_rules! relations_of_contours {
             /// Where [`Self::try_relations`] is refused.
             #[track_caller]
             pub fn $name(&self) -> bool {
-                self.relations().$name()
+                let query = ExactlySo($bit, self.fill_rule);
+                answered(I::ask(&query, self.subject.as_given(), self.clip.as_given()))
             }
         )*}
 
@@ -157,8 +169,23 @@ macro_rules! relations_of_contours {
                 /// # Panics
                 /// Where [`Self::try_exact_relations`] is refused.
                 #[track_caller]
-                fn $exact(&self, other: &R) -> bool {
-                    self.exact_relations(other).$name()
+                fn $exact(&self, other: &R) -> bool;
+            )*
+        }
+
+        impl<R0, R1, I> IntRelateExact<R1, I> for R0
+        where
+            R0: IntShapeResource<I> + ?Sized,
+            R1: IntShapeResource<I> + ?Sized,
+            I: OverlayInt,
+        {
+            fn try_exact_relations(&self, other: &R1) -> Result<Relations, OverlayError> {
+                ask_two(&Exactly(FillRule::EvenOdd), self, other)
+            }
+
+            $(
+                fn $exact(&self, other: &R1) -> bool {
+                    answered(ask_two(&ExactlySo($bit, FillRule::EvenOdd), self, other))
                 }
             )*
         }
@@ -166,14 +193,3 @@ macro_rules! relations_of_contours {
 }
 
 each_relation!(relations_of_contours);
-
-impl<R0, R1, I> IntRelateExact<R1, I> for R0
-where
-    R0: IntShapeResource<I> + ?Sized,
-    R1: IntShapeResource<I> + ?Sized,
-    I: OverlayInt,
-{
-    fn try_exact_relations(&self, other: &R1) -> Result<Relations, OverlayError> {
-        ask_two(&Exactly(FillRule::EvenOdd), self, other)
-    }
-}

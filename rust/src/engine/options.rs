@@ -14,6 +14,28 @@ pub(crate) struct Options {
     pub(crate) min_area: u128,
 }
 
+/// An area as the options of a width have it.
+pub(crate) trait Area {
+    /// The area, or the largest one that is had.
+    fn of(area: u128) -> Self;
+}
+
+impl Area for sys::WideArea {
+    fn of(area: u128) -> Self {
+        Self {
+            high: low(area >> 64),
+            low: low(area),
+        }
+    }
+}
+
+/// The areas of `i16` and `i32` coordinates have 64 bits at most.
+impl Area for u64 {
+    fn of(area: u128) -> Self {
+        Self::try_from(area).unwrap_or(Self::MAX)
+    }
+}
+
 /// The low 64 bits of a number.
 fn low(number: u128) -> u64 {
     let [a, b, c, d, e, f, g, h, ..] = number.to_le_bytes();
@@ -21,31 +43,15 @@ fn low(number: u128) -> u64 {
 }
 
 impl Options {
-    /// Which points on one line are kept: a sum.
-    fn keep(&self) -> u32 {
-        u32::from(self.keeps_points) | u32::from(self.keeps_given) << 1
-    }
-
-    /// At 64 bits.
-    pub(crate) fn wide(&self) -> sys::Options64 {
-        sys::Options64 {
+    /// The options as the library takes them.
+    pub(crate) fn raw<A: Area>(&self) -> sys::Options<A> {
+        sys::Options {
             direction: self.is_clockwise.into(),
-            keep: self.keep(),
+            // (which points on one line are kept: a sum)
+            keep: u32::from(self.keeps_points) | u32::from(self.keeps_given) << 1,
             touching: self.may_touch.into(),
             solver: self.solver.number(),
-            min_area_high: low(self.min_area >> 64),
-            min_area_low: low(self.min_area),
-        }
-    }
-
-    /// At 32 bits. The areas of `i16` and `i32` coordinates have 64 bits at most.
-    pub(crate) fn narrow(&self) -> sys::Options32 {
-        sys::Options32 {
-            direction: self.is_clockwise.into(),
-            keep: self.keep(),
-            touching: self.may_touch.into(),
-            solver: self.solver.number(),
-            min_area: u64::try_from(self.min_area).unwrap_or(u64::MAX),
+            min_area: A::of(self.min_area),
         }
     }
 }
@@ -59,22 +65,12 @@ pub(crate) struct SliceOptions {
 }
 
 impl SliceOptions {
-    /// At 64 bits.
-    pub(crate) fn wide(&self) -> sys::SliceOptions64 {
-        sys::SliceOptions64 {
+    /// The options as the library takes them.
+    pub(crate) fn raw<A: Area>(&self) -> sys::SliceOptions<A> {
+        sys::SliceOptions {
             direction: self.is_clockwise.into(),
             solver: self.solver.number(),
-            min_area_high: low(self.min_area >> 64),
-            min_area_low: low(self.min_area),
-        }
-    }
-
-    /// At 32 bits, as [`Options::narrow`].
-    pub(crate) fn narrow(&self) -> sys::SliceOptions32 {
-        sys::SliceOptions32 {
-            direction: self.is_clockwise.into(),
-            solver: self.solver.number(),
-            min_area: u64::try_from(self.min_area).unwrap_or(u64::MAX),
+            min_area: A::of(self.min_area),
         }
     }
 }

@@ -31,10 +31,8 @@ impl<C> Given<'_, C> {
     /// The struct that the library takes; it is of use for as long as the lists.
     pub(super) fn raw(&self) -> sys::Contours<C> {
         sys::Contours {
-            coordinates: self.coordinates.as_ptr(),
-            coordinate_count: self.coordinates.len(),
-            ends: self.ends.as_ptr(),
-            end_count: self.ends.len(),
+            coordinates: sys::List::of(self.coordinates),
+            ends: sys::List::of(self.ends),
         }
     }
 }

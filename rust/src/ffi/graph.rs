@@ -1,67 +1,48 @@
 //! Graphs in memory of the library.
 
-use super::calls::{done, Engine, Narrow, Wide};
 use super::held::Held;
+use super::owned::{Freed, Owned};
 use super::sys;
+use super::width::{Narrow, Wide, Width};
 use crate::core::overlay_rule::OverlayRule;
 use crate::engine::options::Options;
 use crate::error::OverlayError;
 use ::core::fmt;
-use ::core::marker::PhantomData;
-use ::core::mem::MaybeUninit;
 
 /// A graph in memory of the library, which is freed with it.
-pub(crate) struct Arranged<E: Engine> {
-    raw: sys::Graph,
-    width: PhantomData<fn() -> E>,
+pub(crate) type Arranged<W> = Owned<W, sys::Graph>;
+
+// SAFETY: a graph of zeros has no edges; it owns its array, which is a block of malloc, and it "may be asked on several
+// threads at once" (polyover.h).
+unsafe impl<W: Width> Freed<W> for sys::Graph {
+    const FREE: sys::Free<Self> = W::CALLS.graph_free;
 }
 
-// SAFETY: it owns its array, and it "may be asked on several threads at once" (polyover.h), and stays as it is.
-unsafe impl<E: Engine> Send for Arranged<E> {}
-// SAFETY: as above.
-unsafe impl<E: Engine> Sync for Arranged<E> {}
-
-impl<E: Engine> Drop for Arranged<E> {
-    fn drop(&mut self) {
-        E::free_graph(&mut self.raw);
-    }
-}
-
-impl<E: Engine> fmt::Debug for Arranged<E> {
+impl<W: Width> fmt::Debug for Arranged<W> {
     fn fmt(&self, f: &mut fmt::Formatter<'_>) -> fmt::Result {
         f.debug_struct("Arranged").finish_non_exhaustive()
     }
 }
 
-impl<E: Engine> Arranged<E> {
-    /// The graph that a call writes, unless it is refused.
-    ///
-    /// # Safety
-    /// `call` writes a graph of the library to the pointer, and gives back the status with which it ended.
-    pub(super) unsafe fn of(call: impl FnOnce(*mut sys::Graph) -> sys::Status) -> Result<Self, OverlayError> {
-        let mut raw = MaybeUninit::zeroed();
-        let status = call(raw.as_mut_ptr());
-        // SAFETY: all its fields were set to 0, which is a graph without edges, and a graph is there after each status
-        // (polyover.h).
-        let raw = unsafe { raw.assume_init() };
-        let width = PhantomData;
-        let graph = Self { raw, width };
-        done(status).map(|()| graph)
-    }
-
+impl<W: Width> Arranged<W> {
     /// The shapes of an overlay.
-    pub(crate) fn overlay(&self, rule: OverlayRule, options: &Options) -> Result<Held<E>, OverlayError> {
-        E::graph_overlay(&self.raw, rule, options)
+    pub(crate) fn overlay(&self, rule: OverlayRule, options: &Options) -> Result<Held<W>, OverlayError> {
+        let (graph, options) = (&self.raw, options.raw());
+        // SAFETY: all pointers are of values that outlive the call; the graph is one that `arrange` left.
+        unsafe { Held::of(|to| (W::CALLS.graph_overlay)(graph, rule.number(), &options, to)) }
     }
 
     /// The shapes of an overlay, with links.
-    pub(crate) fn hierarchy(&self, rule: OverlayRule, options: &Options) -> Result<Held<E>, OverlayError> {
-        E::graph_hierarchy(&self.raw, rule, options)
+    pub(crate) fn hierarchy(&self, rule: OverlayRule, options: &Options) -> Result<Held<W>, OverlayError> {
+        let (graph, options) = (&self.raw, options.raw());
+        // SAFETY: as for `overlay`.
+        unsafe { Held::of(|to| (W::CALLS.graph_hierarchy)(graph, rule.number(), &options, to)) }
     }
 
     /// Its edges.
-    pub(crate) fn edges(&self) -> Result<Held<E>, OverlayError> {
-        E::graph_edges(&self.raw)
+    pub(crate) fn edges(&self) -> Result<Held<W>, OverlayError> {
+        // SAFETY: as for `overlay`.
+        unsafe { Held::of(|to| (W::CALLS.graph_edges)(&self.raw, to)) }
     }
 }
 

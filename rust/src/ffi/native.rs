@@ -2,7 +2,6 @@
 //! `c/library*.c`). `scripts/dist` leaves the assembly, in which the names of calls are those of `polyover.h`.
 
 use super::sys;
-use super::traced::Traced;
 use ::core::ffi::{c_char, c_int, c_void};
 use ::core::hint::black_box;
 use ::core::sync::atomic::{AtomicBool, Ordering};
@@ -94,151 +93,72 @@ unsafe extern "C" fn polyover_rattle_dealloc(at: *mut c_void) {
 
 // ---- what is freed
 
-/// Frees an array; an array without items has no memory.
+/// Frees a list; a list without items has no memory.
 ///
 /// # Safety
-/// An array with items is a block of malloc, and is freed once.
-unsafe fn free_array<T>(at: *const T, count: usize) {
-    if count != 0 {
+/// A list with items is a block of malloc, and is freed once.
+unsafe fn free_list<T>(list: &sys::List<T>) {
+    if list.count != 0 {
         // SAFETY: the caller's word.
-        unsafe { free(at.cast_mut().cast()) }
+        unsafe { free(list.at.cast_mut().cast()) }
     }
 }
 
-/// Frees the arrays of an answer, and leaves it without items.
-///
-/// # Safety
-/// The pointer is to an answer of the library.
-unsafe fn free_answer<C>(result: *mut sys::Answer<C>) {
-    // SAFETY: the caller's word.
-    unsafe {
-        let it = &mut *result;
-        free_array(it.coordinates, it.coordinate_count);
-        free_array(it.contour_ends, it.contour_count);
-        free_array(it.shape_ends, it.shape_count);
-        free_array(it.links, it.link_count);
-        free_array(it.fills, it.fill_count);
-        *it = ::core::mem::zeroed();
-    }
+/// A struct with lists of the library.
+trait Lists {
+    /// Frees its lists.
+    ///
+    /// # Safety
+    /// The library left the struct, and its lists are freed once.
+    unsafe fn free_lists(&self);
 }
 
-/// Frees the arrays of a prepared shape, and leaves it without a boundary.
-///
-/// # Safety
-/// The pointer is to a prepared shape of the library.
-unsafe fn free_shape(prepared: *mut sys::Prepared) {
-    // SAFETY: the caller's word.
-    unsafe {
-        let it = &mut *prepared;
-        free_array(it.edges, it.edge_count);
-        free_array(it.blocks, it.block_count);
-        free_array(it.groups, it.group_count);
-        *it = ::core::mem::zeroed();
-    }
+/// Tells the lists of a struct.
+macro_rules! lists {
+    ($struct:ident $(<$c:ident>)?: $($list:ident),*) => {
+        impl $(<$c>)? Lists for sys::$struct $(<$c>)? {
+            unsafe fn free_lists(&self) {
+                // SAFETY: the caller's word.
+                unsafe { $(free_list(&self.$list);)* }
+            }
+        }
+    };
 }
 
-/// Frees the arrays of a shape as it is given, and leaves it without edges.
-///
-/// # Safety
-/// The pointer is to such a shape of the library.
-unsafe fn free_exact(shape: *mut sys::Exact) {
-    // SAFETY: the caller's word.
-    unsafe {
-        let it = &mut *shape;
-        free_array(it.edges, it.edge_count);
-        free_array(it.blocks, it.block_count);
-        free_array(it.groups, it.group_count);
-        *it = ::core::mem::zeroed();
-    }
+lists!(Answer<C>: coordinates, contour_ends, shape_ends, links, fills);
+lists!(Prepared: edges, blocks, groups);
+lists!(Exact: edges, blocks, groups);
+lists!(Graph: edges);
+lists!(Traced<C>: coordinates, fills, source_ends, sources);
+
+/// Makes calls that free the lists of a struct of the library, and leave all its fields 0.
+macro_rules! frees {
+    ($($name:ident($struct:ty);)*) => {
+        $(
+            #[no_mangle]
+            unsafe extern "C" fn $name(at: *mut $struct) {
+                // SAFETY: the caller's word.
+                unsafe {
+                    let it = &mut *at;
+                    it.free_lists();
+                    *it = ::core::mem::zeroed();
+                }
+            }
+        )*
+    };
 }
 
-/// Frees the edges of a graph, and leaves it without one.
-///
-/// # Safety
-/// The pointer is to a graph of the library.
-unsafe fn free_graph(graph: *mut sys::Graph) {
-    // SAFETY: the caller's word.
-    unsafe {
-        let it = &mut *graph;
-        free_array(it.edges, it.edge_count);
-        *it = ::core::mem::zeroed();
-    }
-}
-
-#[no_mangle]
-unsafe extern "C" fn polyover_free(result: *mut sys::Answer<i64>) {
-    // SAFETY: the caller's word.
-    unsafe { free_answer(result) }
-}
-
-#[no_mangle]
-unsafe extern "C" fn polyover_free_32(result: *mut sys::Answer<i32>) {
-    // SAFETY: the caller's word.
-    unsafe { free_answer(result) }
-}
-
-#[no_mangle]
-unsafe extern "C" fn polyover_prepared_free(prepared: *mut sys::Prepared) {
-    // SAFETY: the caller's word.
-    unsafe { free_shape(prepared) }
-}
-
-#[no_mangle]
-unsafe extern "C" fn polyover_prepared_free_32(prepared: *mut sys::Prepared) {
-    // SAFETY: the caller's word.
-    unsafe { free_shape(prepared) }
-}
-
-#[no_mangle]
-unsafe extern "C" fn polyover_exact_free(shape: *mut sys::Exact) {
-    // SAFETY: the caller's word.
-    unsafe { free_exact(shape) }
-}
-
-#[no_mangle]
-unsafe extern "C" fn polyover_exact_free_32(shape: *mut sys::Exact) {
-    // SAFETY: the caller's word.
-    unsafe { free_exact(shape) }
-}
-
-#[no_mangle]
-unsafe extern "C" fn polyover_graph_free(graph: *mut sys::Graph) {
-    // SAFETY: the caller's word.
-    unsafe { free_graph(graph) }
-}
-
-#[no_mangle]
-unsafe extern "C" fn polyover_graph_free_32(graph: *mut sys::Graph) {
-    // SAFETY: the caller's word.
-    unsafe { free_graph(graph) }
-}
-
-/// Frees the arrays of traced edges, and leaves none of them.
-///
-/// # Safety
-/// The pointer is to traced edges of the library.
-unsafe fn free_traced<C>(traced: *mut Traced<C>) {
-    // SAFETY: the caller's word.
-    unsafe {
-        let it = &mut *traced;
-        free_array(it.coordinates, it.coordinate_count);
-        free_array(it.fills, it.fill_count);
-        free_array(it.source_ends, it.source_end_count);
-        free_array(it.sources, it.source_count);
-        *it = ::core::mem::zeroed();
-    }
-}
-
-#[no_mangle]
-unsafe extern "C" fn polyover_traced_free(traced: *mut Traced<i64>) {
-    // SAFETY: the caller's word.
-    unsafe { free_traced(traced) }
-}
-
-#[no_mangle]
-unsafe extern "C" fn polyover_traced_free_32(traced: *mut Traced<i32>) {
-    // SAFETY: the caller's word.
-    unsafe { free_traced(traced) }
+frees! {
+    polyover_free(sys::Answer<i64>);
+    polyover_free_32(sys::Answer<i32>);
+    polyover_prepared_free(sys::Prepared);
+    polyover_prepared_free_32(sys::Prepared);
+    polyover_exact_free(sys::Exact);
+    polyover_exact_free_32(sys::Exact);
+    polyover_graph_free(sys::Graph);
+    polyover_graph_free_32(sys::Graph);
+    polyover_traced_free(sys::Traced<i64>);
+    polyover_traced_free_32(sys::Traced<i32>);
 }
 
 // ---- what it is made of

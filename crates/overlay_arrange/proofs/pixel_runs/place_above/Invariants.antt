@@ -8,9 +8,9 @@ use Rattle.overlay_arrange.proofs.pixel_runs.place_above.Given as goal
 abbrev pub invariant-loop-low : goal.invariant-loop-low
 invariant-loop-low g l =
     let whole = g.I.IntNumber.whole in
-    (l.from ≤ l.low) × (l.low ≤ l.high) × (l.high ≤ l.to)
-    × ArePassedBelow (plain_edge whole g.C.EdgeCount.counts l.e) (whole l.x) (plain_points whole l.strips) l.high
-    l.to
+    (l.strip.from ≤ l.low) × (l.low ≤ l.high) × (l.high ≤ l.strip.to)
+    × ArePassedBelow (plain_edge whole g.C.EdgeCount.counts l.e) (whole l.x) (plain_points whole l.strip.points.now)
+    l.high l.strip.to
 
 abbrev pub decreases-loop-low : goal.decreases-loop-low
 decreases-loop-low g l = l.high - l.low

@@ -15,14 +15,15 @@ loop-low-init g c = let ordered = c.requires.ordered in (
   omega (arith, ordered),
   omega arith,
   none_above (plain_edge g.I.IntNumber.whole g.C.EdgeCount.counts c.args.e.now) (g.I.IntNumber.whole c.args.x)
-      (plain_points g.I.IntNumber.whole c.args.strips.now) c.args.from c.args.to,
+      (plain_points g.I.IntNumber.whole c.args.strip.now.points.now) c.args.strip.now.from c.args.strip.now.to,
 )
 
 pub loop-low-preserved-then-passes_above : goal.loop-low-preserved-then-passes_above
 loop-low-preserved-then-passes_above g c =
     let whole = g.I.IntNumber.whole in
     let e = plain_edge whole g.C.EdgeCount.counts c.args.e.now in
-    let strips = c.args.strips.now in
+    let strip = c.args.strip.now in
+    let strips = strip.points.now in
     let ss = plain_points whole strips in
     let low = c.loop-low.low in
     let high = c.loop-low.high in
@@ -34,13 +35,13 @@ loop-low-preserved-then-passes_above g c =
     let half = div-add-mod (high - low) 2 in
     let inside : middle < high = omega (arith, half, less) in
     let there : middle < length strips = omega (arith, inside, up_to, within) in
-    let s = c.index-strips-middle.result in
-    let at_s = placed_in_mapped (plain_point whole) strips middle s there c.index-strips-middle.is in (
+    let s = c.index-strip-middle.result in
+    let at_s = placed_in_mapped (plain_point whole) strips middle s there c.index-strip-middle.is in (
       omega (arith, past),
       omega (arith, inside),
       omega (arith, up_to),
-      above_to e (whole c.args.x) ss c.args.from c.args.to c.requires.upwards middle (plain_point whole s) at_s
+      above_to e (whole c.args.x) ss strip.from strip.to c.requires.upwards middle (plain_point whole s) at_s
           (omega (arith, inside, up_to))
-          (subst (λ (t : IntPoint _). PassesAbove e (whole c.args.x) (whole t.y)) (sym c.index-strips-middle.is)
+          (subst (λ (t : IntPoint _). PassesAbove e (whole c.args.x) (whole t.y)) (sym c.index-strip-middle.is)
           (c.passes_above.ensures c.if-passes_above.true)),
     )

@@ -12,14 +12,15 @@ pub returns-then-passes_below-clause-above : goal.returns-then-passes_below-clau
 returns-then-passes_below-clause-above g c =
     let whole = g.I.IntNumber.whole in
     let e = plain_edge whole g.C.EdgeCount.counts c.args.e.now in
-    let strips = c.args.strips.now in
+    let strip = c.args.strip.now in
+    let strips = strip.points.now in
     let at = c.loop-at.at in
     let less = c.loop-at-test.true in
     let within = c.requires.within in
     let there : at < length strips = omega (arith, less, within) in
-    let s = c.index-strips-at.result in
-    below_from e (whole c.args.x) (plain_points whole strips) c.args.from c.args.to c.requires.upwards at
-    (plain_point whole s) (placed_in_mapped (plain_point whole) strips at s there c.index-strips-at.is)
+    let s = c.index-strip-at.result in
+    below_from e (whole c.args.x) (plain_points whole strips) strip.from strip.to c.requires.upwards at
+    (plain_point whole s) (placed_in_mapped (plain_point whole) strips at s there c.index-strip-at.is)
     c.loop-at.invariant.0
-    (subst (λ (t : IntPoint _). PassesBelow e (whole c.args.x) (whole t.y)) (sym c.index-strips-at.is)
+    (subst (λ (t : IntPoint _). PassesBelow e (whole c.args.x) (whole t.y)) (sym c.index-strip-at.is)
     (c.passes_below.ensures c.if-passes_below.true))

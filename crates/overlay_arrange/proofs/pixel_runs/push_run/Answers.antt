@@ -20,8 +20,8 @@ returns g c = record {
       let high = c.near_end-high.result in
       let ends = c.x_along-first.result in
       on_ok_weaker c.push_points.result
-      (run_added (whole c.args.left) (whole c.args.right) (whole ends.0) (whole ends.1) e
-      (plain_points whole c.args.strips.now) c.args.from low high c.args.to
+      (run_added (whole c.args.strip.now.left) (whole c.args.strip.now.right) (whole ends.0) (whole ends.1) e
+      (plain_points whole c.args.strip.now.points.now) c.args.strip.now.from low high c.args.strip.now.to
       (plain_points whole c.args.points.now.items)
       (plain_points whole c.push_points.new.points.items) ((Decides-point_lt e.a e.b).0 c.requires.one.forward).x
       c.near_start-low.ensures.ordered c.near_end-high.ensures.within c.x_along-first.ensures.between

@@ -1,15 +1,6 @@
 //! Values that several threads share.
-#![allow(missing_docs, dead_code)]
-#![allow(
-    clippy::unwrap_used,
-    clippy::arithmetic_side_effects,
-    clippy::as_conversions,
-    clippy::indexing_slicing
-)]
 
-mod common;
-
-use common::{of, square, Random};
+use super::common::{of, square, Random};
 use polyover::core::answer::OverlayAnswer;
 use polyover::core::fill_rule::FillRule;
 use polyover::core::overlay::{IntOverlayOptions, Overlay};

@@ -1,15 +1,6 @@
 //! Builders, their views, and options that are not had.
-#![allow(missing_docs, dead_code)]
-#![allow(
-    clippy::unwrap_used,
-    clippy::arithmetic_side_effects,
-    clippy::as_conversions,
-    clippy::indexing_slicing
-)]
 
-mod common;
-
-use common::{square, RULES};
+use super::common::{square, RULES};
 use polyover::core::fill_rule::FillRule;
 use polyover::core::hierarchy::ChildLink;
 use polyover::core::overlay::{ContourDirection, IntOverlayOptions, Overlay, ShapeType};

@@ -1,15 +1,6 @@
 //! Edges that carry data, beside contours and beside what lies on what, counted by hand.
-#![allow(missing_docs, dead_code)]
-#![allow(
-    clippy::unwrap_used,
-    clippy::arithmetic_side_effects,
-    clippy::as_conversions,
-    clippy::indexing_slicing
-)]
 
-mod common;
-
-use common::{of, turned, Random, FILLS, RULES};
+use super::common::{of, turned, Random, FILLS, RULES};
 use polyover::core::edge_data::{EdgeDataMerge, OverlayEdgeData};
 use polyover::core::edge_overlay::{EdgeOverlay, InputEdge};
 use polyover::core::fill_rule::FillRule;

@@ -1,11 +1,4 @@
 //! Floats on their grids.
-#![allow(missing_docs)]
-#![allow(
-    clippy::unwrap_used,
-    clippy::arithmetic_side_effects,
-    clippy::as_conversions,
-    clippy::indexing_slicing
-)]
 
 use polyover::core::fill_rule::FillRule;
 use polyover::core::overlay_rule::OverlayRule;

@@ -1,11 +1,4 @@
 //! Edges that carry data: values by hand.
-#![allow(missing_docs)]
-#![allow(
-    clippy::unwrap_used,
-    clippy::arithmetic_side_effects,
-    clippy::as_conversions,
-    clippy::indexing_slicing
-)]
 
 use polyover::core::edge_data::{EdgeDataMerge, OverlayEdgeData};
 use polyover::core::edge_overlay::{EdgeOverlay, InputEdge};

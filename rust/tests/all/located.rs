@@ -1,15 +1,6 @@
 //! Where points lie in contours as they are given: values by hand, at each width.
-#![allow(missing_docs, dead_code)]
-#![allow(
-    clippy::unwrap_used,
-    clippy::arithmetic_side_effects,
-    clippy::as_conversions,
-    clippy::indexing_slicing
-)]
 
-mod common;
-
-use common::square;
+use super::common::{square, FILLS};
 use polyover::core::fill_rule::FillRule;
 use polyover::core::integer::OverlayInt;
 use polyover::core::point_location::PointLocation;
@@ -28,13 +19,7 @@ fn points<I: OverlayInt + From<i8>>(of: &[[i8; 2]]) -> Vec<IntPoint<I>> {
 
 /// A letter for each point, under each fill rule.
 fn told<I: OverlayInt + From<i8>>(shape: &[&[[i8; 2]]], asked: &[[i8; 2]]) -> [String; 4] {
-    let rules = [
-        FillRule::EvenOdd,
-        FillRule::NonZero,
-        FillRule::Positive,
-        FillRule::Negative,
-    ];
-    rules.map(|rule| {
+    FILLS.map(|rule| {
         let shape = ExactShape::new(&contours::<I>(shape), rule).unwrap();
         shape
             .try_locate(&points(asked))

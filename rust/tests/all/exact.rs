@@ -1,15 +1,6 @@
 //! Relations of contours as they are added: values by hand, at each width.
-#![allow(missing_docs, dead_code)]
-#![allow(
-    clippy::unwrap_used,
-    clippy::arithmetic_side_effects,
-    clippy::as_conversions,
-    clippy::indexing_slicing
-)]
 
-mod common;
-
-use common::{of, square, Random};
+use super::common::{of, square, Random, FILLS};
 use polyover::core::exact::{ExactPredicates, IntRelateExact};
 use polyover::core::fill_rule::FillRule;
 use polyover::core::overlay::ShapeType;
@@ -19,18 +10,31 @@ use polyover::float::relate::FloatRelate;
 use polyover::i_float::int::number::int::IntNumber;
 use polyover::i_float::int::point::IntPoint;
 
+/// The names of the relations that hold, in the order of their bits.
+fn named(holds: [bool; 7]) -> Vec<&'static str> {
+    let names = [
+        "intersects",
+        "interiors intersect",
+        "touches",
+        "point",
+        "within",
+        "disjoint",
+        "covers",
+    ];
+    names.into_iter().zip(holds).filter(|it| it.1).map(|it| it.0).collect()
+}
+
 /// The names of the relations that hold.
 fn told(it: Relations) -> Vec<&'static str> {
-    let all = [
-        (it.intersects(), "intersects"),
-        (it.interiors_intersect(), "interiors intersect"),
-        (it.touches(), "touches"),
-        (it.point_intersects(), "point"),
-        (it.within(), "within"),
-        (it.disjoint(), "disjoint"),
-        (it.covers(), "covers"),
-    ];
-    all.into_iter().filter(|it| it.0).map(|it| it.1).collect()
+    named([
+        it.intersects(),
+        it.interiors_intersect(),
+        it.touches(),
+        it.point_intersects(),
+        it.within(),
+        it.disjoint(),
+        it.covers(),
+    ])
 }
 
 fn points<I: IntNumber + From<i8>, const N: usize>(corners: [[i8; 2]; N]) -> [IntPoint<I>; N] {
@@ -42,13 +46,25 @@ fn at_each_rule<I: polyover::core::integer::OverlayInt + From<i8>, const N: usiz
     clip: [[i8; 2]; N],
 ) -> [Vec<&'static str>; 4] {
     let (subject, clip) = (points::<I, N>(subject), points::<I, N>(clip));
-    let rules = [
-        FillRule::EvenOdd,
-        FillRule::NonZero,
-        FillRule::Positive,
-        FillRule::Negative,
-    ];
-    rules.map(|rule| told(ExactPredicates::from_subj_and_clip_custom(&subject, &clip, rule).relations()))
+    FILLS.map(|rule| {
+        let predicates = ExactPredicates::from_subj_and_clip_custom(&subject, &clip, rule);
+        let all = told(predicates.relations());
+        assert_eq!(told_one_by_one(&predicates), all);
+        all
+    })
+}
+
+/// The names of the relations that hold, each asked alone.
+fn told_one_by_one<I: polyover::core::integer::OverlayInt>(it: &ExactPredicates<I>) -> Vec<&'static str> {
+    named([
+        it.intersects(),
+        it.interiors_intersect(),
+        it.touches(),
+        it.point_intersects(),
+        it.within(),
+        it.disjoint(),
+        it.covers(),
+    ])
 }
 
 fn rows<I: polyover::core::integer::OverlayInt + From<i8>>() {
@@ -65,6 +81,12 @@ fn rows<I: polyover::core::integer::OverlayInt + From<i8>>() {
     let meet = ["intersects", "touches", "point"];
     // (each has one lobe that winds once, and one that winds -1 times)
     assert_eq!(told, [&meet[..], &meet, &meet, &meet].map(<[&str]>::to_vec));
+    // (squares with one corner, and with one side; the second runs clockwise)
+    let told = at_each_rule::<I, 4>([[0, 0], [2, 0], [2, 2], [0, 2]], [[2, 2], [4, 2], [4, 4], [2, 4]]);
+    assert_eq!(told, [&meet[..], &meet, &meet, &disjoint].map(<[&str]>::to_vec));
+    let told = at_each_rule::<I, 4>([[0, 0], [2, 0], [2, 2], [0, 2]], [[2, 0], [2, 2], [4, 2], [4, 0]]);
+    let along = ["intersects", "touches"];
+    assert_eq!(told, [&along[..], &along, &disjoint, &disjoint].map(<[&str]>::to_vec));
     // (thin triangles with one border, from (0, 0) to (5, 2): both counterclockwise)
     let told = at_each_rule::<I, 3>([[0, 0], [3, 1], [5, 2]], [[0, 0], [5, 2], [2, 1]]);
     let touch = ["intersects", "touches"];

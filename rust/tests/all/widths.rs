@@ -1,15 +1,6 @@
 //! The calls at three widths, and at the ends of the range.
-#![allow(missing_docs, dead_code)]
-#![allow(
-    clippy::unwrap_used,
-    clippy::arithmetic_side_effects,
-    clippy::as_conversions,
-    clippy::indexing_slicing
-)]
 
-mod common;
-
-use common::{of, square, Random, FILLS, RULES};
+use super::common::{of, square, Random, FILLS, RULES};
 use polyover::core::fill_rule::FillRule;
 use polyover::core::overlay::{IntOverlayOptions, Overlay};
 use polyover::core::overlay_rule::OverlayRule;
