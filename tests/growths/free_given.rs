@@ -8,8 +8,10 @@ use overlay_contacts::settled::settled_relations;
 use overlay_exact::exact_int::ExactInt;
 use overlay_exact::meetings::find_meetings;
 use overlay_geom::fill_rule::FillRule;
+use overlay_given::first::some_first_passes;
 use overlay_given::relations::{find_contacts, interior_relations};
-use overlay_given::uncrossed::are_uncrossed;
+use overlay_given::sides::SideTest;
+use overlay_given::uncrossed::{MeetingKind, meeting_kind};
 use overlay_given::walk::find_sides;
 use overlay_order::count::ShapeCountBoolean;
 use overlay_order::edge::CountedEdge;
@@ -27,7 +29,7 @@ fn counted<I: Width>(ends: [i16; 4], subj: i32, clip: i32) -> CountedEdge<I, Sha
 }
 
 // A square of the subject from (0, 0) to (4, 4), and of the clip from (2, 2) to (6, 6). They cross in (2, 4), (4, 2),
-// so four of their eight edges have two pieces.
+// so four of their eight edges have two pieces. The clip's first edge begins inside the subject.
 fn squares<I: Width>() -> [CountedEdge<I, ShapeCountBoolean>; 8] {
     [
         counted([0, 0, 0, 4], -1, 0),
@@ -61,10 +63,14 @@ fn check_relations<I: Width + ExactInt>(trial: &Trial<'_, impl Abort>) -> Result
         given_relations(memory, &edges, FillRule::NonZero)
     })?;
     assert!(trial.rt; told.intersects && told.interiors_intersect && !told.covers);
-    let uncrossed = trial.refuse_call("overlay_given::are_uncrossed", || {
-        are_uncrossed(memory, &edges)
+    let kind = trial.refuse_call("overlay_given::meeting_kind", || {
+        meeting_kind(memory, &edges)
     })?;
-    assert!(trial.rt; !uncrossed);
+    assert!(trial.rt; kind == MeetingKind::Crossed);
+    let passes = trial.refuse_call("overlay_given::some_first_passes", || {
+        some_first_passes(memory, &edges, FillRule::NonZero, SideTest::BothShapes)
+    })?;
+    assert!(trial.rt; passes);
     Ok(())
 }
 

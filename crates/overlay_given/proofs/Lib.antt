@@ -4,12 +4,15 @@ pub mod BelowWhole
 pub mod Crossings
 pub mod FirstSteps
 pub mod LeftSteps
+pub mod MeetingKinds
 pub mod MoreSides
 pub mod NearTests
+pub mod OneEdge
 pub mod PlacesBy
 pub mod PlacesWalked
 pub mod Ranges
 pub mod RisesTold
+pub mod SettledEdges
 pub mod SharedFound
 pub mod SharedLoops
 pub mod SharedPlaces
@@ -19,6 +22,7 @@ pub mod Sums
 pub mod ToldContacts
 pub mod ToldRelations
 pub mod UncrossedEdges
+pub mod UprightEdges
 pub mod WalkSteps
 pub mod Walked
 pub mod Winds

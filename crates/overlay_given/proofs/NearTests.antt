@@ -1,18 +1,22 @@
 -- Tests of an edge of a list and of those at some places, one after the other.
-use Rattle.std.proofs.Common.{◌≡◌, ⊎_elim, Bool, true, false, ℕ, ◌+◌, ◌<◌, ◌≤◌, ℤ, List, [], ◌∷◌, ◌++◌, Contains}
+use Rattle.std.proofs.Common.{◌≡◌, ⊎_elim, Bool, false, ℕ, ◌+◌, ◌<◌, ◌≤◌, ℤ, List, [], ◌∷◌, ◌++◌, Contains}
 use Rattle.std.proofs.Common.{length, get_or, sym, subst, ◌∙◌, arith}
 use Rattle.std.proofs.lemmas.Bool.{false≢true}
 use Rattle.std.proofs.lemmas.List.{get_or_default, length-map}
 use Rattle.std.proofs.lemmas.List.Elements.{Contains-push_cases}
 use Rattle.overlay_geom.specs.Counts.{Counts}
-use Rattle.overlay_geom.specs.Edges.{CountedEdge}
+use Rattle.overlay_geom.specs.Edges.{CountedEdge, ends_of}
 use Rattle.overlay_order.specs.Content.{plain_edge, plain_edges}
 use Rattle.overlay_order.specs.declared.edge.CountedEdge.{CountedEdge as HeldEdge}
 use Rattle.overlay_pairs.specs.Near.{AreNear}
 use Rattle.overlay_pairs.specs.Places.{IsAt}
 use Rattle.overlay_pairs.proofs.Entries.{one_entry}
 use Rattle.overlay_exact.proofs.MetByStarts.{entry_at}
-use Rattle.overlay_given.specs.Crossing.{PassesAtSome}
+use Rattle.overlay_given.specs.Crossing.{cross, PassesAtSome}
+
+-- the edges cross, as a test of counted edges
+abbrev pub edges_cross : CountedEdge → CountedEdge → Bool
+edges_cross e f = cross (ends_of e) (ends_of f)
 
 -- the edge at place i and those at the places fail the test
 abbrev pub FailsAt : (CountedEdge → CountedEdge → Bool) → List CountedEdge → ℕ → List ℕ → Type 0

@@ -1,10 +1,11 @@
--- Edges that do not cross meet in ends of one of them, or overlap: all their meeting points are whole.
-use Rattle.std.proofs.Common.{◌≡◌, ◌⊎◌, ⊎_elim, inl, inr, true, false, ◌&&◌, ◌||◌, ℕ, ◌<◌, ◌≤◌, ℤ, pos, ◌<ℤ◌, ◌≤ℤ◌}
-use Rattle.std.proofs.Common.{int_lt, List, [], ◌∷◌, ◌++◌, All, Contains, length, sym, ap₂, ◌∙◌, subst, arith}
+-- Edges that do not cross meet in ends of one of them, or overlap: all their meeting points are whole. The edges of a
+-- list that do not cross.
+use Rattle.std.proofs.Common.{◌≡◌, ◌⊎◌, ⊎_elim, inl, inr, true, false, ◌&&◌, ◌||◌, ℕ, ◌<◌, ◌≤◌, ℤ, pos, ◌<ℤ◌}
+use Rattle.std.proofs.Common.{Bool, int_lt, List, All, Contains, length, refl, sym, ap₂, ◌∙◌, subst, arith}
 use Rattle.std.proofs.lemmas.Bool.{false≢true, and_cases, cases_lt}
 use Rattle.std.proofs.lemmas.Bool.Decides.{Decides-and, Decides-or}
 use Rattle.std.proofs.lemmas.Int.{by_lt_z}
-use Rattle.std.proofs.lemmas.List.Elements.{All-contains, Contains-push_cases}
+use Rattle.std.proofs.lemmas.List.Elements.{All-contains}
 use Rattle.std.proofs.Math.Nat.{eq-or-lt_of_le}
 use Rattle.overlay_geom.specs.Edges.{CountedEdge, ends_of}
 use Rattle.overlay_geom.specs.Placed.{IsAlong, IsBeside, IsAcross}
@@ -20,13 +21,17 @@ use Rattle.overlay_plane.proofs.LinesWithin.{only_common_is_end}
 use Rattle.overlay_plane.proofs.Placements.{AreCrossing, by_placement, both_across, beside_have_no_common}
 use Rattle.overlay_plane.proofs.WholeOnEdges.{at_itself, by_end, forward_from_test, side_at}
 use Rattle.overlay_plane.proofs.WholePlaces.{at_moved}
-use Rattle.overlay_order.specs.Content.{IsHeld}
+use Rattle.overlay_order.specs.Content.{IsHeld, IsAscending}
 use Rattle.overlay_pairs.specs.Near.{AreNear}
-use Rattle.overlay_pairs.specs.Places.{IsAt}
-use Rattle.overlay_pairs.specs.Settle.{AreSettled}
+use Rattle.overlay_pairs.specs.Places.{IsAt, AreSettledBefore}
 use Rattle.overlay_pairs.proofs.Entries.{one_entry}
+use Rattle.overlay_pairs.proofs.SettledLists.{starts_no_further_left}
+use Rattle.overlay_exact.proofs.ToldMeetings.{less_at}
 use Rattle.overlay_given.specs.Crossing.{cross, crosses_line}
-use Rattle.overlay_given.specs.Uncrossed.{MeetWhole, MeetWholeBehind}
+use Rattle.overlay_given.specs.Uncrossed.{SomeCross, NoneCross, CrossesNoneBehind, CrossesSomeBehind}
+use Rattle.overlay_given.proofs.NearTests.{FailsAt, edges_cross}
+use Rattle.overlay_given.proofs.SettledEdges.{settled_uncrossed}
+use Rattle.overlay_given.proofs.UprightEdges.{upright_uncrossed}
 
 -- ---- two edges
 
@@ -118,66 +123,71 @@ uncrossed e f e_before f_before test p meeting = by_placement e f along beside a
         (end_on f e both.1 back))
         (and_cases (crosses_line e f) (crosses_line f e) test)
 
--- edges that meet in ends alone do so too
-settled_whole : (e f : CountedEdge) → AreSettled e f → MeetWhole e f
-settled_whole e f settled p meeting = whole_end (ends_of e) p (settled p meeting.common).0
-
 -- an edge does not cross itself
 not_itself : (e : Edge) → cross e e ≡ false
 not_itself e = ap₂ (λ s t. ((int_lt (pos 0) s && int_lt t (pos 0)) || (int_lt s (pos 0) && int_lt (pos 0) t)) &&
     ((int_lt (pos 0) s && int_lt t (pos 0)) || (int_lt s (pos 0) && int_lt (pos 0) t))) (start_on_line e)
     (end_on_line e)
 
+-- where one crosses the other, the other crosses it
+cross_back : (e f : Edge) → cross e f ≡ false → cross f e ≡ false
+cross_back e f test = by (crosses_line e f) (crosses_line f e) test
+  where
+    by : (s t : Bool) → (s && t) ≡ false → (t && s) ≡ false
+    by true true is = is
+    by true false is = refl
+    by false true is = refl
+    by false false is = refl
+
 -- ---- a list
 
--- the edge at place i and those at some places
-abbrev pub MeetWholeWith : List CountedEdge → ℕ → List ℕ → Type 0
-MeetWholeWith es i js = (k : ℕ) (e f : CountedEdge) → Contains js k → IsAt es i e → IsAt es k f → MeetWhole e f
-
 module _ (limit : ℕ) (es : List CountedEdge) (held : All (IsHeld limit) es) where
-  leads : (i : ℕ) (e : CountedEdge) → IsAt es i e → IsBefore e.a e.b
-  leads i e at = forward_from_test (ends_of e) (All-contains (IsHeld limit) es e held (i, at.0, at.1)).forward
+  leads : (e : CountedEdge) → Contains es e → IsBefore e.a e.b
+  leads e at = forward_from_test (ends_of e) (All-contains (IsHeld limit) es e held at).forward
 
-  -- two edges of the list
-  pub uncrossed_at : (i j : ℕ) (e f : CountedEdge) → IsAt es i e → IsAt es j f → cross (ends_of e) (ends_of f) ≡ false →
-      MeetWhole e f
-  uncrossed_at i j e f at_e at_f test = uncrossed (ends_of e) (ends_of f) (leads i e at_e) (leads j f at_f) test
-
-  pub whole_none : (i : ℕ) → MeetWholeWith es i []
-  whole_none i k e f has = absurd (omega (arith, has.1))
-
-  pub whole_more : (i : ℕ) (e : CountedEdge) → IsAt es i e → (js : List ℕ) (j : ℕ) (f : CountedEdge) → IsAt es j f →
-      cross (ends_of e) (ends_of f) ≡ false → MeetWholeWith es i js → MeetWholeWith es i (js ++ j ∷ [])
-  whole_more i e at_e js j f at_f test so_far k g h has at_g at_h = ⊎_elim
-      (λ before. so_far k g h before at_g at_h)
-      (λ (same : j ≡ k). subst (λ (u : CountedEdge). MeetWhole u h) (one_entry es i e g at_e at_g)
-      (subst (MeetWhole e) (one_entry es j f h at_f (subst (λ n. IsAt es n h) (sym same) at_h))
-      (uncrossed_at i j e f at_e at_f test)))
-      (Contains-push_cases js j k has)
-
-  -- others are not near
-  pub whole_with_near : (i : ℕ) (js : List ℕ) → AreNear es i js → MeetWholeWith es i js → MeetWholeBehind es i
-  whole_with_near i js near with_near k e f past at_e at_f = ⊎_elim
-      (λ has. with_near k e f has at_e at_f)
-      (λ settled. settled_whole e f settled)
+  -- others are not near: they meet the edge in ends alone
+  pub none_behind : (i : ℕ) (js : List ℕ) → AreNear es i js → FailsAt edges_cross es i js → CrossesNoneBehind es i
+  none_behind i js near none_at k e f past at_e at_f = ⊎_elim
+      (λ has. none_at k e f has at_e at_f)
+      (λ settled. settled_uncrossed (ends_of e) (ends_of f) (leads e (i, at_e.0, at_e.1)) (leads f (k, at_f.0, at_f.1))
+      settled)
       ((near e at_e).all k f (omega (arith, past)) at_f)
 
+  -- an upright edge crosses none
+  pub none_behind_upright : IsAscending es → (i : ℕ) (u : CountedEdge) → IsAt es i u → u.b.x ≡ u.a.x →
+      CrossesNoneBehind es i
+  none_behind_upright up i u at upright k e f past at_e at_f =
+      upright_uncrossed (ends_of e) (ends_of f) (leads e (i, at_e.0, at_e.1)) (leads f (k, at_f.0, at_f.1))
+      (subst (λ (g : CountedEdge). g.b.x ≡ g.a.x) (one_entry es i u e at at_e) upright)
+      (starts_no_further_left (ends_of e) (ends_of f) (less_at es i e at_e up i k e f past at_e at_f))
+
+  -- the edges before place n meet later edges in ends alone
+  pub none_behind_settled : (n : ℕ) → AreSettledBefore es n → (i : ℕ) → i < n → CrossesNoneBehind es i
+  none_behind_settled n settled i less k e f past at_e at_f =
+      settled_uncrossed (ends_of e) (ends_of f) (leads e (i, at_e.0, at_e.1)) (leads f (k, at_f.0, at_f.1))
+      (settled.meet i less k e f past at_f.0 at_e at_f)
+
   -- any two edges
-  pub whole_all : (n : ℕ) → length es ≡ n → ((i : ℕ) → i < n → MeetWholeBehind es i) → MeetInWholePoints es
-  whole_all n count behind e f p (i, i_in, i_is) (j, j_in, j_is) meeting = ⊎_elim
-      (λ (less : i < j). behind i (omega (arith, count, i_in)) j e f less (i_in, i_is) (j_in, j_is) p meeting)
+  pub none_cross : (n : ℕ) → length es ≡ n → ((i : ℕ) → i < n → CrossesNoneBehind es i) → NoneCross es
+  none_cross n count behind e f (i, i_in, i_is) (j, j_in, j_is) = ⊎_elim
+      (λ (less : i < j). behind i (omega (arith, count, i_in)) j e f less (i_in, i_is) (j_in, j_is))
       (λ (le : j ≤ i). ⊎_elim
-      (λ (same : j ≡ i).
-      let is : e ≡ f = one_entry es i e f (i_in, i_is) (subst (λ k. IsAt es k f) same (j_in, j_is)) in
-      uncrossed_at i i e e (i_in, i_is) (i_in, i_is) (not_itself (ends_of e)) p
-      (subst (λ (g : CountedEdge). IsMeetingPoint (ends_of e) (ends_of g) p) (sym is) meeting))
-      (λ (before : j < i). behind j (omega (arith, count, j_in)) i f e before (j_in, j_is) (i_in, i_is) p
-      (record {
-        common = (meeting.common.1, meeting.common.0);
-        only_or_end = ⊎_elim
-            (λ only. inl (λ q common. only q (common.1, common.0)))
-            (λ end. inr (⊎_elim (λ of_e. inr of_e) (λ of_f. inl of_f) end))
-            meeting.only_or_end;
-      }))
+      (λ (same : j ≡ i). subst (λ (g : CountedEdge). cross (ends_of e) (ends_of g) ≡ false)
+      (one_entry es i e f (i_in, i_is) (subst (λ k. IsAt es k f) same (j_in, j_is))) (not_itself (ends_of e)))
+      (λ (before : j < i). cross_back (ends_of f) (ends_of e)
+      (behind j (omega (arith, count, j_in)) i f e before (j_in, j_is) (i_in, i_is)))
       (eq-or-lt_of_le le))
       (cases_lt i j)
+
+  -- then all meeting points are whole
+  pub whole_uncrossed : NoneCross es → MeetInWholePoints es
+  whole_uncrossed none e f p has_e has_f meeting =
+      uncrossed (ends_of e) (ends_of f) (leads e has_e) (leads f has_f) (none e f has_e has_f) p meeting
+
+  -- and edges that meet in ends alone cross none
+  pub settled_none_cross : AreSettledBefore es (length es) → NoneCross es
+  settled_none_cross settled = none_cross (length es) refl (none_behind_settled (length es) settled)
+
+-- an edge that crosses a later edge
+pub some_cross : (es : List CountedEdge) (i : ℕ) → CrossesSomeBehind es i → SomeCross es
+some_cross es i (k, e, f, less, at_e, at_f, test) = (e, f, (i, at_e.0, at_e.1), (k, at_f.0, at_f.1), test)

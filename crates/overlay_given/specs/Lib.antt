@@ -1,5 +1,6 @@
 pub mod Beside
 pub mod Crossing
+pub mod First
 pub mod Laws
 pub mod Places
 pub mod Relations

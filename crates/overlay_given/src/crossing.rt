@@ -10,11 +10,9 @@ ghost use Rattle.overlay_pairs.specs.Strips.{AreHeldStripsOf};
 ghost use Rattle.overlay_given.specs.Crossing.{cross, crosses_line, are_of_two, cross_of_two, PassesAtSome};
 ghost use Rattle.overlay_given.specs.Relations.{AreContacts};
 
+use crate::one_edge::sides_on;
 use crate::relations::{Contacts, found_in};
-use crate::start::windings_at_start;
-use crate::walk::push_sides;
 use overlay_exact::exact_int::ExactInt;
-use overlay_exact::meetings::find_met_of;
 use overlay_geom::fill_rule::FillRule;
 use overlay_geom::number::{IntNumber, WideIntNumber};
 use overlay_geom::vector::cross_at;
@@ -152,11 +150,7 @@ fn contacts_at<I: ExactInt, C: EdgeCount, A: Allocator + Clone>(
     ensures ok { IfOk result (λ found. IfSome found
         (AreContacts (is_filled rule) (plain_edges I.whole C.counts edges.now))) }
 {
-    let met = find_met_of(alloc.clone()?, edges, i)?;
-    let mut pieces = Vec::new(alloc.clone()?);
-    let mut places = Vec::new(alloc);
-    let start = windings_at_start(edges, &edges[i]);
-    push_sides(&mut pieces, &mut places, edges, i, start, &met, rule)?;
+    let pieces = sides_on(alloc, edges, i, rule)?;
     let told = found_in(&pieces);
     Ok(told.crossing())
 }

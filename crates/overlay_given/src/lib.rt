@@ -4,7 +4,9 @@
 
 pub mod beside;
 mod crossing;
+pub mod first;
 pub mod laws;
+mod one_edge;
 pub mod relations;
 mod shared;
 pub mod sides;

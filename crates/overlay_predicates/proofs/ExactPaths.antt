@@ -51,25 +51,30 @@ module _ (keep : Bool) (paths : List GivenPath) (content : List CountedEdge)
       },
     )
 
+  -- ---- one side within the other
+
+  pub subject_within : PathLiesWithin filled paths Subject Clip ↔ LiesWithin filled content subj_of clip_of
+  subject_within = one_within subj_of clip_of Subject Clip
+      (λ p. (winds keep paths content holds filled p).subj) (λ p. (winds keep paths content holds filled p).clip)
+
+  pub clip_within : PathLiesWithin filled paths Clip Subject ↔ LiesWithin filled content clip_of subj_of
+  clip_within = one_within clip_of subj_of Clip Subject
+      (λ p. (winds keep paths content holds filled p).clip) (λ p. (winds keep paths content holds filled p).subj)
+
 pub contents_tell_of_paths : ContentsTellOfPaths
-contents_tell_of_paths keep paths content holds filled r told =
-    let subj_winds = λ (p : PlanePoint). (winds keep paths content holds filled p).subj in
-    let clip_winds = λ (p : PlanePoint). (winds keep paths content holds filled p).clip in
-    record {
-      intersects = answer_of (PathsMeet filled paths) (ContentsMeet filled content) r.intersects told.intersects
-          (path_meeting keep paths content holds filled);
-      interiors_intersect = answer_of (PathInteriorsIntersect filled paths) (InteriorsIntersect filled content)
-          r.interiors_intersect told.interiors_intersect (interiors keep paths content holds filled);
-      touches = answer_of (PathsTouch filled paths) (ContentsTouch filled content) r.touches told.touches
-          (path_touch keep paths content holds filled);
-      point_intersects = answer_of (PathsMeetInPoints filled paths) (ContentsMeetInPoints filled content)
-          r.point_intersects told.point_intersects (path_points keep paths content holds filled);
-      within = answer_of (PathLiesWithin filled paths Subject Clip) (LiesWithin filled content subj_of clip_of)
-          r.within told.within
-          (one_within keep paths content holds filled subj_of clip_of Subject Clip subj_winds clip_winds);
-      disjoint = answer_of (ArePathsApart filled paths) (AreContentsApart filled content) r.disjoint told.disjoint
-          (path_apart keep paths content holds filled);
-      covers = answer_of (PathLiesWithin filled paths Clip Subject) (LiesWithin filled content clip_of subj_of)
-          r.covers told.covers
-          (one_within keep paths content holds filled clip_of subj_of Clip Subject clip_winds subj_winds);
-    }
+contents_tell_of_paths keep paths content holds filled r told = record {
+  intersects = answer_of (PathsMeet filled paths) (ContentsMeet filled content) r.intersects told.intersects
+      (path_meeting keep paths content holds filled);
+  interiors_intersect = answer_of (PathInteriorsIntersect filled paths) (InteriorsIntersect filled content)
+      r.interiors_intersect told.interiors_intersect (interiors keep paths content holds filled);
+  touches = answer_of (PathsTouch filled paths) (ContentsTouch filled content) r.touches told.touches
+      (path_touch keep paths content holds filled);
+  point_intersects = answer_of (PathsMeetInPoints filled paths) (ContentsMeetInPoints filled content)
+      r.point_intersects told.point_intersects (path_points keep paths content holds filled);
+  within = answer_of (PathLiesWithin filled paths Subject Clip) (LiesWithin filled content subj_of clip_of)
+      r.within told.within (subject_within keep paths content holds filled);
+  disjoint = answer_of (ArePathsApart filled paths) (AreContentsApart filled content) r.disjoint told.disjoint
+      (path_apart keep paths content holds filled);
+  covers = answer_of (PathLiesWithin filled paths Clip Subject) (LiesWithin filled content clip_of subj_of)
+      r.covers told.covers (clip_within keep paths content holds filled);
+}

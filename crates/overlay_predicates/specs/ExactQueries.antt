@@ -1,9 +1,16 @@
 -- What queries of a builder for exact predicates answer: the relations of its content.
-use Rattle.std.specs.Prelude.{◌↔◌, ℤ, Bool, List, Result, IsTrue, IfOk, IsOkUnless}
-use Rattle.overlay_geom.specs.Edges.{CountedEdge, subj_of, clip_of}
+use Rattle.std.specs.Prelude.{◌↔◌, ℤ, Bool, List, Option, Result, IsTrue, IfOk, IsOkUnless, MatchOption}
+use Rattle.overlay_geom.specs.Edges.{CountedEdge, ends_of, subj_of, clip_of}
+use Rattle.overlay_geom.specs.Merged.{IsMerged}
 use Rattle.overlay_geom.specs.Rules.{is_filled}
 use Rattle.overlay_geom.specs.declared.error.OverlayError.{OverlayError}
 use Rattle.overlay_geom.specs.declared.error.OverlayError.TheVariants.{Memory}
+use Rattle.overlay_plane.specs.Balance.{HasBalancedCounts}
+use Rattle.overlay_plane.specs.EdgeLists.{IsForwardBy}
+use Rattle.overlay_scaled.specs.PlainContacts.{passes_at}
+use Rattle.overlay_scaled.specs.PlainPoints.{SomePlain}
+use Rattle.overlay_given.specs.Sides.{passing}
+use Rattle.overlay_given.specs.declared.sides.SideTest.{SideTest}
 use Rattle.overlay_contacts.specs.ExactRelations.{AreExactRelations}
 use Rattle.overlay_predicates.specs.ExactBuilder.{ExactBuilder}
 use Rattle.overlay_relate.specs.Closures.{IsInInterior, ClosuresMeet, ClosuresTouch, ClosuresMeetInPoints}
@@ -39,3 +46,18 @@ TellsRelation relation = TellsOfContent (λ filled es b. IsTrue b ↔ relation f
 -- and a query of all relations tells each of them
 abbrev pub TellsRelations : ExactBuilder → Result Relations OverlayError → Type 0
 TellsRelations = TellsOfContent AreExactRelations
+
+-- ---- early answers
+
+-- the edges to which the content merges have a piece whose sides pass the test
+pub record SomePiecePasses (test : SideTest) (filled : ℤ → Bool) (content : List CountedEdge) : Type 0 where
+  pub merged : List CountedEdge
+  pub merges : IsMerged content merged
+  pub forward : IsForwardBy ends_of merged
+  pub balanced : HasBalancedCounts merged
+  pub some : SomePlain (passes_at (passing test) filled merged) merged
+
+-- either such a piece was seen, or all relations are told
+abbrev pub TellsUnlessEarly : SideTest → ExactBuilder → Result (Option Relations) OverlayError → Type 0
+TellsUnlessEarly test = TellsOfContent (λ filled es told.
+    MatchOption told (SomePiecePasses test filled es) (AreExactRelations filled es))

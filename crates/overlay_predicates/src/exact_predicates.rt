@@ -17,7 +17,8 @@ pub use overlay_geom::options::ShapeType;
 /// other. Nothing is rounded: each answer is that of the contours as they were added. Points on one line with their
 /// two neighbours are dropped from what is added.
 ///
-/// A query changes nothing, and keeps no answer: `relations` tells all predicates in the time of one.
+/// A query changes nothing, and keeps no answer. `relations` tells all predicates. A call of one predicate ends sooner
+/// where a piece of the first edge of a shape tells it.
 #[derive(Drop)]
 pub struct ExactPredicates<I: ExactInt, A: Allocator> {
     /// Which windings fill a shape.

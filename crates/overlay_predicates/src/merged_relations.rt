@@ -11,7 +11,7 @@ ghost use Rattle.overlay_order.specs.Content.{IsAscending};
 ghost use Rattle.overlay_graph.specs.Arranged.{IsArranged};
 ghost use Rattle.overlay_contacts.specs.ExactRelations.{AreExactRelations};
 
-use crate::merged::copy_of;
+use crate::merged::content_of;
 use overlay_arrange::content::Content;
 use overlay_contacts::relations::given_relations;
 use overlay_contacts::settled::settled_relations;
@@ -20,9 +20,8 @@ use overlay_geom::error::OverlayError;
 use overlay_geom::fill_rule::FillRule;
 use overlay_geom::number::IntNumber;
 use overlay_geom::solver::Solver;
-use overlay_given::uncrossed::are_uncrossed;
+use overlay_given::uncrossed::{MeetingKind, meeting_kind};
 use overlay_order::count::ShapeCountBoolean;
-use overlay_pairs::settle::is_settled;
 use overlay_relate::relations::Relations;
 use std::alloc::Allocator;
 
@@ -41,16 +40,16 @@ pub(crate) fn merged_relations<I: ExactInt, A: Allocator + Clone>(
 {
     let alloc = merged.allocator().clone()?;
     let edges = merged.edges();
-    let settled = is_settled(alloc.clone()?, edges)?;
-    if settled {
-        return Ok(settled_relations(merged, rule)?);
-    }
-    let uncrossed = are_uncrossed(alloc.clone()?, edges)?;
-    if uncrossed {
-        let told = unless_heavy(whole_relations(merged, rule))?;
-        if let Some(relations) = told {
-            return Ok(relations);
+    let kind = meeting_kind(alloc.clone()?, edges)?;
+    match kind {
+        MeetingKind::InEnds => return Ok(settled_relations(merged, rule)?),
+        MeetingKind::Uncrossed => {
+            let told = unless_heavy(whole_relations(merged, rule))?;
+            if let Some(relations) = told {
+                return Ok(relations);
+            }
         }
+        MeetingKind::Crossed => {}
     }
     Ok(given_relations(alloc, edges, rule)?)
 }
@@ -87,7 +86,7 @@ fn arranged_copy<I: IntNumber, A: Allocator + Clone>(
 ) -> Result<Content<I, ShapeCountBoolean, A>, OverlayError>
     ensures ok { IfOk result (λ c. IsArranged Snapping (edges_in content.now) (edges_in c)) }
 {
-    let mut copy = copy_of(content)?;
+    let mut copy = content_of(content.allocator().clone()?, content.edges())?;
     copy.arrange(Solver::Snapping, &mut ())?;
     Ok(copy)
 }

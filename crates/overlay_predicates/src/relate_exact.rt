@@ -106,7 +106,8 @@ impl<I: ExactInt, R0: IntShapeResource<I>> IntRelateExact<I> for R0 {
         alloc: A,
         other: &R1,
     ) -> Result<bool, OverlayError> {
-        Ok(self.exact_relations(alloc, other)?.intersects)
+        let predicates = ExactPredicates::from_subj_and_clip(alloc, self, other)?;
+        predicates.intersects()
     }
 
     fn interiors_intersect_exact<R1: IntShapeResource<I>, A: Allocator + Clone>(
@@ -114,7 +115,8 @@ impl<I: ExactInt, R0: IntShapeResource<I>> IntRelateExact<I> for R0 {
         alloc: A,
         other: &R1,
     ) -> Result<bool, OverlayError> {
-        Ok(self.exact_relations(alloc, other)?.interiors_intersect)
+        let predicates = ExactPredicates::from_subj_and_clip(alloc, self, other)?;
+        predicates.interiors_intersect()
     }
 
     fn touches_exact<R1: IntShapeResource<I>, A: Allocator + Clone>(
@@ -122,7 +124,8 @@ impl<I: ExactInt, R0: IntShapeResource<I>> IntRelateExact<I> for R0 {
         alloc: A,
         other: &R1,
     ) -> Result<bool, OverlayError> {
-        Ok(self.exact_relations(alloc, other)?.touches)
+        let predicates = ExactPredicates::from_subj_and_clip(alloc, self, other)?;
+        predicates.touches()
     }
 
     fn point_intersects_exact<R1: IntShapeResource<I>, A: Allocator + Clone>(
@@ -130,7 +133,8 @@ impl<I: ExactInt, R0: IntShapeResource<I>> IntRelateExact<I> for R0 {
         alloc: A,
         other: &R1,
     ) -> Result<bool, OverlayError> {
-        Ok(self.exact_relations(alloc, other)?.point_intersects)
+        let predicates = ExactPredicates::from_subj_and_clip(alloc, self, other)?;
+        predicates.point_intersects()
     }
 
     fn within_exact<R1: IntShapeResource<I>, A: Allocator + Clone>(
@@ -138,7 +142,8 @@ impl<I: ExactInt, R0: IntShapeResource<I>> IntRelateExact<I> for R0 {
         alloc: A,
         other: &R1,
     ) -> Result<bool, OverlayError> {
-        Ok(self.exact_relations(alloc, other)?.within)
+        let predicates = ExactPredicates::from_subj_and_clip(alloc, self, other)?;
+        predicates.within()
     }
 
     fn disjoint_exact<R1: IntShapeResource<I>, A: Allocator + Clone>(
@@ -146,7 +151,8 @@ impl<I: ExactInt, R0: IntShapeResource<I>> IntRelateExact<I> for R0 {
         alloc: A,
         other: &R1,
     ) -> Result<bool, OverlayError> {
-        Ok(self.exact_relations(alloc, other)?.disjoint)
+        let predicates = ExactPredicates::from_subj_and_clip(alloc, self, other)?;
+        predicates.disjoint()
     }
 
     fn covers_exact<R1: IntShapeResource<I>, A: Allocator + Clone>(
@@ -154,6 +160,7 @@ impl<I: ExactInt, R0: IntShapeResource<I>> IntRelateExact<I> for R0 {
         alloc: A,
         other: &R1,
     ) -> Result<bool, OverlayError> {
-        Ok(self.exact_relations(alloc, other)?.covers)
+        let predicates = ExactPredicates::from_subj_and_clip(alloc, self, other)?;
+        predicates.covers()
     }
 }

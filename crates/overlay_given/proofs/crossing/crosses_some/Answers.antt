@@ -1,5 +1,5 @@
 -- A loop over the edges that are not far from the edge: it crosses none of the other shape, or the answer is yes.
-use Rattle.std.proofs.Common.{false, get_or, take, refl, sym, subst, ◌∙◌, arith}
+use Rattle.std.proofs.Common.{get_or, take, refl, sym, subst, ◌∙◌, arith}
 use Rattle.std.proofs.lemmas.List.{take_all, take_more, get_or_default}
 use Rattle.overlay_geom.proofs.Mapped.{All-mapped_at}
 use Rattle.overlay_order.specs.Content.{plain_edge, plain_edges, IsHeld}

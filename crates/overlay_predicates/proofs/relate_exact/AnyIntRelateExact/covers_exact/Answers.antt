@@ -1,0 +1,12 @@
+-- The new builder tells of the paths that were added to it.
+use Rattle.overlay_plane.specs.Predicates.{Covers}
+use Rattle.overlay_predicates.specs.ExactPaths.{PathsCover}
+use Rattle.overlay_predicates.proofs.ExactPaths.{clip_within}
+use Rattle.overlay_predicates.proofs.ToldPaths.{relation_of_two}
+use Rattle.overlay_predicates.proofs.relate_exact.AnyIntRelateExact.covers_exact.Goals as goal
+
+pub returns : goal.returns
+returns g c =
+    let made = c.in_ok-predicates.ensures in
+    relation_of_two PathsCover Covers (clip_within false) _ _ c.in_ok-predicates.predicates
+    c.covers.result made.ok made.made c.covers.ensures
