@@ -35,6 +35,7 @@ mod free_arranged;
 mod free_exact;
 mod free_extracted;
 mod free_given;
+mod free_located;
 mod free_pairs;
 mod limits;
 mod one_call;

@@ -28,5 +28,5 @@ returns-clause-none g c =
     let ended = c.loop-i-test.false in
     let up = c.loop-i.auto.i-end in
     λ is. none_cross g.I.IntNumber.limit es c.requires.held (length c.args.edges.now)
-        (length-map c.args.edges.now plain)
-        (λ k less. c.loop-i.invariant k (omega (arith, less, ended, up)))
+    (length-map c.args.edges.now plain)
+    (λ k less. c.loop-i.invariant k (omega (arith, less, ended, up)))
