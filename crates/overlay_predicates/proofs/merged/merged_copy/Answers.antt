@@ -9,8 +9,8 @@ use Rattle.overlay_arrange.proofs.MergedContent.{IsContent-shuffled}
 use Rattle.overlay_predicates.proofs.OrderedMerges.{merged_of_shuffled}
 use Rattle.overlay_predicates.proofs.merged.merged_copy.Goals as goal
 
-pub content_of-merged-requires : goal.content_of-merged-requires
-content_of-merged-requires g c =
+pub content_of-requires : goal.content_of-requires
+content_of-requires g c =
     subst (λ xs. IsContent g.I.IntNumber.limit (plain_edges g.I.IntNumber.whole boolean_counts xs))
     (sym c.deref.ensures.value)
     (IsContent-shuffled g.I.IntNumber.limit _ _

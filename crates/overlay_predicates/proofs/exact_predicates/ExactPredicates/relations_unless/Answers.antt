@@ -11,8 +11,8 @@ use Rattle.overlay_predicates.specs.ExactQueries.{SomePiecePasses}
 use Rattle.overlay_predicates.proofs.EarlyAnswers.{piece_of}
 use Rattle.overlay_predicates.proofs.exact_predicates.ExactPredicates.relations_unless.Goals as goal
 
-pub some_first_passes-passes-requires-clause-balanced : goal.some_first_passes-passes-requires-clause-balanced
-some_first_passes-passes-requires-clause-balanced g c =
+pub some_first_passes-requires-clause-balanced : goal.some_first_passes-requires-clause-balanced
+some_first_passes-requires-clause-balanced g c =
     subst HasBalancedCounts (sym c.edges.ensures.plain)
     (merging_keeps_balance _ _ c.in_ok-merged.ensures.merged
     (subst (λ xs. HasBalancedCounts (edges_in xs)) (sym c.content-content.ensures.edges) c.self.invariant.balanced))

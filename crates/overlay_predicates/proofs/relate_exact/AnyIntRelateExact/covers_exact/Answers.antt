@@ -1,4 +1,5 @@
 -- The new builder tells of the paths that were added to it.
+use Rattle.std.proofs.Common.{false}
 use Rattle.overlay_plane.specs.Predicates.{Covers}
 use Rattle.overlay_predicates.specs.ExactPaths.{PathsCover}
 use Rattle.overlay_predicates.proofs.ExactPaths.{clip_within}

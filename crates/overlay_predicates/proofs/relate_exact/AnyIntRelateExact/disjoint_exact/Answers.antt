@@ -1,4 +1,5 @@
 -- The new builder tells of the paths that were added to it.
+use Rattle.std.proofs.Common.{false}
 use Rattle.overlay_relate.proofs.PathClosures.{path_apart}
 use Rattle.overlay_predicates.specs.ExactQueries.{AreContentsApart}
 use Rattle.overlay_predicates.specs.ExactPaths.{ArePathsApart}

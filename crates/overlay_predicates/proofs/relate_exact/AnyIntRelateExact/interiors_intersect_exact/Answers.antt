@@ -1,4 +1,5 @@
 -- The new builder tells of the paths that were added to it.
+use Rattle.std.proofs.Common.{false}
 use Rattle.overlay_plane.specs.Predicates.{InteriorsIntersect}
 use Rattle.overlay_relate.specs.PathRelations.{PathInteriorsIntersect}
 use Rattle.overlay_relate.proofs.PathRelations.{interiors}

@@ -1,4 +1,5 @@
 -- The new builder tells of the paths that were added to it.
+use Rattle.std.proofs.Common.{false}
 use Rattle.overlay_plane.specs.Predicates.{IsWithin}
 use Rattle.overlay_predicates.specs.ExactPaths.{ArePathsWithin}
 use Rattle.overlay_predicates.proofs.ExactPaths.{subject_within}
