@@ -14,7 +14,8 @@ settled_relations-requires-clause-settled g c =
 
 pub returns-in-InEnds-clause-ok : goal.returns-in-InEnds-clause-ok
 returns-in-InEnds-clause-ok g c = λ given merged.
-    c.in_ok-settled_relations-in-InEnds.ensures.ok given (merging_keeps_points_off given (edges_in c.args.merged.now) merged)
+    c.in_ok-settled_relations-in-InEnds.ensures.ok given
+    (merging_keeps_points_off given (edges_in c.args.merged.now) merged)
 
 pub whole_relations-requires-clause-whole : goal.whole_relations-requires-clause-whole
 whole_relations-requires-clause-whole g c =
