@@ -63,6 +63,11 @@ def squares(count, low, size):
     return [[(x, y), (x + size, y), (x + size, y + size), (x, y + size)] for x, y in corners]
 
 
+def slanted(shape):
+    """A shape that is turned by 45 degrees, and larger."""
+    return [[(x + y, y - x) for x, y in contour] for contour in shape]
+
+
 def triangles(count, x, seed):
     """Triangles in the cells of a grid of step 4000."""
     random, side = Random(seed), math.isqrt(count // 3) + 1
@@ -87,6 +92,10 @@ FAMILIES = {
     "squares that cross": lambda n: (squares(n, (0, 0), 100), squares(n, (50, 50), 100)),
     "squares that share corners": lambda n: (squares(n, (0, 0), 100), squares(n, (100, 100), 100)),
     "squares that share parts of sides": lambda n: (squares(n, (0, 0), 100), squares(n, (100, 50), 100)),
+    "slanted squares that share parts of sides": lambda n: (
+        slanted(squares(n, (0, 0), 100)),
+        slanted(squares(n, (100, 50), 100)),
+    ),
     "triangles apart": lambda n: (triangles(n, 0, 1), triangles(n, 10**8, 2)),
     "triangles that cross": lambda n: (triangles(n, 0, 1), triangles(n, 1000, 2)),
     "scribbles apart": lambda n: ([scribble(min(n, 500), -FAR)], [scribble(min(n, 500), FAR // 2)]),

@@ -34,6 +34,10 @@ const TOGETHER: usize = 65_536;
 // Least number of points, and of edges, that are asked together.
 const MANY: usize = 64;
 
+// Greatest number of edges for each point that is asked together. Where there are more, points are asked alone in less
+// time, as blocks of edges are passed over.
+const EDGES_A_POINT: usize = 32;
+
 /// Writes where each point lies in the shape with these parts, as a number for each.
 #[tactic(auto, using(crate::proofs::Asking::asked_ends, crate::proofs::Asking::unasked_ends))]
 pub fn locate_exactly<I: OverlayInt, E: EdgeForm<I, ShapeCountBoolean>, B: FormOf<Block<I>>>(
@@ -110,7 +114,7 @@ fn write_locations<I: OverlayInt, E: EdgeForm<I, ShapeCountBoolean>, B: FormOf<B
 }
 
 // Returns what the edges tell of the points whose coordinates begin at the place, where all before were asked; else
-// what is told already. Of few points or edges nothing is told, nor where memory is refused.
+// what is told already. Of few points, or few edges, nothing is told, nor where memory is refused.
 fn told_from<I: OverlayInt, E: EdgeForm<I, ShapeCountBoolean>>(
     alloc: Global,
     told: Vec<Query<I, ShapeCountBoolean>, Global>,
@@ -130,7 +134,8 @@ fn told_from<I: OverlayInt, E: EdgeForm<I, ShapeCountBoolean>>(
     let Some(rest) = points.get(place..) else {
         return Vec::new(alloc);
     };
-    if edges.len() < MANY || rest.len() / 2 < MANY {
+    let count = rest.len() / 2;
+    if edges.len() < MANY || count < MANY || count < edges.len() / EDGES_A_POINT {
         return Vec::new(alloc);
     }
     match told_of_first(alloc, edges, rest) {
