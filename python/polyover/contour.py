@@ -4,7 +4,7 @@ from __future__ import annotations
 
 from itertools import chain
 from operator import mul, ne
-from typing import Any, Sequence
+from typing import Any, NamedTuple, Sequence
 
 from .text import LIMIT
 
@@ -101,3 +101,34 @@ def shifted(contours: Sequence[WholePath], power: int) -> list[WholePath]:
         return [[(x << power, y << power) for x, y in contour] for contour in contours]
     half = 1 << (-power - 1)
     return [[((x + half) >> -power, (y + half) >> -power) for x, y in contour] for contour in contours]
+
+
+class Window(NamedTuple):
+    """Where contours stand that were brought into the range: less a point, and divided by a power of two."""
+
+    x: int = 0
+    y: int = 0
+    power: int = 0
+
+    def back(self, contours: Sequence[WholePath]) -> list[WholePath]:
+        """Contours in the window as they stand without it."""
+        x, y, power = self
+        return [[((across << power) + x, (up << power) + y) for across, up in contour] for contour in contours]
+
+
+def in_range(contours: Sequence[WholePath]) -> tuple[list[WholePath], Window]:
+    """Contours that the calls take, and the window in which they stand. They are divided, and rounded, only where
+    their box is wider than the range."""
+    if not surplus_of(contours):
+        return list(contours), Window()
+    points = list(chain.from_iterable(contours))
+    left, low, right, high = box_of(points)
+    surplus = ((max(right - left, high - low) + 1) // 2).bit_length() - LIMIT.bit_length()
+    # (a bit more, since the ends are rounded)
+    power = surplus + 1 if surplus > 0 else 0
+    # (about the middle, and by whole units from a point: what has no smaller digits loses none)
+    x, y = points[0]
+    x += ((left + right) // 2 - x) >> power << power
+    y += ((low + high) // 2 - y) >> power << power
+    moved = [[(across - x, up - y) for across, up in contour] for contour in contours]
+    return shifted(moved, -power), Window(x, y, power)

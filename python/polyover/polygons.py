@@ -10,7 +10,7 @@ from dataclasses import dataclass
 from typing import Any, Sequence
 
 from . import calls
-from .contour import Row, WholePath, box_of, double_area, is_flat, shifted, surplus_of, visits_once, without_repeats
+from .contour import Row, WholePath, box_of, double_area, in_range, is_flat, surplus_of, visits_once, without_repeats
 from .flat import flat_rows
 from .told import Told, counted
 from .windings import wind_below_0
@@ -81,15 +81,10 @@ def without_flat(rings: Polygon, told: Told) -> Polygon:
 # ---- simple rings
 
 
-def in_range(contours: Sequence[WholePath]) -> tuple[list[WholePath], int]:
-    """Contours that the calls take, and by which power of two they were divided, and rounded."""
-    power = surplus_of(contours)
-    return shifted(contours, -power) if power else list(contours), power
-
-
 def are_resolved(contours: Sequence[WholePath]) -> bool:
     """Whether of each contour steps share points only where these are ends of both."""
-    return calls.is_resolved(in_range(contours)[0])
+    # (each has a window of its own: it is asked by itself)
+    return calls.is_resolved([its for contour in contours for its in in_range([contour])[0]])
 
 
 def are_resolved_rows(rows: Sequence[Row]) -> bool:
@@ -158,8 +153,8 @@ def covered(ring: Ring) -> list[WholePath]:
     """The contours of what a ring winds round."""
     if ring.is_simple:
         return [taken(ring, True)[0]]
-    contours, power = in_range([ring.whole])
-    return shifted([contour for shape in calls.overlay(contours) for contour in shape], power)
+    contours, window = in_range([ring.whole])
+    return window.back([contour for shape in calls.overlay(contours) for contour in shape])
 
 
 def overlaid(rings: Polygon) -> list[WholePath]:
@@ -167,7 +162,7 @@ def overlaid(rings: Polygon) -> list[WholePath]:
     outline, holes = covered(rings[0]), [contour for ring in rings[1:] for contour in covered(ring)]
     if not holes:
         return outline
-    contours, power = in_range([*outline, *holes])
+    contours, window = in_range([*outline, *holes])
     shapes = calls.overlay(contours[: len(outline)], contours[len(outline) :], "difference")
-    return shifted([contour for shape in shapes for contour in shape], power)
+    return window.back([contour for shape in shapes for contour in shape])
 

@@ -169,9 +169,10 @@ def contours_of(thing: object, *, skip_invalid: bool = False) -> list[list[Any]]
     """The contours of all polygons of a geometry, for the fill rule nonzero: with it they fill what any polygon covers.
 
     The points are those given, in one direction or the other; those of polygons that cross themselves, or whose holes
-    overlap or lie outside, are computed. Raises BadInput, which names the place, where it is no geometry of polygons;
-    with `skip_invalid` rings of less than three points are left out, with a warning. What has no area is left out with
-    a warning too. `Scaled.contours_of` does so at its scale."""
+    overlap or lie outside, are computed. (Whether they do is told exactly, but digits below 2^-61 of the width or
+    height of a polygon are rounded for it.) Raises BadInput, which names the place, where it is no geometry of
+    polygons; with `skip_invalid` rings of less than three points are left out, with a warning. What has no area is left
+    out with a warning too. `Scaled.contours_of` does so at its scale."""
     polygons = polygons_in(thing, skip_invalid=skip_invalid)
     values, bottom = over_one_bottom(value for part in polygons.parts for it in part.paths for p in it for value in p)
     numbers = iter(values)

@@ -165,6 +165,21 @@ class Holes(unittest.TestCase):
                 self.assertTrue(scaled.touches(subject, polygon(self.HOLE), fill))
                 self.assertEqual(scaled.locate(subject, [(2, 0), (2, 1), (0, -1)]), ["outside", "boundary", "boundary"])
 
+    def test_far_beyond_the_range(self):
+        # (a hole that lies beside the outline is no part of it, and one that crosses itself winds round two triangles)
+        holes = [(6, 0), (8, 0), (8, 2), (6, 2)], [(1, 1), (3, 3), (3, 1), (1, 3)]
+        for far in (1 << 70, -(1 << 200) + 1):
+            outline, beside, bow = ([(x + far, y - far) for x, y in ring] for ring in (SQUARE, *holes))
+            for others in ([], [[square(0, 0, 1, 1)]]):
+                polygons = {"type": "MultiPolygon", "coordinates": [[outline, beside], *others]}
+                contours, told = silently(polyover.contours_of, polygons)
+                self.assertEqual([sorted(contour) for contour in contours[:1]], [sorted(outline)])
+                self.assertEqual((len(contours), told), (1 + len(others), []))
+                polygons["coordinates"][0] = [outline, bow]
+                contours, told = silently(polyover.contours_of, polygons)
+                self.assertIn("1 ring crosses or overlaps itself", told[0])
+                self.assertEqual(sum(map(double_area, contours[: len(contours) - len(others)])), 2 * (16 - 2))
+
     def test_beside_others(self):
         other = [square(20, 0, 30, 10), square(22, 2, 24, 4)]
         overlapping = [square(0, 0, 10, 10), square(1, 1, 5, 5), square(3, 3, 7, 7)]
