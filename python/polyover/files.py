@@ -5,6 +5,7 @@ from __future__ import annotations
 import json
 import sys
 from contextlib import contextmanager
+from itertools import chain
 from typing import Any, Callable, Iterable, Iterator, Sequence
 
 from . import many, tables, wkb, wkt
@@ -16,7 +17,7 @@ from .geojson import LINES, POINTS, POLYGONS, Feature, Reader, features_in, geom
 from .progress import faults_of
 from .sequences import once, values_in
 from .streams import INPUT, closed, read_all
-from .systems import DEFAULT, DEGREES, code_in, crs_of, system_in
+from .systems import DEFAULT, DEGREES, crs_of, is_same, system_in
 from .told import Told, counted
 
 # members of a collection that an answer has anew
@@ -100,24 +101,22 @@ def drained(things: list[Any]) -> Iterator[Any]:
         yield things.pop()
 
 
-def systems_of(things: Sequence[Any]) -> Iterator[tuple[int, Any]]:
-    """The members crs that features and their geometries have themselves, each with the number of the feature. They
-    lose them."""
-    for number, each in enumerate(things, 1):
-        if isinstance(each, dict):
-            geometry = each.get("geometry")
-            if isinstance(geometry, dict) and "crs" in geometry:
-                yield number, geometry.pop("crs")
-            if "crs" in each:
-                yield number, each.pop("crs")
+def systems_of(thing: Any) -> Iterator[Any]:
+    """The members crs that a feature and its geometry have themselves. They lose them."""
+    if isinstance(thing, dict):
+        geometry = thing.get("geometry")
+        if isinstance(geometry, dict) and "crs" in geometry:
+            yield geometry.pop("crs")
+        if "crs" in thing:
+            yield thing.pop("crs")
 
 
-def add_system(members: dict[str, Any], things: Sequence[Any]) -> None:
-    """Adds the member crs that features state in the place of their collection; two that differ are a fault."""
-    for number, crs in systems_of(things):
+def add_system(members: dict[str, Any], thing: Any, place: str) -> None:
+    """Adds the member crs that a feature states in the place of its collection; one that differs is a fault."""
+    for crs in systems_of(thing):
         stated = members.setdefault("crs", crs)
-        if crs != stated and (code_in(crs) is None or code_in(crs) != code_in(stated)):
-            raise BadInput(f"feature {number}: its member crs is another than that before it: one file has one system")
+        if not is_same(crs, stated):
+            raise BadInput(f"{place}: its member crs is another than that before it: one file has one system")
 
 
 def json_content(name: str) -> Content:
@@ -127,9 +126,28 @@ def json_content(name: str) -> Content:
     is_collection = whole["type"] == "FeatureCollection"
     members = {key: value for key, value in whole.items() if key not in OWN} if is_collection else {}
     features = list(features_in(whole))
-    add_system(members, features)
+    for number, each in enumerate(features, 1):
+        add_system(members, each, f"feature {number}")
     things = ((0, each) for each in drained(features))
     return Content(things, members, system_in(members), is_collection and "bbox" in whole)
+
+
+def with_system(things: Iterator[tuple[int, Any]], members: dict[str, Any]) -> Iterator[tuple[int, Any]]:
+    """The features of a sequence, each with its line, which state the system of the first of them."""
+    stated = {"crs": members.get("crs", crs_of(DEFAULT))}
+    for line, each in things:
+        add_system(stated, each, f"line {line}")
+        yield line, each
+
+
+def sequence_content(name: str) -> Content:
+    """What a sequence has: its system is the one that its first feature states."""
+    things = values_in(lines_in(name))
+    members: dict[str, Any] = {}
+    first = next(things, None)
+    if first:
+        add_system(members, first[1], f"line {first[0]}")
+    return Content(with_system(chain([first] if first else (), things), members), members, system_in(members))
 
 
 def geometries_in(name: str, form: Format) -> Iterator[tuple[int, int, Any]]:
@@ -169,7 +187,7 @@ def content_of(name: str, form: Format) -> Content:
     if form.is_table:
         return tables.content_of(name, form)
     if form in SEQUENCES:
-        return Content(values_in(lines_in(name)), {}, DEFAULT)
+        return sequence_content(name)
     return plain_content(name, form)
 
 

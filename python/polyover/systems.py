@@ -21,6 +21,12 @@ def code_in(crs: Any) -> str | None:
     return f"{found[1].upper()}:{found[2].upper()}" if found else None
 
 
+def is_same(one: Any, other: Any) -> bool:
+    """Whether two members crs state the same system."""
+    codes = {DEFAULT if code == TWIN else code for code in (code_in(one), code_in(other))}
+    return bool(one == other) or len(codes) == 1 and None not in codes
+
+
 def crs_of(code: str) -> dict[str, Any]:
     """The member crs that states a code."""
     place, number = code.split(":")

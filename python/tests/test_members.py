@@ -75,11 +75,16 @@ class Commands(unittest.TestCase):
         self.assertEqual(self.check("clip", AREA, road, [])["crs"], METRES)
         folder = in_folder(self)
         area, roads, out = (folder / name for name in ("area.geojson", "roads.geojsonl", "out.geojsonl"))
-        area.write_text(json.dumps(AREA))
-        roads.write_text("".join(f"{json.dumps(each)}\n" for each in (feature("LineString", [[1, 2], [5, 2]]), road)))
-        said = "polyover: roads.geojsonl: the member 'crs' of 1 geometry is left out (the first: line 2)\n"
-        self.assertEqual(told("clip", area, roads, "--out", out), (0, said))
-        self.assertEqual(len(out.read_text().splitlines()), 2)
+        area.write_text(json.dumps({**AREA, "crs": METRES}))
+        three = road, feature("LineString", [[1, 2], [5, 2]]), road
+        roads.write_text("".join(f"{json.dumps(each)}\n" for each in three))
+        # (of a sequence it is that of its first feature)
+        words = "clip", area, roads, "--out", out
+        what = f"{out.name}: GeoJSONSeq does not hold the system of coordinates EPSG:3857 (the collection)"
+        self.assertEqual(told(*words), (1, f"polyover: {what}; --drop leaves it out, with a warning\n"))
+        self.assertEqual(told(*words, "--drop")[0], 0)
+        self.assertNotIn("crs", out.read_text())
+        self.assertEqual(len(out.read_text().splitlines()), 3)
 
     def test_calls_take_no_more_than_the_region(self):
         area = with_members("Polygon", [square(0, 0, 4, 4)], name="a")

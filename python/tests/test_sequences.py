@@ -165,6 +165,29 @@ class Files(unittest.TestCase):
         roads.write_text(json.dumps(collection(*ROADS, crs=crs)))
         self.assertEqual(self.clipped(roads=roads), (0, ""))
 
+    def test_a_system_that_features_state(self):
+        names = "EPSG:3857", "EPSG:4326", "EPSG:32633"
+        metres, degrees, other = ({"type": "name", "properties": {"name": name}} for name in names)
+        stated = [{**each, "crs": metres} for each in ROADS]
+        answer = self.folder / "out.geojson"
+        self.area.write_text(json.dumps({**AREA, "crs": metres}))
+        for things in (stated, [stated[0], *ROADS[1:]]):
+            self.roads.write_text(lines(things))
+            self.assertEqual(self.clipped(out=answer), (0, ""))
+            left = json.loads(answer.read_text())
+            self.assertEqual((left["crs"], ["crs" in each for each in left["features"]]), (metres, [False] * 3))
+        self.area.write_text(json.dumps({**AREA, "crs": other}))
+        self.assertIn("roads.geojsonl state different systems", self.clipped(out=answer)[1])
+        for things, line in (([*stated[:2], {**ROADS[2], "crs": other}], 3), ([ROADS[0], stated[1]], 2)):
+            self.roads.write_text(lines(things))
+            said = f"polyover: roads.geojsonl: line {line}: its member crs is another than that before it"
+            self.assertIn(said, self.clipped(out=answer)[1])
+        # (longitudes and latitudes, as where nothing is stated)
+        self.roads.write_text(lines([ROADS[0], {**ROADS[3], "crs": degrees}]))
+        self.area.write_text(json.dumps(AREA))
+        self.assertEqual(self.clipped(), (0, ""))
+        self.assertEqual(["crs" in each for each in self.left()], [False, False])
+
     def test_a_disk_that_is_full(self):
         self.out.write_text("before")
         with mock.patch("polyover.leaving.TemporaryFile", side_effect=OSError(28, "No space left on device")):
