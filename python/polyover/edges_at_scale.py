@@ -1,42 +1,22 @@
-"""Edges with the steps on which they lie, and shapes with filled sides, for floats at a scale."""
+"""Edges, also with the steps on which they lie, and shapes with filled sides, for floats at a scale."""
 
 from __future__ import annotations
 
 from typing import Any
 
-from . import traced, vectors
+from . import calls, traced, vectors
 from .errors import BadInput
-from .flat import Flat
-from .geojson import is_geometry
-from .shapes import Paths
+from .regions_at_scale import RegionsAtScale, is_of_geometry
+from .scale import Group
 from .text import SNAPPED, Fill, Rule, Solver
 
-Group = Any
 
+class EdgesAtScale(RegionsAtScale):
+    """Calls whose answers are edges."""
 
-def is_of_geometry(group: Group) -> bool:
-    """Whether what was given for paths is a geometry, and no answer of a call."""
-    return is_geometry(group) and not isinstance(group, (Paths, Flat))
-
-
-class EdgesAtScale:
-    """Methods whose answers are edges, with points of floats."""
-
-    def point(self, whole: Any) -> tuple[float, float]:
-        """The point of floats at a whole one."""
-        raise NotImplementedError
-
-    def area(self, area: Any) -> int:
-        """The smallest area of a contour, as a whole number."""
-        raise NotImplementedError
-
-    def _taken(self, name: str, group: Group) -> Any:
-        """What was given for a group of paths, with whole points."""
-        raise NotImplementedError
-
-    def _both(self, subject: Group, clip: Group, fill: Fill, solver: Solver) -> tuple[Any, Any]:
-        """The contours of two groups."""
-        raise NotImplementedError
+    def edges(self, subject: Group, clip: Group = (), fill: Fill = "nonzero", *, solver: Solver = SNAPPED) -> Any:
+        """As `polyover.edges`; the polygons of a geometry are joined first."""
+        return self.filled(calls.edges(*self.both(subject, clip, fill, solver, True), fill, solver=solver))
 
     def trace(
         self,
@@ -64,7 +44,7 @@ class EdgesAtScale:
         **look: bool,
     ) -> list[Any]:
         """As `polyover.vectors`; the minimum area is in squares of the floats' unit."""
-        both, area = self._both(subject, clip, fill, solver), self.area(minimum_area)
+        both, area = self.both(subject, clip, fill, solver), self.area(minimum_area)
         shapes = vectors.vectors(*both, rule, fill, minimum_area=area, solver=solver, **look)
         return [[[self._placed(step) for step in contour] for contour in shape] for shape in shapes]
 

@@ -7,6 +7,8 @@ from math import lcm
 from operator import index
 from typing import Any, Iterable
 
+from .errors import BadInput
+
 
 def ratio_of(value: Any) -> tuple[int, int]:
     """A finite number as a ratio of whole numbers, the second one above 0. Raises TypeError of a text."""
@@ -21,6 +23,14 @@ def ratio_of(value: Any) -> tuple[int, int]:
         return int(top), int(bottom)
     exact = Fraction(value)
     return int(exact.numerator), int(exact.denominator)
+
+
+def fraction_of(value: Any, what: str) -> Fraction:
+    """A finite number as a fraction."""
+    try:
+        return Fraction(*ratio_of(value))
+    except (TypeError, ValueError, OverflowError):
+        raise BadInput(f"{what} {value!r} is no finite number") from None
 
 
 def over_one_bottom(values: Iterable[Any]) -> tuple[list[int], int]:

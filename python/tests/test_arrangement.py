@@ -69,6 +69,43 @@ class Answers(unittest.TestCase):
         self.assertEqual((len(shapes), links), (2, [(0, 1, 1)]))
 
 
+@with_library
+class AtScale(unittest.TestCase):
+    """Arrangements of floats, by hand."""
+
+    def setUp(self):
+        ask_library_alone(self)
+
+    def test_two_squares(self):
+        one, other = [(0.5, 0), (2.5, 0), (2.5, 2), (0.5, 2)], [(1.5, 1), (3.5, 1), (3.5, 3), (1.5, 3)]
+        common = [[[(1.5, 2), (1.5, 1), (2.5, 1), (2.5, 2)]]]
+        with polyover.Scaled(2, (0.5, 0)).arrangement([one], {"type": "Polygon", "coordinates": [other]}) as both:
+            self.assertEqual(both.overlay("intersect"), common)
+            self.assertEqual(both.overlay("intersect", minimum_area=1), common)
+            self.assertEqual(both.overlay("intersect", minimum_area=1.25), [])
+            self.assertEqual(list(both.overlay("intersect", arrays=True)), common)
+            self.assertEqual(both.hierarchy("intersect"), (common, []))
+            edges = both.edges()
+            self.assertEqual((len(edges), edges[0]), (12, ((0.5, 0), (0.5, 2), 2)))
+            with self.assertRaisesRegex(polyover.BadInput, "the minimum area -1 is not from 0"):
+                both.overlay(minimum_area=-1)
+
+    def test_polygons_that_overlap(self):
+        # (one rectangle, and two edges in it, which have both sides filled)
+        wide = [[[[x, 0], [x + 2, 0], [x + 2, 1], [x, 1], [x, 0]]] for x in (0, 1)]
+        both = polyover.Scaled(1).arrangement({"type": "MultiPolygon", "coordinates": wide})
+        self.assertEqual(both.overlay("subject"), [[[(0, 1), (0, 0), (3, 0), (3, 1)]]])
+        edges = both.edges()
+        self.assertEqual([edge for edge in edges if edge[2] == 3], [((1, 0), (1, 1), 3), ((2, 0), (2, 1), 3)])
+        self.assertEqual(len(edges), 10)
+
+    def test_refused(self):
+        with self.assertRaisesRegex(polyover.BadInput, "clip: contour 1, point 2: .* is no point of two finite numbers"):
+            polyover.Scaled(1).arrangement([SQUARE], [[(0, 0), (float("nan"), 1), (1, 1)]])
+        with self.assertRaisesRegex(polyover.BadInput, "unknown solver 'exact'"):
+            polyover.Scaled(1).arrangement([SQUARE], solver="exact")
+
+
 class Refused(unittest.TestCase):
     """What cannot be asked."""
 

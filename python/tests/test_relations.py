@@ -150,7 +150,7 @@ class AsGiven(unittest.TestCase):
             told.add(tuple(held(expected)))
             for given in (apart, (whole[0], apart[1]), (apart[0], whole[1])):
                 self.assertEqual(scaled.relate(*given, "evenodd"), expected, layers)
-            with mock.patch("polyover.scaled.MANY", 0):
+            with mock.patch("polyover.relations_at_scale.MANY", 0):
                 self.assertEqual(scaled.relate(*whole), expected, layers)
             self.assertEqual({name: getattr(scaled, name)(*apart) for name in RELATIONS}, expected, layers)
         self.assertGreater(len(told), 5)
