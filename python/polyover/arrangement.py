@@ -6,7 +6,7 @@ from typing import Any
 
 from . import by_library, calls
 from .errors import BadInput, LibraryMissing
-from .library import HeldGraph
+from .held import HeldGraph
 from .shapes import Shapes
 from .text import FILLS, RULES, SNAPPED, Fill, Rule, Solver, known
 

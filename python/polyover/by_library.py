@@ -11,9 +11,11 @@ from typing import Any, Callable
 from .errors import LibraryMissing, NotResolved
 from .flat import Flat, FlatShapes, address_of, parted
 from .grid import grid_lines
-from .library import BYTES, COORDINATES, ClipOptions, Contours, EdgeList, Held, HeldExactly, HeldGraph, HeldShape
-from .library import HeldTrace, Library, Options, SliceOptions, Status, check
+from .held import HeldExactly, HeldGraph, HeldShape, HeldTrace
+from .library import Held, Library
 from .library import library as found_library
+from .statuses import Status, check
+from .structs import BYTES, COORDINATES, ClipOptions, Contours, EdgeList, Options, SliceOptions
 from .text import FILLS, RELATION_BITS, RULES, SOLVERS
 
 NAME, BUILT = "library", "polyover_built"

@@ -7,7 +7,7 @@ from typing import Any, Literal, overload
 
 from . import by_library, calls
 from .errors import BadInput, LibraryMissing, PolyoverWarning
-from .library import HeldShape
+from .held import HeldShape
 from .text import AS_GIVEN, FILLS, LOCATIONS, RELATION_SOLVERS, SNAPPED, Fill, RelationSolver, known
 
 MISSING = (

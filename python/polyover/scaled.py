@@ -73,6 +73,6 @@ class Scaled(OverlaysAtScale, RelationsAtScale, EdgesAtScale):
     def arrangement(
         self, subject: Group, clip: Group = (), fill: Fill = "nonzero", *, solver: Solver = SNAPPED
     ) -> Arrangement:
-        """As `polyover.Arrangement`, of the coordinates as they are taken at this scale; a minimum area is in squares of
-        the floats' unit. For its edges the polygons of a geometry are not joined."""
+        """As `polyover.Arrangement`, of the coordinates as they are taken at this scale; a minimum area is in squares
+        of the floats' unit. For its edges the polygons of a geometry are not joined."""
         return ArrangementAtScale(self, subject, clip, fill, solver)

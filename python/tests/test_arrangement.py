@@ -100,7 +100,7 @@ class AtScale(unittest.TestCase):
         self.assertEqual(len(edges), 10)
 
     def test_refused(self):
-        with self.assertRaisesRegex(polyover.BadInput, "clip: contour 1, point 2: .* is no point of two finite numbers"):
+        with self.assertRaisesRegex(polyover.BadInput, "clip: contour 1, point 2: .* is no point of two finite"):
             polyover.Scaled(1).arrangement([SQUARE], [[(0, 0), (float("nan"), 1), (1, 1)]])
         with self.assertRaisesRegex(polyover.BadInput, "unknown solver 'exact'"):
             polyover.Scaled(1).arrangement([SQUARE], solver="exact")

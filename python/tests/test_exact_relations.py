@@ -11,7 +11,7 @@ from collections import Counter
 from ctypes import POINTER, byref, c_uint32
 from itertools import accumulate, chain
 
-from polyover import library
+from polyover import library, statuses, structs
 
 from .exactly import FILLED, relations, turn, windings_beside
 from .there import with_library
@@ -87,15 +87,15 @@ def answered(width, fill, subject, clip):
     functions, told, one = library.library().functions, c_uint32(), c_uint32()
     call, call_of_one = (getattr(functions, f"polyover_relate_{name}{ending}") for name in ("exact", "one_exact"))
     given = [
-        library.Contours(array(kind, chain(*chain(*contours))), array(library.SIZES, accumulate(map(len, contours))))
+        structs.Contours(array(kind, chain(*chain(*contours))), array(structs.SIZES, accumulate(map(len, contours))))
         for contours in (subject, clip)
     ]
-    call.argtypes = (c_uint32, POINTER(library.Contours), POINTER(library.Contours), POINTER(c_uint32))
+    call.argtypes = (c_uint32, POINTER(structs.Contours), POINTER(structs.Contours), POINTER(c_uint32))
     call_of_one.argtypes = (c_uint32, *call.argtypes)
-    library.check(call(list(FILLED).index(fill), *given, byref(told)))
+    statuses.check(call(list(FILLED).index(fill), *given, byref(told)))
     each = {}
     for at, name in enumerate(NAMES):
-        library.check(call_of_one(1 << at, list(FILLED).index(fill), *given, byref(one)))
+        statuses.check(call_of_one(1 << at, list(FILLED).index(fill), *given, byref(one)))
         each[name] = one.value == 1
     return {name: bool(told.value >> at & 1) for at, name in enumerate(NAMES)}, each
 

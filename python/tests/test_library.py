@@ -1,5 +1,6 @@
 """The library for C: what is declared of it, when it is asked, and that it answers as the program does."""
 
+import ctypes
 import os
 import random
 import re
@@ -10,7 +11,7 @@ from fractions import Fraction
 from unittest import mock
 
 import polyover
-from polyover import by_library, by_program, library
+from polyover import by_library, by_program, functions, library, statuses, structs
 from polyover.calls import Look
 from polyover.commands import printed
 from polyover.program import BadLine, answer, program
@@ -34,7 +35,7 @@ class Declared(unittest.TestCase):
         return [int(re.search(rf"\b{prefix}{name.upper()} = (\d+)", HEADER)[1]) for name in names]
 
     def test_numbers(self):
-        self.assertEqual(self.numbers("POLYOVER_", [each.name for each in library.Status]), list(library.Status))
+        self.assertEqual(self.numbers("POLYOVER_", [each.name for each in statuses.Status]), list(statuses.Status))
         self.assertEqual(self.numbers("POLYOVER_", RULES), list(by_library.RULE_NUMBERS.values()))
         self.assertEqual(self.numbers("POLYOVER_", SOLVERS), list(by_library.SOLVER_NUMBERS.values()))
         self.assertEqual(self.numbers("POLYOVER_", RELATIONS), [1, 2, 4, 8, 16, 32, 64])
@@ -48,10 +49,10 @@ class Declared(unittest.TestCase):
             found = re.search(rf"typedef struct \{{([^}}]*)\}} polyover_{name};", HEADER)
             if found:
                 fields = re.findall(r"(\w+);", re.sub(r"/\*.*?\*/", "", found[1], flags=re.S))
-                self.assertEqual(fields, [field for field, _ in getattr(library, here)._fields_], name)
+                self.assertEqual(fields, [field for field, _ in getattr(structs, here)._fields_], name)
 
     def test_arguments(self):
-        for name, kinds in library.FUNCTIONS.items():
+        for name, kinds in functions.FUNCTIONS.items():
             found = re.search(rf"\b{name}\(([^)]*)\);", HEADER)
             if found:
                 told = [] if found[1] == "void" else found[1].split(",")
@@ -62,7 +63,7 @@ class Declared(unittest.TestCase):
 
 def is_pointer(kind):
     """Whether an argument is a pointer."""
-    return kind is library.c_void_p or hasattr(kind, "contents")
+    return kind is ctypes.c_void_p or hasattr(kind, "contents")
 
 
 class Chosen(unittest.TestCase):
@@ -120,9 +121,9 @@ class Asked(unittest.TestCase):
                     by_library.overlay([SQUARE], [points], "union", "nonzero", PLAIN)
 
     def test_statuses(self):
-        for status, fault in library.FAULTS.items():
+        for status, fault in statuses.FAULTS.items():
             with self.assertRaises(fault):
-                library.check(status)
+                statuses.check(status)
         with self.assertRaises(polyover.NotSettled):
             by_library.overlay(UNSETTLED, (), "subject", "nonzero", PLAIN._replace(solver=ROUNDS))
         self.assertEqual(len(by_library.overlay(UNSETTLED, (), "subject", "nonzero", PLAIN)), 1)
