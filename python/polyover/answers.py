@@ -11,10 +11,10 @@ from .content import File
 from .contour import box_of
 from .errors import BadInput, PolyoverWarning
 from .formats import GEOJSON, RECORDS, SEQUENCES, WKT, Format, format_of
-from .geojson import Feature
 from .holding import Holding
 from .interrupts import held
 from .leaving import Answer, leave_lines, parted
+from .parts import Feature
 from .picture import Picture
 from .sequences import RECORD
 from .systems import DEGREES, words_for

@@ -11,7 +11,7 @@ from typing import Any, Callable, Sequence
 from . import calls
 from .contour import WholePath, box_of
 from .errors import BadInput
-from .geojson import POINTS, POLYGONS, Feature, Part
+from .parts import POINTS, POLYGONS, Feature, Part
 from .scaled import Scaled
 from .systems import DEGREES
 from .text import SNAPPED

@@ -8,7 +8,8 @@ from typing import Any, Literal, NamedTuple, overload
 from . import by_library, by_program
 from .errors import BadInput, BadType, LibraryMissing
 from .flat import Flat, FlatFloats, FlatShapes, whole_path
-from .geojson import LISTS, is_geometry, points_of
+from .geojson import is_geometry, points_of
+from .plain import LISTS
 from .shapes import Paths, Shapes
 from .text import FILLS, LOCATIONS, RULES, SNAPPED, SOLVERS, Fill, Rule, Solver, coordinate, items_of, known
 from .told import Told, counted

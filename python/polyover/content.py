@@ -5,7 +5,7 @@ from __future__ import annotations
 from dataclasses import dataclass, field
 from typing import Any, Iterable, NamedTuple
 
-from .geojson import Feature
+from .parts import Feature
 from .told import Told
 
 

@@ -13,8 +13,10 @@ from .antimeridian import watch_over
 from .content import Content, File
 from .errors import BadInput
 from .formats import GEOJSON, SEQUENCES, STANDARD, WKT, Format, format_of
-from .geojson import LINES, POINTS, POLYGONS, Feature, Reader, features_in, geometry_of
+from .geojson import features_in, geometry_of
+from .parts import LINES, POINTS, POLYGONS, Feature
 from .progress import faults_of
+from .reader import Reader
 from .sequences import once, values_in
 from .streams import INPUT, closed, read_all
 from .systems import DEFAULT, DEGREES, crs_of, is_same, system_in

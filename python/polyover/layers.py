@@ -11,8 +11,8 @@ from .answers import feature_of
 from .content import File
 from .contour import Row, points_in, row_of
 from .errors import BadInput
-from .geojson import Feature
 from .nearby import Index, Nearby, Node, Region, box_round, regions_of_contours
+from .parts import Feature
 from .progress import faults_of, long_work
 from .scaled import Scaled
 from .text import Rule

@@ -8,19 +8,9 @@ from typing import Any, Callable, Iterable, Iterator, Sequence
 
 from .contour import points_in
 from .flat import parted
-from .geojson import (
-    LINES,
-    LISTS,
-    POINTS,
-    POLYGONS,
-    Feature,
-    Part,
-    Place,
-    PlainLine,
-    PlainPolygon,
-    Reader,
-    plain_numbers,
-)
+from .parts import LINES, POINTS, POLYGONS, Feature, Part, Place, PlainLine, PlainPolygon
+from .plain import LISTS, plain_numbers
+from .reader import Reader
 
 # (of more the points leave the processor's cache)
 AT_ONCE = 200

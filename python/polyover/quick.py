@@ -16,7 +16,7 @@ from . import calls
 from .columns import whole_row
 from .contour import directed
 from .flat import Flat
-from .geojson import LISTS, NUMBERS, plain_points
+from .plain import LISTS, NUMBERS, plain_points
 from .windings import wind_below_0
 
 LITTLE = sys.byteorder == "little"

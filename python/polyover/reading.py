@@ -11,8 +11,9 @@ from .columns import row_of_numbers, whole_columns
 from .contour import Row, WholePath, directed_rings, extent_of, points_in, row_of
 from .errors import BadInput
 from .flat import parted
-from .geojson import LINES, POLYGONS, Part, PlainLine, PlainPolygon, parts_of
+from .geojson import parts_of
 from .numbers import over_one_bottom
+from .parts import LINES, POLYGONS, Part, PlainLine, PlainPolygon
 from .polygons import Contour, Ring, are_resolved_rows, contours_of_each, has_bad_holes
 from .text import LIMIT
 from .told import Told, counted

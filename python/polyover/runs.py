@@ -15,10 +15,10 @@ from .contour import Row, WholePath
 from .errors import BadInput
 from .flat import Flat, flat_rows
 from .formats import GEOJSON, format_of
-from .geojson import Feature
 from .inputs import picture_of
 from .layers import features_of_both
 from .nearby import LinesNearby, Nearby
+from .parts import Feature
 from .picture import Picture
 from .prepared import Prepared
 from .progress import faults_of, long_work

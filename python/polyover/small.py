@@ -16,8 +16,8 @@ from typing import Any, Sequence
 
 from .columns import Columns, whole_row
 from .flat import parted
-from .geojson import LISTS, NUMBERS
 from .library import Library
+from .plain import LISTS, NUMBERS
 from .quick import ring_of, rings_into
 from .shapes import Paths, Shapes
 

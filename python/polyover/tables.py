@@ -9,10 +9,10 @@ from pathlib import Path
 from tempfile import TemporaryDirectory
 from typing import Any, Iterator, Sequence
 
+from .checks import shown
 from .content import Content, File
 from .errors import BadInput
 from .formats import GEOPACKAGE, SHAPEFILE, Format, layer_in
-from .geojson import shown
 from .holding import NUMBERS, Holding
 from .interrupts import let_in
 from .leaving import is_plain

@@ -7,7 +7,7 @@ from struct import calcsize, pack, unpack_from
 from typing import Any
 
 from .errors import BadInput
-from .geojson import NESTED
+from .parts import NESTED
 from .shapes import points_in_bytes
 from .wkt import has_height
 

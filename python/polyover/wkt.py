@@ -6,7 +6,7 @@ import re
 from typing import Any, Callable, Iterable, Iterator
 
 from .errors import BadInput
-from .geojson import DEPTHS, NESTED
+from .parts import DEPTHS, NESTED
 
 KINDS = {name.upper(): name for name in (*DEPTHS, "GeometryCollection")}
 # (a number ends before a space, a parenthesis or a comma)

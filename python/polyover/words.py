@@ -7,7 +7,7 @@ from typing import Any, Iterator, Sequence
 
 from .content import File
 from .contour import Row
-from .geojson import Feature
+from .parts import Feature
 from .progress import faults_of
 from .reading import Polygons
 from .scaled import Scaled

@@ -8,7 +8,8 @@ import polyover
 from polyover import many, turning
 from polyover.columns import whole_columns
 from polyover.contour import directed_rings
-from polyover.geojson import LINES, POINTS, POLYGONS, Reader
+from polyover.parts import LINES, POINTS, POLYGONS
+from polyover.reader import Reader
 from polyover.scaled import Scaled
 from polyover.told import Told
 

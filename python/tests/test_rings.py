@@ -4,12 +4,8 @@ import unittest
 import warnings
 
 import polyover
+from polyover.contour import double_area
 from polyover.text import FILLS
-
-try:
-    from polyover.contour import double_area
-except ImportError:
-    from polyover.geojson import double_area
 
 from .features import collection, feature, ran, square
 
