@@ -1,7 +1,7 @@
 /** Answers in lists, in typed arrays, or as geometries of GeoJSON. */
 
-import { LOCATIONS } from "./abi.js";
 import { Flat, FlatShapes } from "./flat.js";
+import { LOCATIONS } from "./names.js";
 import { SOURCE } from "./traced.js";
 
 const SIDES = ["subject", "clip"];

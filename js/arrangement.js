@@ -53,7 +53,10 @@ export class Arrangement {
     return { shapes: shapesIn(found, answer), links: linksIn(found.links, answer) };
   }
 
-  /** The edges in order: two points, and the sum of the bits of the filled sides. */
+  /**
+   * The edges in order: two points, and the sum of the bits of the filled sides. No polygons of a geometry are joined
+   * for them.
+   */
   edges(options = {}) {
     const { answer } = chosen(options, ["answer"]);
     return edgesIn(this.#graph().graphEdges(this.#held.at, this.#how), answer ?? this.#how.form);

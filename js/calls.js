@@ -1,6 +1,6 @@
 /** The calls: contours, paths and points in, shapes, paths, edges, relations and locations out. */
 
-import { FILLS, LIMIT, Library, RELATIONS, RULES, SOLVERS } from "./abi.js";
+import { Library } from "./abi.js";
 import { edgesIn, linesIn, linksIn, locationsIn, shapesIn, tracedIn, vectorsIn } from "./answers.js";
 import { Arrangement } from "./arrangement.js";
 import { BadInput } from "./errors.js";
@@ -8,6 +8,7 @@ import { misfit, sideOf } from "./cells.js";
 import { isGeometry, partsOf } from "./geojson.js";
 import { EXACT, alike, askedOf, chosen, chosenAsGiven, chosenOfSteps, grouped } from "./given.js";
 import { listed, pointsOf, relationAt, stepped } from "./given.js";
+import { FILLS, LIMIT, RELATIONS, RULES, SOLVERS } from "./names.js";
 import { Prepared } from "./prepared.js";
 import { shown } from "./shown.js";
 

@@ -1,10 +1,11 @@
 /** What is given to a call: groups of contours, paths or points, and options. */
 
-import { FILLS, LIMIT, LIMIT_32, Misplaced, RELATIONS, RULES, SOLVERS } from "./abi.js";
 import { areaOf } from "./area.js";
 import { BadInput } from "./errors.js";
 import { Flat, checkHeld, isNumbers } from "./flat.js";
 import { isGeometry, partsOf } from "./geojson.js";
+import { Misplaced } from "./memory.js";
+import { FILLS, LIMIT, LIMIT_32, RELATIONS, RULES, SOLVERS } from "./names.js";
 import { checkNames, truth } from "./options.js";
 import { shown } from "./shown.js";
 import { ALL_EDGES } from "./traced.js";

@@ -337,7 +337,7 @@ export class Arrangement<N extends Coordinate, G extends Form> {
   hierarchy<F extends Form = G>(
     options?: ArrangedOptions & AnswerOptions<F>,
   ): { shapes: ShapesAs<N>[F]; links: LinksAs[F] };
-  /** The edges, in order. */
+  /** The edges, in order. No polygons of a geometry are joined for them. */
   edges<F extends Form = G>(options?: AnswerOptions<F>): EdgesAs<N>[F];
   /** Gives its memory back, which else happens some time after nothing refers to it: it is not to be asked any more. */
   free(): void;

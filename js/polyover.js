@@ -11,11 +11,11 @@ import { LibraryMissing } from "./errors.js";
 import { checkNames, truth } from "./options.js";
 import { RemoteArrangement, RemotePolyover, RemotePrepared } from "./remote.js";
 
-export { LOCATIONS } from "./abi.js";
 export { multiLineString, multiPolygon } from "./answers.js";
 export { Arrangement } from "./arrangement.js";
 export * from "./errors.js";
 export { Flat, FlatShapes } from "./flat.js";
+export { LOCATIONS } from "./names.js";
 export { Prepared } from "./prepared.js";
 // (not from "./calls.js" once more: the page in one file holds a module for each time that it is named)
 export { Polyover, RemoteArrangement, RemotePolyover, RemotePrepared };

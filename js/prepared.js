@@ -1,9 +1,9 @@
 /** Shapes that are asked again and again where points lie. */
 
-import { LOCATIONS } from "./abi.js";
 import { locationsIn } from "./answers.js";
 import { BadInput } from "./errors.js";
 import { alike, askedOf, chosen, pointsOf } from "./given.js";
+import { LOCATIONS } from "./names.js";
 
 export const FREED = "the prepared shape was freed";
 const INSIDE = LOCATIONS.indexOf("inside");
