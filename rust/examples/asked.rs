@@ -17,6 +17,10 @@ use polyover::prepared::{ExactShape, PreparedShape};
 use polyover::segm::boolean::ShapeCountBoolean;
 use polyover::string::{clip::ClipRule, overlay::StringOverlay};
 
+#[path = "../tests/all/lists.rs"]
+mod lists;
+use lists::{holding, FILLS, RULES};
+
 type Path = Vec<IntPoint<i64>>;
 
 /// Given steps on which an edge lies, a bit for each: of these those that were cut, and those that run against it.
@@ -41,22 +45,6 @@ impl OverlayEdgeData for Lies {
         Lies([on, cut, on ^ against])
     }
 }
-
-const FILLS: [FillRule; 4] = [
-    FillRule::EvenOdd,
-    FillRule::NonZero,
-    FillRule::Positive,
-    FillRule::Negative,
-];
-const RULES: [OverlayRule; 7] = [
-    OverlayRule::Subject,
-    OverlayRule::Clip,
-    OverlayRule::Intersect,
-    OverlayRule::Union,
-    OverlayRule::Difference,
-    OverlayRule::InverseDifference,
-    OverlayRule::Xor,
-];
 
 /// A request.
 struct Request {
@@ -126,16 +114,7 @@ fn locations(of: &[PointLocation]) -> String {
 }
 
 fn relations(it: Relations) -> String {
-    let holds = [
-        it.intersects(),
-        it.interiors_intersect(),
-        it.touches(),
-        it.point_intersects(),
-        it.within(),
-        it.disjoint(),
-        it.covers(),
-    ];
-    all(&holds, ToString::to_string)
+    all(&holding!(it), ToString::to_string)
 }
 
 /// The steps of paths on both sides, each with a bit of its own.

@@ -1,6 +1,7 @@
 //! Builders, their views, and options that are not had.
 
-use super::common::{square, RULES};
+use super::common::square;
+use super::lists::RULES;
 use polyover::core::fill_rule::FillRule;
 use polyover::core::hierarchy::ChildLink;
 use polyover::core::overlay::{ContourDirection, IntOverlayOptions, Overlay, ShapeType};

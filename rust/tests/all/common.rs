@@ -1,28 +1,9 @@
 //! What several tests use.
 
-use polyover::core::fill_rule::FillRule;
 use polyover::core::integer::OverlayInt;
-use polyover::core::overlay_rule::OverlayRule;
 use polyover::i_float::int::number::int::IntNumber;
 use polyover::i_float::int::point::IntPoint;
 use polyover::vector::edge::{VectorPath, VectorShape};
-
-pub const RULES: [OverlayRule; 7] = [
-    OverlayRule::Subject,
-    OverlayRule::Clip,
-    OverlayRule::Intersect,
-    OverlayRule::Union,
-    OverlayRule::Difference,
-    OverlayRule::InverseDifference,
-    OverlayRule::Xor,
-];
-
-pub const FILLS: [FillRule; 4] = [
-    FillRule::EvenOdd,
-    FillRule::NonZero,
-    FillRule::Positive,
-    FillRule::Negative,
-];
 
 /// Numbers by chance, the same at each run.
 pub struct Random(pub u64);

@@ -1,6 +1,7 @@
 //! Relations of contours as they are added: values by hand, at each width.
 
-use super::common::{of, square, Random, FILLS};
+use super::common::{of, square, Random};
+use super::lists::{holding, FILLS};
 use polyover::core::exact::{ExactPredicates, IntRelateExact};
 use polyover::core::fill_rule::FillRule;
 use polyover::core::overlay::ShapeType;
@@ -26,15 +27,7 @@ fn named(holds: [bool; 7]) -> Vec<&'static str> {
 
 /// The names of the relations that hold.
 fn told(it: Relations) -> Vec<&'static str> {
-    named([
-        it.intersects(),
-        it.interiors_intersect(),
-        it.touches(),
-        it.point_intersects(),
-        it.within(),
-        it.disjoint(),
-        it.covers(),
-    ])
+    named(holding!(it))
 }
 
 fn points<I: IntNumber + From<i8>, const N: usize>(corners: [[i8; 2]; N]) -> [IntPoint<I>; N] {
@@ -56,15 +49,7 @@ fn at_each_rule<I: polyover::core::integer::OverlayInt + From<i8>, const N: usiz
 
 /// The names of the relations that hold, each asked alone.
 fn told_one_by_one<I: polyover::core::integer::OverlayInt>(it: &ExactPredicates<I>) -> Vec<&'static str> {
-    named([
-        it.intersects(),
-        it.interiors_intersect(),
-        it.touches(),
-        it.point_intersects(),
-        it.within(),
-        it.disjoint(),
-        it.covers(),
-    ])
+    named(holding!(it))
 }
 
 fn rows<I: polyover::core::integer::OverlayInt + From<i8>>() {

@@ -1,6 +1,7 @@
 //! Where points lie in contours as they are given: values by hand, at each width.
 
-use super::common::{square, FILLS};
+use super::common::square;
+use super::lists::FILLS;
 use polyover::core::fill_rule::FillRule;
 use polyover::core::integer::OverlayInt;
 use polyover::core::point_location::PointLocation;

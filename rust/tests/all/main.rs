@@ -12,6 +12,7 @@ mod common;
 mod edges;
 mod exact;
 mod floats;
+mod lists;
 mod located;
 mod threads;
 mod traced;

@@ -1,6 +1,7 @@
 //! Edges that carry data, beside contours and beside what lies on what, counted by hand.
 
-use super::common::{of, turned, Random, FILLS, RULES};
+use super::common::{of, turned, Random};
+use super::lists::{FILLS, RULES};
 use polyover::core::edge_data::{EdgeDataMerge, OverlayEdgeData};
 use polyover::core::edge_overlay::{EdgeOverlay, InputEdge};
 use polyover::core::fill_rule::FillRule;

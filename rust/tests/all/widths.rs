@@ -1,6 +1,7 @@
 //! The calls at three widths, and at the ends of the range.
 
-use super::common::{of, square, Random, FILLS, RULES};
+use super::common::{of, square, Random};
+use super::lists::{FILLS, RULES};
 use polyover::core::fill_rule::FillRule;
 use polyover::core::overlay::{IntOverlayOptions, Overlay};
 use polyover::core::overlay_rule::OverlayRule;
