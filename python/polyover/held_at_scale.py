@@ -9,7 +9,7 @@ from .arrangement import Arrangement
 from .prepared import Prepared, solver_of
 from .regions_at_scale import RegionsAtScale, covers
 from .scale import Group
-from .text import AS_GIVEN, FILLS, SNAPPED, Fill, RelationSolver, Rule, Solver, known
+from .text import AS_GIVEN, FILLS, Fill, RelationSolver, Rule, Solver, known
 
 
 class PreparedAtScale(Prepared):

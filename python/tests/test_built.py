@@ -12,7 +12,8 @@ from polyover import library, play
 from polyover.__main__ import main
 
 from .inputs import ROOT
-from .there import ask_library_alone, ask_program_alone, asked_alone, library_path, with_library, with_program
+from .there import ask_library_alone, ask_program_alone, asked_alone, library_path, older_library
+from .there import with_library, with_program
 
 WORDS = {"proved": "a proved library", "unproved": "an unproved library"}
 # what a module or a page may not say of a library of either kind
@@ -59,8 +60,7 @@ class Built(unittest.TestCase):
     @with_library
     def test_an_older_library(self):
         ask_library_alone(self)
-        asked = library.library()
-        with mock.patch.object(asked, "names", asked.names - {"polyover_built"}):
+        with older_library("polyover_built"):
             self.assertEqual(polyover.built(), "unknown")
             self.assertIn("over a library that does not tell whether it is proved\n", version())
 

@@ -8,16 +8,14 @@ import random
 import unittest
 import warnings
 from collections import Counter
-from unittest import mock
 
 import polyover
-from polyover import library
 
 from .exactly import FILLED, location
 from .features import collection, feature, ran
 from .rows import SQUARE, UNSETTLED
 from .test_exact_relations import made_move, made_shapes
-from .there import ask_library_alone, asked_alone, with_library
+from .there import ask_library_alone, asked_alone, older_library, with_library
 
 COUNT = int(os.environ.get("POLYOVER_MADE", "300"))
 LIMIT = 2**62 - 1
@@ -129,8 +127,7 @@ class Others(unittest.TestCase):
     @with_library
     def test_an_older_library(self):
         ask_library_alone(self)
-        names = library.library().names - {"polyover_prepare_exact"}
-        with mock.patch.object(library.library(), "names", names):
+        with older_library("polyover_prepare_exact"):
             for owner in (polyover.Prepared, polyover.Scaled(1).prepared):
                 with self.assertWarnsRegex(polyover.PolyoverWarning, "the library is older") as caught:
                     self.assertEqual(owner(SLIVER).locate([(3, 1)]), [ON])

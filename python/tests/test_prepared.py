@@ -13,7 +13,7 @@ from polyover import library
 from polyover.text import FILLS, RELATION_SOLVERS
 
 from .rows import FRAME, HALL, NESTED, OTHER, SQUARE, UNSETTLED
-from .there import ask_library_alone, asked_alone, with_library
+from .there import ask_library_alone, asked_alone, older_library, with_library
 
 try:
     import numpy
@@ -229,8 +229,7 @@ class Refused(unittest.TestCase):
     @with_library
     def test_an_older_library(self):
         ask_library_alone(self)
-        names = library.library().names - {"polyover_prepare", "polyover_prepare_exact"}
-        with mock.patch.object(library.library(), "names", names):
+        with older_library("polyover_prepare", "polyover_prepare_exact"):
             with self.assertRaisesRegex(polyover.LibraryMissing, "no library that has prepared shapes"):
                 polyover.Prepared([SQUARE])
 

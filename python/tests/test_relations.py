@@ -13,7 +13,7 @@ from polyover.text import RELATIONS
 
 from .features import collection, feature, ran
 from .made_polygons import GRID, expected, made_pair
-from .there import ask_library_alone, ask_program_alone, with_library, with_program
+from .there import ask_library_alone, ask_program_alone, older_library, with_library, with_program
 
 try:
     from shapely.geometry import Polygon
@@ -101,10 +101,8 @@ class AsGiven(unittest.TestCase):
             self.assertTrue(polyover.Scaled(1).covers(layer, layer) and not polyover.Scaled(1).touches(layer, layer))
 
     def test_a_library_without_the_call_is_asked_for_all(self):
-        asked = library()
-        patches = mock.patch.object(asked, "names", asked.names - {"polyover_relate_one_exact"}), mock.patch.object(
-            asked, "has_frames", False)
-        with patches[0], patches[1]:
+        no_frames = mock.patch.object(library(), "has_frames", False)
+        with older_library("polyover_relate_one_exact"), no_frames:
             for subject, clip, fill, names in BY_HAND:
                 for owner in (polyover, polyover.Scaled(1)):
                     one_by_one = [name for name in RELATIONS if getattr(owner, name)([subject], [clip], fill)]

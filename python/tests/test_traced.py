@@ -10,7 +10,7 @@ from polyover import library
 from polyover.text import SOLVERS
 
 from .rows import OTHER, SQUARE, UNSETTLED
-from .there import ask_library_alone, asked_alone, with_library
+from .there import ask_library_alone, asked_alone, older_library, with_library
 
 LIMIT = 4611686018427387903
 
@@ -141,7 +141,7 @@ class Refused(unittest.TestCase):
     @with_library
     def test_an_older_library(self):
         ask_library_alone(self)
-        with mock.patch.object(library.library(), "names", library.library().names - {"polyover_trace"}):
+        with older_library("polyover_trace"):
             with self.assertRaisesRegex(polyover.LibraryMissing, "no library that traces edges"):
                 polyover.trace([SQUARE])
 

@@ -1,15 +1,13 @@
 """Shapes with the filled sides of each step: answers by hand, and what is refused."""
 
 import unittest
-from unittest import mock
 
 import polyover
-from polyover import library
 from polyover.contour import double_area
 from polyover.text import SOLVERS
 
 from .rows import FRAME, OTHER, SQUARE, UNSETTLED
-from .there import ask_library_alone, asked_alone, with_library
+from .there import ask_library_alone, asked_alone, older_library, with_library
 
 LIMIT = 4611686018427387903
 
@@ -119,7 +117,7 @@ class Refused(unittest.TestCase):
     @with_library
     def test_an_older_library(self):
         ask_library_alone(self)
-        with mock.patch.object(library.library(), "names", library.library().names - {"polyover_vectors_result"}):
+        with older_library("polyover_vectors_result"):
             with self.assertRaisesRegex(polyover.LibraryMissing, "no library that tells filled sides"):
                 polyover.vectors([SQUARE])
 

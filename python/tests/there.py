@@ -41,3 +41,9 @@ def library_path():
 def ask_library_alone(test):
     """For one test there is no program."""
     asked_alone(test, POLYOVER_LIBRARY=library_path(), POLYOVER_PROGRAM="/nowhere/polyover")
+
+
+def older_library(*missing):
+    """For a block the library is an older one, which lacks these functions."""
+    found = library.library()
+    return mock.patch.object(found, "names", found.names - set(missing))
