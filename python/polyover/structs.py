@@ -51,7 +51,18 @@ class ClipOptions(Structure):
 # ---- what is given
 
 
-class Contours(Structure):
+class Given(Structure):
+    """Coordinates, and what goes with them, in two arrays."""
+
+    def __init__(self, numbers: Any, others: Any) -> None:
+        # (the fields hold no more than addresses: the arrays have to stay as long)
+        coordinates, kept = address_of(numbers)
+        places, also_kept = address_of(others)
+        self.kept = kept, also_kept
+        super().__init__(coordinates, len(numbers), places, len(others))
+
+
+class Contours(Given):
     """Contours, or open paths."""
 
     _fields_ = [
@@ -62,15 +73,11 @@ class Contours(Structure):
     ]
 
     def __init__(self, numbers: Any, ends: Any) -> None:
-        # (the fields hold no more than addresses: the arrays have to stay as long)
         self.numbers, self.ends_of_each = numbers, ends
-        coordinates, kept = address_of(numbers)
-        places, also_kept = address_of(ends)
-        self.kept = kept, also_kept
-        super().__init__(coordinates, len(numbers), places, len(ends))
+        super().__init__(numbers, ends)
 
 
-class EdgeList(Structure):
+class EdgeList(Given):
     """Edges, each of the subject or of the clip."""
 
     _fields_ = [
@@ -79,13 +86,6 @@ class EdgeList(Structure):
         ("sides", c_void_p),
         ("side_count", c_size_t),
     ]
-
-    def __init__(self, numbers: Any, sides: Any) -> None:
-        # (the fields hold no more than addresses: the arrays have to stay as long)
-        coordinates, kept = address_of(numbers)
-        places, also_kept = address_of(sides)
-        self.kept = kept, also_kept
-        super().__init__(coordinates, len(numbers), places, len(sides))
 
 
 # ---- what is answered
