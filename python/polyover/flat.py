@@ -15,9 +15,15 @@ from .text import coordinate
 WHOLE, FLOATS, COUNTS = ("q", "l"), ("d",), ("Q", "L", "N", "q", "l", "n")
 
 
+def is_masked(thing: Any) -> bool:
+    """Whether an array of NumPy's hides some of its numbers, which its buffer shows."""
+    mask = getattr(thing, "mask", None)
+    return hasattr(mask, "any") and bool(mask.any())  # type: ignore[union-attr]
+
+
 def buffer_of(thing: Any) -> memoryview | None:
-    """The buffer of a thing that has one, without a gap; none of lists and others."""
-    if isinstance(thing, (list, tuple)):
+    """The buffer of a thing that has one, without a gap; none of lists, masked arrays and others."""
+    if isinstance(thing, (list, tuple)) or is_masked(thing):
         return None
     try:
         found = memoryview(thing)
@@ -35,15 +41,24 @@ def whole_path(thing: Any) -> memoryview | None:
 
 
 def row_of(points: memoryview) -> memoryview:
-    """An array of points as one row; a buffer without an item can't be cast."""
+    """An array of points as one row."""
     return points.cast("B").cast("q") if points.nbytes else memoryview(array("q"))
 
 
 def checked_buffer(what: str, thing: Any, formats: tuple[str, ...]) -> memoryview:
-    """The buffer of an array of numbers of 64 bits, as one row."""
+    """The buffer of an array of numbers of 64 bits, as one row: of counts, or of points, two numbers each."""
+    if is_masked(thing):
+        raise BadInput(f"{what}: some numbers are masked")
     found = buffer_of(thing)
     if found is None or found.format not in formats or found.itemsize != 8:
         raise BadInput(f"{what}: no array of {'float64' if formats == FLOATS else 'int64'}, C-contiguous")
+    shape = found.shape or ()
+    if len(shape) != 1 and (formats is COUNTS or len(shape) != 2 or shape[1] != 2):
+        of_points = "" if formats is COUNTS else " or (n, 2)"
+        raise BadInput(f"{what}: an array of shape {shape} in the place of (n,){of_points}")
+    if not found.nbytes:
+        # (a buffer without an item can't be cast)
+        return memoryview(array(formats[0]))
     return found if found.ndim == 1 else found.cast("B").cast(formats[0])
 
 
@@ -57,7 +72,8 @@ def address_of(items: Any) -> tuple[int, Any]:
     if isinstance(items, bytearray) or not items.readonly:
         return addressof(c_char.from_buffer(items)), items
     found = getattr(items.obj, "__array_interface__", None)
-    if found:
+    # (of a part the array tells where the whole is)
+    if found and memoryview(items.obj).nbytes == items.nbytes:
         return int(found["data"][0]), items
     kept = bytearray(items.cast("B"))
     return addressof(c_char.from_buffer(kept)), kept

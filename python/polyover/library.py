@@ -159,6 +159,8 @@ class Contours(Structure):
         coordinates, kept = address_of(numbers)
         places, also_kept = address_of(ends)
         self.kept = kept, also_kept
+        # (a copy stays as it is where the arrays change)
+        self.is_copied = kept is not numbers or also_kept is not ends
         super().__init__(coordinates, len(numbers), places, len(ends))
 
 
@@ -328,16 +330,16 @@ class Library:
         """An array of coordinates, which are whole numbers."""
         try:
             return array(COORDINATES, pack(f"{len(given)}q", *given))
-        except StructError:
+        except (StructError, TypeError):
             # (of bad ones this names the first)
             return array(COORDINATES, map(coordinate, given))
 
     def contours(self, paths: Any) -> Contours:
         """Contours, or open paths, as the library takes them: arrays without a copy, where all is in one."""
         if isinstance(paths, Flat):
-            if paths.passed is None:
-                paths.passed = Contours(paths.numbers, paths.counts)
-            return paths.passed  # type: ignore[no-any-return]
+            passed: Contours = paths.passed or Contours(paths.numbers, paths.counts)
+            paths.passed = None if passed.is_copied else passed
+            return passed
         buffers = [None if isinstance(path, (list, tuple)) else whole_path(path) for path in paths]
         if any(found is not None for found in buffers):
             return self.joined(paths, buffers)

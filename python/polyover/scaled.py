@@ -28,6 +28,8 @@ from .text import AS_GIVEN, FILLS, RELATION_BITS, SNAPPED, Fill, RelationSolver,
 from .told import Told
 
 COLLECTIONS = ("FeatureCollection", "GeometryCollection")
+# (floats have fewer: scales beyond take all memory)
+MOST_DIGITS = 1000
 # (how many polygons of a geometry are asked together, for their relations)
 MANY = 16
 # (ties go to the even number)
@@ -129,11 +131,14 @@ class Scaled(RulesAtScale, EdgesAtScale):
 
     @classmethod
     def of_digits(cls, digits: int, origin: Sequence[Any] = (0, 0)) -> Scaled:
-        """Returns the scale with `digits` digits behind the decimal point, a whole number."""
+        """Returns the scale with `digits` digits behind the decimal point, a whole number from -1000 to 1000."""
         try:
-            return cls(Fraction(10) ** index(digits), origin)
+            power = index(digits)
         except TypeError:
             raise BadInput(f"{digits!r} is no whole number of digits") from None
+        if abs(power) > MOST_DIGITS:
+            raise BadInput(f"{digits} digits: at most {MOST_DIGITS}, and from -{MOST_DIGITS} on")
+        return cls(Fraction(10) ** power, origin)
 
     @property
     def lost(self) -> float:
@@ -443,7 +448,10 @@ class Scaled(RulesAtScale, EdgesAtScale):
 
     def sides(self, width: Any, height: Any) -> WholePoint:
         """The whole width and height of a cell."""
-        found = Scaled(self.scale).whole_point((width, height))
+        try:
+            found = Scaled(self.scale).whole_point((width, height))
+        except BadInput:
+            raise BadInput(f"cells of {width!r} by {height!r}: no two finite numbers") from None
         if min(found) < 1:
             raise BadInput(f"cells of {width} by {height} do not fit: at least a unit of the scale wide and high")
         return found
