@@ -193,6 +193,8 @@ class placed:  # pylint: disable=invalid-name
     def __exit__(self, kind: type[BaseException] | None, *_: object) -> None:
         if kind is not None and issubclass(kind, BadInput):
             for name, paths in self.groups.items():
+                if isinstance(paths, Flat):
+                    paths.check_ends(f"{name}: ends")
                 for number, path in enumerate(paths, 1):
                     check_coordinates(name, number, path)
 

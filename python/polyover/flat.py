@@ -113,9 +113,13 @@ class Flat:
         self.numbers = checked_buffer("coordinates", coordinates, self.formats)
         whole_ends = array("q", map(coordinate, ends)) if isinstance(ends, (list, tuple)) else ends
         self.counts = checked_buffer("ends", whole_ends, COUNTS)
+        self.check_ends("ends")
+
+    def check_ends(self, place: str) -> None:
+        """That the ends rise to the number of points. (The arrays may be changed later.)"""
         counts = [0, *self.counts.tolist()]
         if counts != sorted(counts) or len(self.numbers) != 2 * counts[-1]:
-            raise BadInput("ends: they do not rise from 0 to the number of points")
+            raise BadInput(f"{place}: they do not rise from 0 to the number of points")
 
     @classmethod
     def answered(cls, numbers: memoryview, counts: memoryview) -> Flat:

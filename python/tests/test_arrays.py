@@ -121,6 +121,9 @@ class Arrays(unittest.TestCase):
                 asked(given)
         with self.assertRaisesRegex(polyover.BadInput, "shape: contour 1, point 2: 4611686018427387904 is out of"):
             polyover.tiles(given, 1, 1)
+        given.counts[0] = 5
+        with self.assertRaisesRegex(polyover.BadInput, "^clip: ends: they do not rise from 0 to the number of points"):
+            polyover.overlay([SQUARE], given)
 
     def test_copies_of_arrays_that_change(self):
         # (the library can't be told where these are: they are copied)
