@@ -178,10 +178,15 @@ class FlatFloats(Flat):
 
 
 class FlatShapes:
-    """Shapes in arrays: their contours, as `Flat`, and how many contours there are up to the end of each shape."""
+    """Shapes in arrays: their contours, as `Flat`, and how many contours there are up to the end of each shape.
+
+    Raises BadInput where the ends are no array of counts, or do not rise to the number of contours."""
 
     def __init__(self, contours: Flat, shape_ends: Any) -> None:
         self.contours, self.shape_ends = contours, checked_buffer("shape ends", shape_ends, COUNTS)
+        counts = [0, *self.shape_ends.tolist()]
+        if counts != sorted(counts) or counts[-1] != len(contours):
+            raise BadInput("shape ends: they do not rise from 0 to the number of contours")
 
     @classmethod
     def answered(cls, contours: Flat, shape_ends: memoryview) -> FlatShapes:

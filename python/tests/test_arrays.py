@@ -144,6 +144,11 @@ class Arrays(unittest.TestCase):
         for coordinates, ends in wrong:
             with self.assertRaises(polyover.BadInput):
                 polyover.Flat(coordinates, ends)
+        contours = flat([SQUARE, OTHER])
+        self.assertEqual(list(polyover.FlatShapes(contours, array("Q", [1, 2]))), [[SQUARE], [OTHER]])
+        for ends in ([], [1], [3], [2, 1], [2, 1, 2]):
+            with self.assertRaisesRegex(polyover.BadInput, "^shape ends: they do not rise from 0 to the number of con"):
+                polyover.FlatShapes(contours, array("Q", ends))
 
     @unittest.skipIf(numpy is None, "no python3 here has NumPy (Debian's python3-numpy)")
     def test_numpy(self):
