@@ -2,7 +2,7 @@
 
 import { areaOf } from "./area.js";
 import { BadInput } from "./errors.js";
-import { Flat, checkHeld, isNumbers } from "./flat.js";
+import { Flat, checkEnds, checkHeld, isNumbers } from "./flat.js";
 import { isGeometry, partsOf } from "./geojson.js";
 import { Misplaced } from "./memory.js";
 import { FILLS, LIMIT, LIMIT_32, RELATIONS, RULES, SOLVERS } from "./names.js";
@@ -149,7 +149,8 @@ export function listed(name, paths) {
   try {
     return { name, form: "lists", numbers: listedNumbers(name, all, count), ends };
   } catch (fault) {
-    throw fault instanceof Misplaced ? placed(fault, [{ name, numbers: [], ends }]) : fault;
+    // (numbers beside a BigInt are asked as BigInts)
+    throw fault instanceof Misplaced ? placed(fault, [{ name, numbers: new BigInt64Array(0), ends }]) : fault;
   }
 }
 
@@ -227,6 +228,10 @@ export function askedOf(groups, grid, form, answered) {
     return answered({ groups: alike(groups, kind, grid), kind, grid }, form ?? groups[0].form);
   } catch (fault) {
     const found = fault instanceof Misplaced ? fault : fault instanceof BadInput ? outOfRange(groups) : undefined;
+    if (fault instanceof BadInput && !found) {
+      // (arrays may have changed since they were made a `Flat`)
+      groups.forEach(({ name, ends, numbers }) => checkEnds(`${name}: ends`, ends, numbers.length / 2, "points"));
+    }
     throw found ? placed(found, groups, grid) : fault;
   }
 }
@@ -262,7 +267,8 @@ function wrongOf(value, numbers, grid) {
     return `${value} at this scale is out of range: at most ${LIMIT} from 0`;
   }
   if (typeof value === "number" && !Number.isInteger(value)) {
-    return `${value} is no whole number: scaled() takes floats`;
+    const isBeside = numbers instanceof BigInt64Array;
+    return `${value} is no whole number: ${isBeside ? "beside a BigInt all are" : "scaled() takes floats"}`;
   }
   if (numbers instanceof Int32Array) {
     return `${value} is out of range: at most ${LIMIT_32} from 0 in an Int32Array`;

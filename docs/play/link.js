@@ -71,6 +71,8 @@ export function drawingOfHash(/** @type {string} */ hash) {
   if (!names.length) return null;
   const unknown = names.find((name) => !NAMES.includes(name));
   if (unknown !== undefined) throw new BadText(`${unknown} is no part of a drawing`);
+  const twice = names.find((name, at) => !KINDS.includes(/** @type {any} */ (name)) && names.indexOf(name) < at);
+  if (twice !== undefined) throw new BadText(`${twice} comes twice`);
   const run = words.get("run");
   if (run === null) throw new BadText("it has no command: it may be cut short");
   const lines = KINDS.flatMap((kind) => words.getAll(kind).map((numbers) => `${kind} ${numbers}`));

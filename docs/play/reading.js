@@ -191,5 +191,6 @@ function keptIn(/** @type {any} */ member) {
   if (typeof member !== "object" || member === null || !isNumber(member.digits)) return null;
   const digits = floatOf(member.digits);
   if (!Number.isInteger(digits) || digits < 0 || digits > 15) return null;
+  if (typeof member.run !== "string") throw new BadText(`polyover: run: ${shown(member.run)} is no command`);
   return { digits, run: member.run, solver: member.solver, fill: member.fill };
 }

@@ -3,6 +3,7 @@
 import assert from "node:assert/strict";
 import { test } from "node:test";
 
+import { drawingOfHash } from "../../docs/play/link.js";
 import { mended } from "../../docs/play/mended.js";
 import { twiceIn } from "../../docs/play/once.js";
 import { readGeojson } from "../../docs/play/reading.js";
@@ -50,6 +51,29 @@ test("the page refuses GeoJSON whose members come twice, by their names", () => 
   ]) {
     const said = `the member "${name}" comes twice in one object`;
     assert.throws(() => readGeojson(text), (fault) => fault instanceof BadText && fault.message === said);
+  }
+});
+
+test("the page refuses links whose question comes twice", () => {
+  const [figures, run] = ["subject=0+0+4+0+4+4&subject=1+1+2+1+2+2", "run=overlay+Union+NonZero"];
+  assert.equal(drawingOfHash(`#${figures}&${run}&solver=rounds&digits=2`).figures.subject.length, 2);
+  for (const [hash, name] of [
+    [`${figures}&${run}&run=overlay+Xor+NonZero`, "run"],
+    [`${figures}&${run}&solver=rounds&solver=snapped`, "solver"],
+    [`digits=1&${figures}&${run}&digits=2`, "digits"],
+    [`point=1+1&run=locate&fill=nonzero&fill=positive`, "fill"],
+  ]) {
+    const said = `${name} comes twice`;
+    assert.throws(() => drawingOfHash(`#${hash}`), (fault) => fault instanceof BadText && fault.message === said);
+  }
+});
+
+test("the page names a question in a file that is none", () => {
+  const file = (run) => `{"type": "FeatureCollection", "polyover": {"digits": 2${run}}, "features": []}`;
+  assert.equal(readGeojson(file(', "run": "overlay Union NonZero"')).digits, 2);
+  for (const [run, shown] of [["", "nothing"], [', "run": 3', "3"], [', "run": ["relate"]', '["relate"]']]) {
+    const said = `polyover: run: ${shown} is no command`;
+    assert.throws(() => readGeojson(file(run)), (fault) => fault instanceof BadText && fault.message === said);
   }
 });
 

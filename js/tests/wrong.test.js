@@ -47,6 +47,10 @@ test("what is no point", () => {
 
 test("what is no whole number in the range", () => {
   refused(() => polyover.overlay(withPoint([0.5, 1])), "contour 2, point 3: 0.5 is no whole number: scaled()");
+  for (const calls of [polyover, polyover.scaled(10)]) {
+    refused(() => calls.overlay([[[0, 0], [1n, 2], [0.5, 1]]]), "point 3: 0.5 is no whole number: beside a BigInt all");
+    refused(() => calls.overlay([[[0.5, 0], [1n, 2], [0, 1]]]), "point 1: 0.5 is no whole number: beside a BigInt all");
+  }
   for (const value of [NaN, Infinity, -Infinity]) {
     refused(() => polyover.overlay(withPoint([1, value])), `contour 2, point 3: ${value} is no finite number`);
     refused(() => polyover.scaled(10).overlay(withPoint([1, value])), `point 3: ${value} is no finite number`);
@@ -60,6 +64,15 @@ test("what is no whole number in the range", () => {
   refused(() => polyover.scaled(2 ** 62).overlay(withPoint([1, 1])), "4 at this scale is out of range");
   const most = 2n ** 62n - 1n;
   assert.equal(polyover.overlay([[[-most, -most], [most, -most], [most, most], [-most, most]]]).length, 1);
+});
+
+test("arrays that do not fit any more", () => {
+  const [coordinates, ends] = [new Int32Array([0, 0, 4, 0, 4, 4, 0, 4]), new Uint32Array([2, 4])];
+  const flat = new Flat(coordinates, ends);
+  ends[0] = 9;
+  refused(() => polyover.overlay([SQUARE], flat), "clip: ends: 4 is below the one before it");
+  ends.set([1, 3]);
+  refused(() => polyover.scaled(10).simplify(flat), "subject: ends: they rise to 3, and there are 4 points");
 });
 
 test("arrays that are out of range, or do not fit", () => {

@@ -123,7 +123,8 @@ def are_pairs(points: Any) -> bool:
     kinds = set(map(type, points))
     if kinds <= LISTS:
         return set(map(len, points)) <= {2}
-    if any(issubclass(kind, UNFIT) for kind in kinds):
+    # (what can be gone over once alone is made a point first)
+    if any(issubclass(kind, UNFIT) or not hasattr(kind, "__len__") for kind in kinds):
         return False
     try:
         for _, _ in points:
@@ -193,6 +194,8 @@ class placed:  # pylint: disable=invalid-name
     def __exit__(self, kind: type[BaseException] | None, *_: object) -> None:
         if kind is not None and issubclass(kind, BadInput):
             for name, paths in self.groups.items():
+                if isinstance(paths, Flat):
+                    paths.check_ends(f"{name}: ends")
                 for number, path in enumerate(paths, 1):
                     check_coordinates(name, number, path)
 
@@ -339,9 +342,17 @@ def tiles(
     """Returns the shapes into which the cells of a grid cut a shape, each in one cell. A node of the grid is at (0, 0).
     With `arrays` they are `FlatShapes`."""
     fill, solver, shape = known(FILLS, fill, "fill rule"), solver_of(solver), listed("shape", shape)
-    sides = coordinate(width), coordinate(height)
+    sides = side("width", width), side("height", height)
     with placed(shape=shape):
         return shapes_of("tiles", arrays, shape, *sides, fill, solver)
+
+
+def side(name: str, value: Any) -> int:
+    """The width or the height of a cell."""
+    try:
+        return coordinate(value)
+    except BadInput as fault:
+        raise BadInput(f"the {name} of cells: {fault}") from None
 
 
 def is_resolved(shape: Any) -> bool:

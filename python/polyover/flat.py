@@ -15,9 +15,15 @@ from .text import coordinate
 WHOLE, FLOATS, COUNTS = ("q", "l"), ("d",), ("Q", "L", "N", "q", "l", "n")
 
 
+def is_masked(thing: Any) -> bool:
+    """Whether an array of NumPy's hides some of its numbers, which its buffer shows."""
+    mask = getattr(thing, "mask", None)
+    return hasattr(mask, "any") and bool(mask.any())  # type: ignore[union-attr]
+
+
 def buffer_of(thing: Any) -> memoryview | None:
-    """The buffer of a thing that has one, without a gap; none of lists and others."""
-    if isinstance(thing, (list, tuple)):
+    """The buffer of a thing that has one, without a gap; none of lists, masked arrays and others."""
+    if isinstance(thing, (list, tuple)) or is_masked(thing):
         return None
     try:
         found = memoryview(thing)
@@ -35,15 +41,24 @@ def whole_path(thing: Any) -> memoryview | None:
 
 
 def row_of(points: memoryview) -> memoryview:
-    """An array of points as one row; a buffer without an item can't be cast."""
+    """An array of points as one row."""
     return points.cast("B").cast("q") if points.nbytes else memoryview(array("q"))
 
 
 def checked_buffer(what: str, thing: Any, formats: tuple[str, ...]) -> memoryview:
-    """The buffer of an array of numbers of 64 bits, as one row."""
+    """The buffer of an array of numbers of 64 bits, as one row: of counts, or of points, two numbers each."""
+    if is_masked(thing):
+        raise BadInput(f"{what}: some numbers are masked")
     found = buffer_of(thing)
     if found is None or found.format not in formats or found.itemsize != 8:
         raise BadInput(f"{what}: no array of {'float64' if formats == FLOATS else 'int64'}, C-contiguous")
+    shape = found.shape or ()
+    if len(shape) != 1 and (formats is COUNTS or len(shape) != 2 or shape[1] != 2):
+        of_points = "" if formats is COUNTS else " or (n, 2)"
+        raise BadInput(f"{what}: an array of shape {shape} in the place of (n,){of_points}")
+    if not found.nbytes:
+        # (a buffer without an item can't be cast)
+        return memoryview(array(formats[0]))
     return found if found.ndim == 1 else found.cast("B").cast(formats[0])
 
 
@@ -57,7 +72,8 @@ def address_of(items: Any) -> tuple[int, Any]:
     if isinstance(items, bytearray) or not items.readonly:
         return addressof(c_char.from_buffer(items)), items
     found = getattr(items.obj, "__array_interface__", None)
-    if found:
+    # (of a part the array tells where the whole is)
+    if found and memoryview(items.obj).nbytes == items.nbytes:
         return int(found["data"][0]), items
     kept = bytearray(items.cast("B"))
     return addressof(c_char.from_buffer(kept)), kept
@@ -97,9 +113,13 @@ class Flat:
         self.numbers = checked_buffer("coordinates", coordinates, self.formats)
         whole_ends = array("q", map(coordinate, ends)) if isinstance(ends, (list, tuple)) else ends
         self.counts = checked_buffer("ends", whole_ends, COUNTS)
+        self.check_ends("ends")
+
+    def check_ends(self, place: str) -> None:
+        """That the ends rise to the number of points. (The arrays may be changed later.)"""
         counts = [0, *self.counts.tolist()]
         if counts != sorted(counts) or len(self.numbers) != 2 * counts[-1]:
-            raise BadInput("ends: they do not rise from 0 to the number of points")
+            raise BadInput(f"{place}: they do not rise from 0 to the number of points")
 
     @classmethod
     def answered(cls, numbers: memoryview, counts: memoryview) -> Flat:
@@ -158,10 +178,15 @@ class FlatFloats(Flat):
 
 
 class FlatShapes:
-    """Shapes in arrays: their contours, as `Flat`, and how many contours there are up to the end of each shape."""
+    """Shapes in arrays: their contours, as `Flat`, and how many contours there are up to the end of each shape.
+
+    Raises BadInput where the ends are no array of counts, or do not rise to the number of contours."""
 
     def __init__(self, contours: Flat, shape_ends: Any) -> None:
         self.contours, self.shape_ends = contours, checked_buffer("shape ends", shape_ends, COUNTS)
+        counts = [0, *self.shape_ends.tolist()]
+        if counts != sorted(counts) or counts[-1] != len(contours):
+            raise BadInput("shape ends: they do not rise from 0 to the number of contours")
 
     @classmethod
     def answered(cls, contours: Flat, shape_ends: memoryview) -> FlatShapes:

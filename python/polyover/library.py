@@ -112,16 +112,16 @@ class Library:
         """An array of coordinates, which are whole numbers."""
         try:
             return array(COORDINATES, pack(f"{len(given)}q", *given))
-        except StructError:
+        except (StructError, TypeError):
             # (of bad ones this names the first)
             return array(COORDINATES, map(coordinate, given))
 
     def contours(self, paths: Any) -> Contours:
         """Contours, or open paths, as the library takes them: arrays without a copy, where all is in one."""
         if isinstance(paths, Flat):
-            if paths.passed is None:
-                paths.passed = Contours(paths.numbers, paths.counts)
-            return paths.passed  # type: ignore[no-any-return]
+            passed: Contours = paths.passed or Contours(paths.numbers, paths.counts)
+            paths.passed = None if passed.is_copied else passed
+            return passed
         buffers = [None if isinstance(path, (list, tuple)) else whole_path(path) for path in paths]
         if any(found is not None for found in buffers):
             return self.joined(paths, buffers)

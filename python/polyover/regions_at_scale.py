@@ -73,7 +73,10 @@ class RegionsAtScale(Scale):
 
     def sides(self, width: Any, height: Any) -> WholePoint:
         """The whole width and height of a cell."""
-        found = Scale(self.scale).whole_point((width, height))
+        try:
+            found = Scale(self.scale).whole_point((width, height))
+        except BadInput:
+            raise BadInput(f"cells of {width!r} by {height!r}: no two finite numbers") from None
         if min(found) < 1:
             raise BadInput(f"cells of {width} by {height} do not fit: at least a unit of the scale wide and high")
         return found

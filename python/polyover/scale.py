@@ -22,6 +22,8 @@ from .text import items_of
 
 # what is given for a list of contours or of paths: such a list, or a geometry
 Group = Any
+# (floats have fewer: scales beyond take all memory)
+MOST_DIGITS = 1000
 S = TypeVar("S", bound="Scale")
 
 
@@ -56,11 +58,14 @@ class Scale:
 
     @classmethod
     def of_digits(cls: type[S], digits: int, origin: Sequence[Any] = (0, 0)) -> S:
-        """Returns the scale with `digits` digits behind the decimal point, a whole number."""
+        """Returns the scale with `digits` digits behind the decimal point, a whole number from -1000 to 1000."""
         try:
-            return cls(Fraction(10) ** index(digits), origin)
+            power = index(digits)
         except TypeError:
             raise BadInput(f"{digits!r} is no whole number of digits") from None
+        if abs(power) > MOST_DIGITS:
+            raise BadInput(f"{digits} digits: at most {MOST_DIGITS}, and from -{MOST_DIGITS} on")
+        return cls(Fraction(10) ** power, origin)
 
     @property
     def lost(self) -> float:

@@ -75,6 +75,8 @@ class Contours(Given):
     def __init__(self, numbers: Any, ends: Any) -> None:
         self.numbers, self.ends_of_each = numbers, ends
         super().__init__(numbers, ends)
+        # (a copy stays as it is where the arrays change)
+        self.is_copied = self.kept[0] is not numbers or self.kept[1] is not ends
 
 
 class EdgeList(Given):

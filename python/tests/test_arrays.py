@@ -121,6 +121,17 @@ class Arrays(unittest.TestCase):
                 asked(given)
         with self.assertRaisesRegex(polyover.BadInput, "shape: contour 1, point 2: 4611686018427387904 is out of"):
             polyover.tiles(given, 1, 1)
+        given.counts[0] = 5
+        with self.assertRaisesRegex(polyover.BadInput, "^clip: ends: they do not rise from 0 to the number of points"):
+            polyover.overlay([SQUARE], given)
+
+    def test_copies_of_arrays_that_change(self):
+        # (the library can't be told where these are: they are copied)
+        numbers = array("q", [9, 9, 0, 0, 4, 0, 4, 4, 0, 4])
+        given = polyover.Flat(memoryview(numbers).toreadonly()[2:], [4])
+        self.assertEqual(polyover.simplify(given), [[SQUARE]])
+        numbers[4] = numbers[6] = 8
+        self.assertEqual(polyover.simplify(given), [[[(0, 0), (8, 0), (8, 4), (0, 4)]]])
 
     def test_faults(self):
         far = array("q", [0, 0, 2**62, 0, 1, 1])
@@ -133,6 +144,11 @@ class Arrays(unittest.TestCase):
         for coordinates, ends in wrong:
             with self.assertRaises(polyover.BadInput):
                 polyover.Flat(coordinates, ends)
+        contours = flat([SQUARE, OTHER])
+        self.assertEqual(list(polyover.FlatShapes(contours, array("Q", [1, 2]))), [[SQUARE], [OTHER]])
+        for ends in ([], [1], [3], [2, 1], [2, 1, 2]):
+            with self.assertRaisesRegex(polyover.BadInput, "^shape ends: they do not rise from 0 to the number of con"):
+                polyover.FlatShapes(contours, array("Q", ends))
 
     @unittest.skipIf(numpy is None, "no python3 here has NumPy (Debian's python3-numpy)")
     def test_numpy(self):
@@ -154,6 +170,39 @@ class Arrays(unittest.TestCase):
         self.assertEqual(points.tolist(), [list(point) for shape in expected for contour in shape for point in contour])
         for other in (arrays[0][::2], arrays[0].astype("int32"), arrays[0].T.copy().T):
             self.assertEqual(polyover.overlay([other]), polyover.overlay([other.tolist()]))
+
+    @unittest.skipIf(numpy is None, "no python3 here has NumPy (Debian's python3-numpy)")
+    def test_parts_of_frozen_arrays(self):
+        numbers, ends = numpy.array([9, 9, 0, 0, 4, 0, 4, 4, 0, 4]), numpy.array([1, 4])
+        for frozen in (numbers, ends):
+            frozen.flags.writeable = False
+        part = memoryview(numbers)[2:]
+        for given in (polyover.Flat(part, memoryview(ends)[1:]), [part.cast("B").cast("q", (4, 2))]):
+            self.assertEqual(polyover.simplify(given), [[SQUARE]])
+
+    @unittest.skipIf(numpy is None, "no python3 here has NumPy (Debian's python3-numpy)")
+    def test_masked_numbers(self):
+        square = numpy.ma.array(SQUARE, mask=[(False, False), (True, False), (False, False), (False, False)])
+        for owner, told in ((polyover, "None is no whole number"), (polyover.Scaled(1), "is no point of two finite")):
+            for many in (1, 100):
+                with self.assertRaisesRegex(polyover.BadInput, f"^subject: contour 1, point 2: .*{told}"):
+                    owner.overlay([numpy.ma.concatenate([square] * many)])
+        for made, given in ((polyover.Flat, square), (polyover.FlatFloats, square.astype(float))):
+            with self.assertRaisesRegex(polyover.BadInput, "^coordinates: some numbers are masked$"):
+                made(given, [4])
+        self.assertEqual(polyover.simplify([numpy.ma.array(SQUARE)]), [[SQUARE]])
+        self.assertEqual(polyover.simplify(polyover.Flat(numpy.ma.array(SQUARE), [4])), [[SQUARE]])
+
+    @unittest.skipIf(numpy is None, "no python3 here has NumPy (Debian's python3-numpy)")
+    def test_other_shapes(self):
+        # (x-coordinates, and then y-coordinates, are no points)
+        for made, kind in ((polyover.Flat, "int64"), (polyover.FlatFloats, "float64")):
+            for shape in ((2, 4), (4, 1, 2), (1, 4, 2), ()):
+                with self.assertRaisesRegex(polyover.BadInput, "^coordinates: an array of shape .* in the place of"):
+                    made(numpy.zeros(shape, kind), [4])
+            with self.assertRaisesRegex(polyover.BadInput, "^ends: an array of shape .* in the place of"):
+                made(numpy.zeros((4, 2), kind), numpy.full((1, 1), 4))
+            self.assertEqual(list(made(numpy.zeros((0, 2), kind), [0])), [[]])
 
 
 @with_library

@@ -54,11 +54,16 @@ class ScaledFloats(unittest.TestCase):
         for width, height in ((0.04, 1), (1, 0), (1, -3)):
             with self.assertRaisesRegex(polyover.BadInput, f"cells of {width} by {height} do not fit: at least a unit"):
                 polyover.Scaled(10).tiles([[(0, 0), (1, 0), (1, 1)]], width, height)
+        with self.assertRaisesRegex(polyover.BadInput, "^cells of nan by '2': no two finite numbers$"):
+            polyover.Scaled(10).tiles([[(0, 0), (1, 0), (1, 1)]], float("nan"), "2")
 
     def test_digits_and_origins(self):
         self.assertEqual(polyover.Scaled.of_digits(-1).scale, Fraction(1, 10))
         for digits in (2.5, "3", None):
             with self.assertRaisesRegex(polyover.BadInput, "is no whole number of digits"):
+                polyover.Scaled.of_digits(digits)
+        for digits in (1001, -1001, 2**60):
+            with self.assertRaisesRegex(polyover.BadInput, f"^{digits} digits: at most 1000, and from -1000 on$"):
                 polyover.Scaled.of_digits(digits)
         for origin in (None, 3, (0, 0, 0), (1,)):
             with self.assertRaisesRegex(polyover.BadInput, "is no point of two numbers"):

@@ -45,6 +45,12 @@ class Wrong(unittest.TestCase):
             with self.assertRaises((TypeError, ValueError)):
                 polyover.overlay([contour])
 
+    def test_points_that_are_gone_over_once(self):
+        for owner in (polyover, polyover.Scaled(1)):
+            self.assertEqual(owner.simplify([[iter(point) for point in SQUARE]]), [[SQUARE]])
+            with self.assertRaisesRegex(polyover.BadInput, "^shape: contour 1, point 4: .* is no point of two members"):
+                owner.is_resolved([[*map(iter, SQUARE[:3]), iter([0])]])
+
     def test_types_without_an_order_or_without_numbers(self):
         # (each has two members: the point (0, 4), or its digits)
         for point in ({0, 4}, frozenset({0, 4}), {0: 1, 4: 1}, b"\x00\x04", bytearray(b"\x00\x04"), "04"):
@@ -89,7 +95,7 @@ class Wrong(unittest.TestCase):
             polyover.tiles([[(0, 0), (1002, 0), (0, 1)]], 1, 1)
         with self.assertRaisesRegex(polyover.BadInput, "no whole number"):
             polyover.tiles([SQUARE], 0.5, 1)
-        with self.assertRaisesRegex(polyover.BadInput, "out of range"):
+        with self.assertRaisesRegex(polyover.BadInput, "^the height of cells: 4611686018427387904 is out of range"):
             polyover.tiles([SQUARE], 1, LIMIT + 1)
         with self.assertRaisesRegex(polyover.BadInput, "unknown fill rule"):
             polyover.tiles([SQUARE], 1, 1, "odd")
