@@ -1,9 +1,8 @@
 -- A further block begins where the one before ends.
-use Rattle.std.proofs.Common.{⊎_elim, ◌≡◌, ◌+◌, ◌*◌, ◌<◌, length, sym, subst, arith}
-use Rattle.std.proofs.lemmas.List.{length-append, length-map}
+use Rattle.std.proofs.Common.{length, sym, subst}
+use Rattle.std.proofs.lemmas.List.{length-map}
 use Rattle.overlay_order.specs.Content.{plain_edge, plain_edges}
-use Rattle.overlay_given.specs.Heights.{LieInBlocks}
-use Rattle.overlay_given.proofs.HeightBlocks.{blocks_more, AreBlocksTo, blocks_none, blocks_further, all_blocks}
+use Rattle.overlay_given.proofs.HeightBlocks.{AreBlocksTo, blocks_none, blocks_further, all_blocks}
 use Rattle.overlay_given.proofs.heights.block_heights.Goals as goal
 
 pub loop-at-init : goal.loop-at-init

@@ -1,5 +1,5 @@
 -- The heights of the block do not overlap with the edge's, or the edges of the block are tested one by one.
-use Rattle.std.proofs.Common.{◌≡◌, ◌<◌, ◌≤◌, ◌/◌, length, sym, subst, ◌∙◌, arith}
+use Rattle.std.proofs.Common.{◌/◌, sym, subst, ◌∙◌, arith}
 use Rattle.std.proofs.lemmas.List.{length-map}
 use Rattle.std.proofs.Math.Nat.{div-add-mod}
 use Rattle.overlay_geom.specs.Edges.{ends_of}
