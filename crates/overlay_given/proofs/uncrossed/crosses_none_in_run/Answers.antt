@@ -1,4 +1,5 @@
--- A further block without an edge that is crossed. The loop ends at an edge that starts no further left than this edge's right end.
+-- A further block without an edge that is crossed. The loop ends at an edge that starts no further left than the right
+-- end of the edge at place i.
 use Rattle.std.proofs.Common.{◌≡◌, false, ◌≤ℤ◌, int_lt, sym, subst, arith}
 use Rattle.std.proofs.lemmas.List.{length-map}
 use Rattle.overlay_geom.proofs.Mapped.{All-mapped_at}
