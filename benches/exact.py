@@ -81,6 +81,24 @@ def scribble(count, x):
     return [(random.randrange(FAR // 2) + x, random.randrange(FAR)) for _ in range(count)]
 
 
+def bars(count):
+    """Slanted bars that lie over one another apart, in random order, and two triangles that share a part of a side.
+
+    Some 60 edges start over each bar. Each second bar is the clip's.
+    """
+    random, most = Random(count), max(2, count // 2)
+    rows, step = list(range(most)), FAR // most
+    random.shuffle(rows)
+    found = [], []
+    for at, row in enumerate(rows):
+        x, y, wide = random.randrange(FAR), row * step, FAR * 30 // (30 + most)
+        ends = [(x, y), (x + wide, y + step // 3)]
+        found[at % 2].append(ends + [(u, v + step // 3) for u, v in reversed(ends)])
+    found[0].append([(-100, -100), (0, 0), (-100, 50)])
+    found[1].append([(-80, -80), (0, -80), (-20, -20)])
+    return found
+
+
 FAMILIES = {
     "stars apart": lambda n: ([star(n, -FAR, FAR // 3, FAR // 2)], [star(n, FAR // 2, FAR // 3, FAR // 2)]),
     "a star in a star": lambda n: ([star(n, 0, FAR // 6, FAR // 4)], [star(n, 0, FAR // 2, FAR)]),
@@ -96,6 +114,7 @@ FAMILIES = {
         slanted(squares(n, (0, 0), 100)),
         slanted(squares(n, (100, 50), 100)),
     ),
+    "bars, and a shared side": bars,
     "triangles apart": lambda n: (triangles(n, 0, 1), triangles(n, 10**8, 2)),
     "triangles that cross": lambda n: (triangles(n, 0, 1), triangles(n, 1000, 2)),
     "scribbles apart": lambda n: ([scribble(min(n, 500), -FAR)], [scribble(min(n, 500), FAR // 2)]),
