@@ -9,7 +9,7 @@ use i_overlay::point_location::PointLocation;
 use i_overlay::segm::boolean::ShapeCountBoolean;
 use i_overlay::simplifying::outcome::Outcome;
 use i_overlay::simplifying::shapes::shapes_left;
-use i_overlay::simplifying::simple::outcome_of_contour;
+use i_overlay::simplifying::simple::{Simplifying, outcome_of_contour};
 use i_overlay::solver::Solver;
 use overlay_arrange::content::Content;
 use overlay_builder::boolean::passing;
@@ -245,8 +245,13 @@ fn check_simplifying<I: Width>(trial: &Trial<'_, impl Abort>) -> Result<(), Fail
             "i_overlay::outcome_of_contour",
             || Ok(BuilderCore::<I, CountWithData<()>, Memory<'_>>::with_capacity(memory, 0)?),
             |it| {
-                let direction = ContourDirection::CounterClockwise;
-                outcome_of_contour(it, solver, &contour, false, RULE, direction)
+                let asked = Simplifying {
+                    solver,
+                    keeps_points: false,
+                    fill_rule: RULE,
+                    output_direction: ContourDirection::CounterClockwise,
+                };
+                outcome_of_contour(it, &contour, asked)
             },
             |it| Ok(it.check_usable() == Err(OverlayError::Failed)),
         )?;

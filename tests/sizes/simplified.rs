@@ -8,7 +8,7 @@ use i_overlay::overlay::{ContourDirection, IntOverlayOptions, Overlay};
 use i_overlay::simplify::Simplify;
 use i_overlay::simplifying::outcome::Outcome;
 use i_overlay::simplifying::shapes::shapes_left;
-use i_overlay::simplifying::simple::outcome_of_contour;
+use i_overlay::simplifying::simple::{Simplifying, outcome_of_contour};
 use i_overlay::solver::Solver;
 use overlay_builder::builder_core::BuilderCore;
 use std::process::Abort;
@@ -27,8 +27,13 @@ fn a_comb(rt: HostRuntime) -> Result<(), Fail> {
     let one = PathRef::new(&contour).simplify(alloc, RULE, IntOverlayOptions::default())?;
     assert!(&rt; one.len() == 1 && one[0].len() == 1 && one[0][0].len() == 4 * COUNT);
     let mut core = BuilderCore::with_capacity(alloc, 4 * COUNT)?;
-    let (solver, direction) = (Solver::SNAPPED, ContourDirection::CounterClockwise);
-    let outcome = outcome_of_contour(&mut core, solver, &contour, false, RULE, direction)?;
+    let asked = Simplifying {
+        solver: Solver::SNAPPED,
+        keeps_points: false,
+        fill_rule: RULE,
+        output_direction: ContourDirection::CounterClockwise,
+    };
+    let outcome = outcome_of_contour(&mut core, &contour, asked)?;
     let left = shapes_left(alloc, &contour, outcome)?;
     assert!(&rt; outcome == Outcome::AsGiven && left.len() == 1 && left[0].len() == 1);
     assert!(&rt; left[0][0].as_slice() == contour.as_slice());

@@ -4,7 +4,7 @@ ghost use Rattle.overlay_geom.specs.Points.{plain_points, AllInRange};
 
 use i_overlay::simplifying::outcome::Outcome;
 use i_overlay::simplifying::shapes::shapes_left;
-use i_overlay::simplifying::simple::outcome_of_contour;
+use i_overlay::simplifying::simple::{Simplifying, outcome_of_contour};
 use overlay_builder::builder_core::BuilderCore;
 use overlay_geom::error::OverlayError;
 use overlay_geom::fill_rule::FillRule;
@@ -23,8 +23,12 @@ pub fn shapes_if_simple(
 ) -> Result<IntShapes<i32, Global>, OverlayError>
     requires { AllInRange 1073741823 (plain_points (λ z. z) contour.now) }
 {
-    let direction = ContourDirection::CounterClockwise;
-    let solver = Solver::ABSOLUTE;
-    let outcome = outcome_of_contour(core, solver, contour, false, FillRule::NonZero, direction)?;
+    let asked = Simplifying {
+        solver: Solver::ABSOLUTE,
+        keeps_points: false,
+        fill_rule: FillRule::NonZero,
+        output_direction: ContourDirection::CounterClockwise,
+    };
+    let outcome = outcome_of_contour(core, contour, asked)?;
     Ok(shapes_left(alloc, contour, outcome)?)
 }

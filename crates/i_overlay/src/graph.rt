@@ -74,7 +74,7 @@ impl<I: OverlayInt, A: Allocator + Clone> OverlayGraph<'_, I, (), A> {
         ensures err { IsOkUnless result OverlayError.Memory }
     {
         let options = self.viewed.options();
-        extract_shape_hierarchy(self.viewed.graph(), overlay_rule, options, buffer)
+        Ok(extract_shape_hierarchy(self.viewed.graph(), overlay_rule, options, buffer)?)
     }
 
     /// Writes the contours round the region of the plane where the overlay rule holds into the output, one
@@ -96,7 +96,8 @@ impl<I: OverlayInt, A: Allocator + Clone> OverlayGraph<'_, I, (), A> {
         ensures err { IsOkUnless result OverlayError.Memory }
     {
         let options = self.viewed.options();
-        extract_contours(self.viewed.graph(), overlay_rule, options, buffer, output)
+        extract_contours(self.viewed.graph(), overlay_rule, options, buffer, output)?;
+        Ok(())
     }
 }
 

@@ -1,7 +1,7 @@
 //! The overlay builder: contours are added, and queries are answered.
 
 ghost use Rattle.std.specs.List.{flat_map};
-ghost use Rattle.std.specs.Prelude.{◌≡◌, false, [], map, Some, IfOk, OnOk, OnErr, IsOkUnless};
+ghost use Rattle.std.specs.Prelude.{◌≡◌, false, [], map, Some, IfOk, OnOk, OnErr};
 ghost use Rattle.overlay_order.specs.Content.{IsAscending};
 ghost use Rattle.overlay_order.specs.Vectors.{plain_vector, vector_of};
 ghost use Rattle.overlay_graph.specs.Graphs.{graph_edges};
@@ -107,7 +107,7 @@ impl<I: OverlayInt, A: Allocator + Clone> Overlay<I, A> {
         self.core.arrange(self.solver, &mut ())?;
         let listed = self.list(fill_rule);
         self.core.set_failed(listed.is_err());
-        listed
+        Ok(listed?)
     }
 
     /// Splits the edges where they meet, as `build_separate_vectors` does, and gives the contours
@@ -155,7 +155,7 @@ impl<I: OverlayInt, A: Allocator + Clone> Overlay<I, A> {
         self.core.arrange(self.solver, &mut ())?;
         let shapes = self.extract(overlay_rule, fill_rule);
         self.core.set_failed(shapes.is_err());
-        shapes
+        Ok(shapes?)
     }
 
     /// Splits the edges where they meet, as `build_separate_vectors` does, and writes the contours round the region
@@ -189,19 +189,18 @@ impl<I: OverlayInt, A: Allocator + Clone> Overlay<I, A> {
         self.core.arrange(self.solver, &mut ())?;
         let written = self.extract_into(overlay_rule, fill_rule, output);
         self.core.set_failed(written.is_err());
-        written
+        Ok(written?)
     }
 
     // The arranged edges with their filled sides.
-    fn list(&self, fill_rule: FillRule) -> Result<Vec<DataVectorEdge<I, ()>, A>, OverlayError>
+    fn list(&self, fill_rule: FillRule) -> Result<Vec<DataVectorEdge<I, ()>, A>, AllocError>
         requires usable { self.now.failed ≡ false }
         requires ascending { IsAscending self.now.edges }
         requires settled { IsSettled self.now.edges }
         ensures listed { IfOk result (λ v.
             map (plain_vector I.whole) v.items ≡ map (vector_of fill_rule self.now.edges) self.now.edges) }
-        ensures err { IsOkUnless result OverlayError.Memory }
     {
-        Ok(self.graph_filled_by(fill_rule)?.separate_vectors()?)
+        self.graph_filled_by(fill_rule)?.separate_vectors()
     }
 
     // The shapes round the region of the arranged edges. The buffer is there afterwards.
@@ -209,7 +208,7 @@ impl<I: OverlayInt, A: Allocator + Clone> Overlay<I, A> {
         &mut self,
         overlay_rule: OverlayRule,
         fill_rule: FillRule,
-    ) -> Result<IntShapes<I, A>, OverlayError>
+    ) -> Result<IntShapes<I, A>, AllocError>
         requires usable { self.old.failed ≡ false }
         requires ascending { IsAscending self.old.edges }
         requires settled { IsSettled self.old.edges }
@@ -218,7 +217,6 @@ impl<I: OverlayInt, A: Allocator + Clone> Overlay<I, A> {
             self.old.edges (plain_shapes I.whole v.items)) }
         ensures kept { self.new ≡ record self.old { boolean_buffer = self.new.boolean_buffer } }
         ensures buffer { OnOk result (self.new.boolean_buffer ≡ Some tt) }
-        ensures err { IsOkUnless result OverlayError.Memory }
     {
         let graph = self.graph_filled_by(fill_rule)?;
         let mut buffer = BooleanExtractionBuffer::taken_from(
@@ -227,7 +225,7 @@ impl<I: OverlayInt, A: Allocator + Clone> Overlay<I, A> {
         )?;
         let shapes = extract_shapes(graph, overlay_rule, self.options, &mut buffer);
         self.boolean_buffer = Some(buffer);
-        Ok(shapes?)
+        shapes
     }
 
     // The contours round the region of the arranged edges, written into the output, which is empty at
@@ -237,7 +235,7 @@ impl<I: OverlayInt, A: Allocator + Clone> Overlay<I, A> {
         overlay_rule: OverlayRule,
         fill_rule: FillRule,
         output: &mut FlatContoursBuffer<I, B>,
-    ) -> Result<(), OverlayError>
+    ) -> Result<(), AllocError>
         requires usable { self.old.failed ≡ false }
         requires ascending { IsAscending self.old.edges }
         requires settled { IsSettled self.old.edges }
@@ -251,7 +249,6 @@ impl<I: OverlayInt, A: Allocator + Clone> Overlay<I, A> {
         ensures no_ranges { OnErr result (output.new.ranges.items ≡ []) }
         ensures kept { self.new ≡ record self.old { boolean_buffer = self.new.boolean_buffer } }
         ensures buffer { OnOk result (self.new.boolean_buffer ≡ Some tt) }
-        ensures err { IsOkUnless result OverlayError.Memory }
     {
         let graph = self.graph_filled_by(fill_rule)?;
         let mut buffer = BooleanExtractionBuffer::taken_from(

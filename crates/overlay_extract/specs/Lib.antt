@@ -16,7 +16,6 @@ pub mod PlacedResults
 pub mod Places
 pub mod Repeats
 pub mod Results
-pub mod Sides
 pub mod SidesByBits
 pub mod Sliced
 pub mod Slices

@@ -8,5 +8,4 @@ pub mod islands;
 pub(crate) mod known_shapes;
 pub mod placed;
 pub mod places;
-mod side;
 mod sweep;

@@ -1,6 +1,6 @@
 //! The contours round the region where rules hold: bound to shapes, or in a list.
 
-ghost use Rattle.std.specs.Prelude.{◌≡◌, [], map, All, IfOk, OnOk, OnErr, IsOkUnless};
+ghost use Rattle.std.specs.Prelude.{◌≡◌, [], map, All, IfOk, OnOk, OnErr};
 ghost use Rattle.std.specs.List.{AllZip};
 ghost use Rattle.overlay_geom.specs.Flat.{paths_in, shapes_in};
 ghost use Rattle.overlay_geom.specs.FlatShapes.{AreShapesPacked};
@@ -17,7 +17,6 @@ ghost use Rattle.overlay_extract.specs.Results.{asked, AreKeptWalks, IsResult, I
 use crate::assemble::{assembled, contour};
 use crate::binding::placed::placed_contours;
 use crate::flat_shapes::flat_assembled;
-use overlay_geom::error::OverlayError;
 use overlay_geom::flat::contours::FlatContoursBuffer;
 use overlay_geom::flat::shapes::FlatShapesBuffer;
 use overlay_geom::number::IntNumber;
@@ -79,14 +78,14 @@ pub fn extract_flat_shapes<I: IntNumber, C: EdgeCount, A: Allocator + Clone>(
 
 /// Writes the contours round the region where the rules hold to the output, in the order in which they are found. They
 /// are cut without groups, whatever the options say. Contours below the minimum area are left out. The earlier content
-/// of the output is dropped. The buffer lends its room. The only refusal is `Memory`, after which the output is empty.
+/// of the output is dropped. The buffer lends its room. After a refusal the output is empty.
 pub fn extract_contours<I: IntNumber, C: EdgeCount, A: Allocator + Clone, B: Allocator>(
     graph: &Graph<I, C, A>,
     overlay_rule: OverlayRule,
     options: IntOverlayOptions<I::WideUInt>,
     buffer: &mut BooleanExtractionBuffer<I, A>,
     output: &mut FlatContoursBuffer<I, B>,
-) -> Result<(), OverlayError>
+) -> Result<(), AllocError>
     requires { HasBalancedCounts (graph_edges graph.now) }
     ensures result { OnOk result (IsContoursResult
         (asked I.Wide.width I.WideUInt.natural graph.now.fill_rule overlay_rule options)
@@ -94,7 +93,6 @@ pub fn extract_contours<I: IntNumber, C: EdgeCount, A: Allocator + Clone, B: All
     ensures packed { OnOk result (IsPacked output.new.points.items output.new.ranges.items) }
     ensures no_points { OnErr result (output.new.points.items ≡ []) }
     ensures no_ranges { OnErr result (output.new.ranges.items ≡ []) }
-    ensures err { IsOkUnless result OverlayError.Memory }
 {
     emptied(output);
     let written = write_contours(graph, overlay_rule, options, buffer, output);
@@ -120,7 +118,7 @@ fn write_contours<I: IntNumber, C: EdgeCount, A: Allocator + Clone, B: Allocator
     options: IntOverlayOptions<I::WideUInt>,
     buffer: &mut BooleanExtractionBuffer<I, A>,
     output: &mut FlatContoursBuffer<I, B>,
-) -> Result<(), OverlayError>
+) -> Result<(), AllocError>
     requires balanced { HasBalancedCounts (graph_edges graph.now) }
     requires no_points { output.old.points.items ≡ [] }
     requires no_ranges { output.old.ranges.items ≡ [] }
@@ -128,7 +126,6 @@ fn write_contours<I: IntNumber, C: EdgeCount, A: Allocator + Clone, B: Allocator
         (asked I.Wide.width I.WideUInt.natural graph.now.fill_rule overlay_rule options)
         (graph_edges graph.now) (paths_in I.whole output.new.points.items output.new.ranges.items)) }
     ensures packed { OnOk result (IsPacked output.new.points.items output.new.ranges.items) }
-    ensures err { IsOkUnless result OverlayError.Memory }
 {
     let walks = kept_walks(graph, overlay_rule, options, buffer)?;
     let keeps_points = options.preserve_output_collinear;
@@ -141,18 +138,19 @@ fn add_contours<I: IntNumber, A: Allocator + Clone, B: Allocator>(
     walks: &[Vec<Step<I>, A>],
     keeps_points: bool,
     output: &mut FlatContoursBuffer<I, B>,
-) -> Result<(), OverlayError>
+) -> Result<(), AllocError>
     requires long { All (All (IsLong I.limit)) (plain_walks I.whole walks.now) }
     requires no_points { output.old.points.items ≡ [] }
     requires no_ranges { output.old.ranges.items ≡ [] }
     ensures shown { OnOk result (AllZip (IsKeptOrThinned keeps_points) (map points_of (plain_walks I.whole walks.now))
         (paths_in I.whole output.new.points.items output.new.ranges.items)) }
     ensures packed { OnOk result (IsPacked output.new.points.items output.new.ranges.items) }
-    ensures err { IsOkUnless result OverlayError.Memory }
 {
     for walk in walks {
         let contour = contour(alloc.clone()?, walk, keeps_points)?;
-        output.add_contour(&contour)?;
+        let Ok(()) = output.add_contour(&contour) else {
+            return Err(AllocError);
+        };
     }
     Ok(())
 }

@@ -21,7 +21,6 @@ use overlay_geom::thin::push_thinned;
 use overlay_walk::contour::Contour;
 use overlay_walk::step::Step;
 use std::alloc::{AllocError, Allocator};
-use std::ops::Range;
 
 // Lists that lend their memory to one contour after the other. What they hold changes no answer.
 #[derive(Drop)]
@@ -101,22 +100,14 @@ fn push_shape<I: IntNumber, A: Allocator>(
         { start = length flat.old.contour_ranges.items; end = length flat.new.contour_ranges.items } ∷ []) }
 {
     let start = flat.contour_ranges.len();
-    push_contours(
-        &mut flat.points,
-        &mut flat.contour_ranges,
-        room,
-        contours,
-        places,
-        keeps_points,
-    )?;
+    push_contours(flat, room, contours, places, keeps_points)?;
     flat.shape_ranges.push(start..flat.contour_ranges.len())?;
     Ok(())
 }
 
 // Adds the points of the contours at these places, and the range of each contour. On a refusal some of them may stay.
 fn push_contours<I: IntNumber, A: Allocator>(
-    points: &mut Vec<IntPoint<I>, A>,
-    ranges: &mut Vec<Range<usize>, A>,
+    flat: &mut FlatShapesBuffer<I, A>,
     room: &mut ContourRoom<I, A>,
     contours: &[Contour<I, A>],
     places: &ShapePlaces<A>,
@@ -126,13 +117,14 @@ fn push_contours<I: IntNumber, A: Allocator>(
     requires inside { All (λ k. k < length (plain_contours I.whole contours.now)) (place_list places.now) }
     ensures taken { OnOk result (AreTakenBehind I.whole keeps_points
         (map points_of (map (walk_at (plain_contours I.whole contours.now)) (place_list places.now)))
-        points.old.items ranges.old.items points.new.items ranges.new.items) }
+        flat.old.points.items flat.old.contour_ranges.items flat.new.points.items flat.new.contour_ranges.items) }
+    ensures same_shapes { flat.new.shape_ranges.items ≡ flat.old.shape_ranges.items }
 {
     for i in 0..places.count() {
         let place = places.place(i);
-        let start = points.len();
-        push_points(points, room, &contours[place].steps, keeps_points)?;
-        ranges.push(start..points.len())?;
+        let start = flat.points.len();
+        push_points(&mut flat.points, room, &contours[place].steps, keeps_points)?;
+        flat.contour_ranges.push(start..flat.points.len())?;
     }
     Ok(())
 }

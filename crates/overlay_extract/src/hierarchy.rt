@@ -23,7 +23,7 @@ use overlay_geom::overlay_rule::OverlayRule;
 use overlay_graph::graph::Graph;
 use overlay_order::count::EdgeCount;
 use overlay_walk::buffer::BooleanExtractionBuffer;
-use std::alloc::Allocator;
+use std::alloc::{AllocError, Allocator};
 
 /// Shapes in a flat buffer, and links to the shapes that lie in their holes.
 #[derive(Drop)]
@@ -73,13 +73,13 @@ impl<I: IntNumber, A: Allocator + Clone> FlatShapeHierarchy<I, A> {
 ///
 /// Let e be the next filled-below edge below the leftmost lowest point of a shape's outline. The shape lies in a hole
 /// if e belongs to the hole, or to the outline of another shape in it. Collinear points count here. The buffer lends
-/// its room. The only refusal is `Memory`.
+/// its room.
 pub fn extract_shape_hierarchy<I: IntNumber, C: EdgeCount, A: Allocator + Clone>(
     graph: &Graph<I, C, A>,
     overlay_rule: OverlayRule,
     options: IntOverlayOptions<I::WideUInt>,
     buffer: &mut BooleanExtractionBuffer<I, A>,
-) -> Result<FlatShapeHierarchy<I, A>, OverlayError>
+) -> Result<FlatShapeHierarchy<I, A>, AllocError>
     requires { HasBalancedCounts (graph_edges graph.now) }
     ensures hierarchy { IfOk result (λ h. IsHierarchy
         (asked I.Wide.width I.WideUInt.natural graph.now.fill_rule overlay_rule options) (graph_edges graph.now)
@@ -87,7 +87,6 @@ pub fn extract_shape_hierarchy<I: IntNumber, C: EdgeCount, A: Allocator + Clone>
         (map plain_link h.links.items)) }
     ensures packed { IfOk result
         (λ h. AreShapesPacked h.shapes.points.items h.shapes.contour_ranges.items h.shapes.shape_ranges.items) }
-    ensures err { IsOkUnless result OverlayError.Memory }
 {
     let placed = placed_contours(graph, overlay_rule, options, buffer)?;
     let alloc = graph.allocator();
@@ -101,6 +100,8 @@ pub fn extract_shape_hierarchy<I: IntNumber, C: EdgeCount, A: Allocator + Clone>
     let ordered = in_shapes(alloc.clone()?, &placed.contours, &placed.places)?;
     let direction = options.output_direction;
     let links = link_from(alloc.clone()?, &ordered, direction, TREE_FROM_PARENTS)?;
-    let shapes = FlatShapesBuffer::from_shapes(alloc.clone()?, &shapes)?;
+    let Ok(shapes) = FlatShapesBuffer::from_shapes(alloc.clone()?, &shapes) else {
+        return Err(AllocError);
+    };
     Ok(FlatShapeHierarchy { shapes, links })
 }

@@ -1,6 +1,6 @@
 //! The paths that pieces of strings are joined to.
 
-ghost use Rattle.std.specs.Prelude.{IfOk, OnOk, IsOkUnless};
+ghost use Rattle.std.specs.Prelude.{IfOk, OnOk};
 ghost use Rattle.overlay_geom.specs.Flat.{paths_in};
 ghost use Rattle.overlay_geom.specs.Packed.{IsPacked};
 ghost use Rattle.overlay_geom.specs.Points.{plain_point, plain_points};
@@ -9,7 +9,6 @@ ghost use Rattle.overlay_string.specs.Pieces.{plain_piece, GoesOn, IsShownPath};
 
 use crate::open_pieces::OpenPieces;
 use crate::piece::{Piece, Way};
-use overlay_geom::error::OverlayError;
 use overlay_geom::flat::contours::FlatContoursBuffer;
 use overlay_geom::number::IntNumber;
 use overlay_geom::path::IntPath;
@@ -18,20 +17,24 @@ use std::alloc::{AllocError, Allocator};
 
 /// Returns the paths of the open pieces, in a single list without gaps. Each begins with the first of them, or, if that
 /// runs back along its edge, ends with it. At its end, or at its beginning, it takes the first piece that goes on
-/// there, until there is none. The only refusal is `Memory`. After it some pieces may be open.
+/// there, until there is none. After a refusal some pieces may be open.
 pub(crate) fn joined_paths<I: IntNumber, A: Allocator + Clone>(
     alloc: A,
     pieces: &mut OpenPieces<I, A>,
-) -> Result<FlatContoursBuffer<I, A>, OverlayError>
+) -> Result<FlatContoursBuffer<I, A>, AllocError>
     ensures paths { IfOk result (λ b. ArePathsOf pieces.old (paths_in I.whole b.points.items b.ranges.items)) }
     ensures packed { IfOk result (λ b. IsPacked b.points.items b.ranges.items) }
-    ensures only { IsOkUnless result OverlayError.Memory }
 {
-    let mut paths = FlatContoursBuffer::default(alloc.clone()?)?;
+    let mut paths = FlatContoursBuffer {
+        points: Vec::new(alloc.clone()?),
+        ranges: Vec::new(alloc.clone()?),
+    };
     let mut path = Vec::new(alloc);
     while let Some(piece) = pieces.take_first() {
         write_path(&mut path, pieces, piece)?;
-        paths.add_contour(&path)?;
+        let Ok(()) = paths.add_contour(&path) else {
+            return Err(AllocError);
+        };
     }
     Ok(paths)
 }

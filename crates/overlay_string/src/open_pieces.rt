@@ -97,14 +97,17 @@ impl<I: IntNumber, A: Allocator + Clone> OpenPieces<I, A> {
         ensures ok { IfOk result (λ p. IsTakenAt way (plain_point I.whole point) self.old self.new
             (option_map (plain_piece I.whole) p)) }
     {
+        let sought = Sought {
+            way,
+            point,
+            last: self.last,
+        };
         let found = first_open_on(
             &mut self.onward,
             &mut self.back,
             &self.pieces,
             &self.taken,
-            way,
-            self.last,
-            point,
+            sought,
         )?;
         match found {
             Some(place) => {
@@ -140,27 +143,34 @@ fn first_open<I: IntNumber>(pieces: &[Piece<I>], taken: &[bool], passed: usize) 
     None
 }
 
-// The place of the first open piece that begins at a point, seen on the way. The point is the end of a piece.
+// Where a piece is looked for: at a point, seen on a way, behind the piece that was taken last.
+#[derive(Clone, Copy)]
+struct Sought<I> {
+    way: Way,
+    // the end of a piece
+    point: IntPoint<I>,
+    last: usize,
+}
+
+// The place of the first open piece that begins at the point, seen on the way.
 fn first_open_on<I: IntNumber, A: Allocator + Clone>(
     onward: &mut Sorted<I, A>,
     back: &mut Sorted<I, A>,
     pieces: &[Piece<I>],
     taken: &[bool],
-    way: Way,
-    last: usize,
-    point: IntPoint<I>,
+    sought: Sought<I>,
 ) -> Result<Option<usize>, AllocError>
     requires marks { length taken.now ≡ length pieces.now }
     requires onward { AreByStartIfAny I.whole Onward (plain_pieces I.whole pieces.now) onward.old.steps.items }
     requires back { AreByStartIfAny I.whole Back (plain_pieces I.whole pieces.now) back.old.steps.items }
-    ensures ok { IfOk result
-        (IsFirstPlaceAt way (plain_point I.whole point) (plain_pieces I.whole pieces.now) taken.now) }
+    ensures ok { IfOk result (IsFirstPlaceAt sought.way (plain_point I.whole sought.point)
+        (plain_pieces I.whole pieces.now) taken.now) }
     ensures onward { AreByStartIfAny I.whole Onward (plain_pieces I.whole pieces.now) onward.new.steps.items }
     ensures back { AreByStartIfAny I.whole Back (plain_pieces I.whole pieces.now) back.new.steps.items }
 {
-    match way {
-        Way::Onward => first_open_at(onward, pieces, taken, Way::Onward, last, point),
-        Way::Back => first_open_at(back, pieces, taken, Way::Back, last, point),
+    match sought.way {
+        Way::Onward => first_open_at(onward, pieces, taken, sought),
+        Way::Back => first_open_at(back, pieces, taken, sought),
     }
 }
 
@@ -169,19 +179,17 @@ fn first_open_at<I: IntNumber, A: Allocator + Clone>(
     sorted: &mut Sorted<I, A>,
     pieces: &[Piece<I>],
     taken: &[bool],
-    way: Way,
-    last: usize,
-    point: IntPoint<I>,
+    sought: Sought<I>,
 ) -> Result<Option<usize>, AllocError>
     requires marks { length taken.now ≡ length pieces.now }
-    requires steps { AreByStartIfAny I.whole way (plain_pieces I.whole pieces.now) sorted.old.steps.items }
-    ensures ok { IfOk result
-        (IsFirstPlaceAt way (plain_point I.whole point) (plain_pieces I.whole pieces.now) taken.now) }
-    ensures steps { AreByStartIfAny I.whole way (plain_pieces I.whole pieces.now) sorted.new.steps.items }
+    requires steps { AreByStartIfAny I.whole sought.way (plain_pieces I.whole pieces.now) sorted.old.steps.items }
+    ensures ok { IfOk result (IsFirstPlaceAt sought.way (plain_point I.whole sought.point)
+        (plain_pieces I.whole pieces.now) taken.now) }
+    ensures steps { AreByStartIfAny I.whole sought.way (plain_pieces I.whole pieces.now) sorted.new.steps.items }
 {
-    make_by_start(sorted, pieces, way)?;
-    let near = noted(&sorted.notes, last);
-    Ok(first_open_from(&sorted.steps, taken, near, point))
+    make_by_start(sorted, pieces, sought.way)?;
+    let near = noted(&sorted.notes, sought.last);
+    Ok(first_open_from(&sorted.steps, taken, near, sought.point))
 }
 
 // Makes the steps that are the pieces by where they begin, seen on the way, unless they are made already.

@@ -13,7 +13,7 @@ use polyover_calls::held::{Held32, Held64};
 use polyover_calls::options::{Options32, Options64};
 use polyover_views::asked::{graph_edges_held, graph_hierarchy_held, graph_overlay_held};
 use polyover_views::graph::{Graph32, Graph64};
-use polyover_views::made::graph_held;
+use polyover_views::made::{GraphNumbers, graph_held};
 use std::alloc::Global;
 
 /// Hands out the graph of the subject and the clip under the fill rule: the code of a status. After any but `Done` it
@@ -33,14 +33,12 @@ pub extern "C" fn polyover_arrange_with<'a>(
         (contours_of clip.now.coordinates.now clip.now.ends.now)
         (graph_at_64 graph.new) result }
 {
-    graph.give(&graph_held(
-        alloc,
+    let numbers = GraphNumbers {
         fill,
         solver,
         keep_given,
-        &subject.given(),
-        &clip.given(),
-    ))
+    };
+    graph.give(&graph_held(alloc, numbers, &subject.given(), &clip.given()))
 }
 
 /// `polyover_arrange_with` at 32 bits.
@@ -59,14 +57,12 @@ pub extern "C" fn polyover_arrange_with_32<'a>(
         (contours_of clip.now.coordinates.now clip.now.ends.now)
         (graph_at_32 graph.new) result }
 {
-    graph.give(&graph_held(
-        alloc,
+    let numbers = GraphNumbers {
         fill,
         solver,
         keep_given,
-        &subject.given(),
-        &clip.given(),
-    ))
+    };
+    graph.give(&graph_held(alloc, numbers, &subject.given(), &clip.given()))
 }
 
 /// Hands out the shapes of the overlay that the rule and options ask for of a graph that `polyover_arrange_with` handed

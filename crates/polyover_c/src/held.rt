@@ -9,6 +9,7 @@ ghost use Rattle.polyover_calls.specs.Holding.{SimplificationIsHeld, SlicesAreHe
 ghost use Rattle.polyover_calls.specs.Options.{options_32, options_64};
 
 use polyover_calls::arrays::{Contours32, Contours64};
+use polyover_calls::asked::OverlayAsked;
 use polyover_calls::clip_options::ClipOptions;
 use polyover_calls::held::{Held32, Held64};
 use polyover_calls::holding::{
@@ -33,14 +34,14 @@ pub extern "C" fn polyover_overlay_result_with<'a>(
         (contours_of clip.now.coordinates.now clip.now.ends.now))
         (arrays_at_64 held.new) result }
 {
-    held.give(&overlay_held(
-        alloc,
+    let asked = OverlayAsked {
         rule,
         fill,
-        options.numbers(),
-        &subject.given(),
-        &clip.given(),
-    ))
+        options: options.numbers(),
+        subject: subject.given(),
+        clip: clip.given(),
+    };
+    held.give(&overlay_held(alloc, &asked))
 }
 
 /// `polyover_overlay_result_with` at 32 bits.
@@ -59,14 +60,14 @@ pub extern "C" fn polyover_overlay_result_with_32<'a>(
         (contours_of clip.now.coordinates.now clip.now.ends.now))
         (arrays_at_32 held.new) result }
 {
-    held.give(&overlay_held(
-        alloc,
+    let asked = OverlayAsked {
         rule,
         fill,
-        options.numbers(),
-        &subject.given(),
-        &clip.given(),
-    ))
+        options: options.numbers(),
+        subject: subject.given(),
+        clip: clip.given(),
+    };
+    held.give(&overlay_held(alloc, &asked))
 }
 
 /// Hands out the shapes that the contours are simplified to, as the fill rule and options ask.
@@ -117,14 +118,14 @@ pub extern "C" fn polyover_hierarchy_result_with<'a>(
         (contours_of clip.now.coordinates.now clip.now.ends.now))
         (arrays_at_64 held.new) result }
 {
-    held.give(&hierarchy_held(
-        alloc,
+    let asked = OverlayAsked {
         rule,
         fill,
-        options.numbers(),
-        &subject.given(),
-        &clip.given(),
-    ))
+        options: options.numbers(),
+        subject: subject.given(),
+        clip: clip.given(),
+    };
+    held.give(&hierarchy_held(alloc, &asked))
 }
 
 /// `polyover_hierarchy_result_with` at 32 bits.
@@ -143,14 +144,14 @@ pub extern "C" fn polyover_hierarchy_result_with_32<'a>(
         (contours_of clip.now.coordinates.now clip.now.ends.now))
         (arrays_at_32 held.new) result }
 {
-    held.give(&hierarchy_held(
-        alloc,
+    let asked = OverlayAsked {
         rule,
         fill,
-        options.numbers(),
-        &subject.given(),
-        &clip.given(),
-    ))
+        options: options.numbers(),
+        subject: subject.given(),
+        clip: clip.given(),
+    };
+    held.give(&hierarchy_held(alloc, &asked))
 }
 
 /// Hands out the shapes into which the lines, which are open paths, slice what the subject fills.

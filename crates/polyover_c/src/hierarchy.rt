@@ -10,6 +10,7 @@ ghost use Rattle.polyover_calls.specs.Statuses.{code_of};
 ghost use Rattle.polyover_calls.specs.declared.status.Status.{Status};
 
 use polyover_calls::arrays::{Contours32, Contours64};
+use polyover_calls::asked::OverlayAsked;
 use polyover_calls::counts::Counts;
 use polyover_calls::hierarchy::hierarchy_arrays;
 use polyover_calls::links::Link;
@@ -41,13 +42,16 @@ pub extern "C" fn polyover_hierarchy_with(
         (linked_room coordinates.new contour_ends.new shape_ends.new links.new counts.new link_count.new)
         s × (result ≡ code_of s) }
 {
-    hierarchy_arrays(
-        alloc,
+    let asked = OverlayAsked {
         rule,
         fill,
-        options.numbers(),
-        &subject.given(),
-        &clip.given(),
+        options: options.numbers(),
+        subject: subject.given(),
+        clip: clip.given(),
+    };
+    hierarchy_arrays(
+        alloc,
+        &asked,
         coordinates,
         contour_ends,
         shape_ends,
@@ -82,13 +86,16 @@ pub extern "C" fn polyover_hierarchy_with_32(
         (linked_room coordinates.new contour_ends.new shape_ends.new links.new counts.new link_count.new)
         s × (result ≡ code_of s) }
 {
-    hierarchy_arrays(
-        alloc,
+    let asked = OverlayAsked {
         rule,
         fill,
-        options.numbers(),
-        &subject.given(),
-        &clip.given(),
+        options: options.numbers(),
+        subject: subject.given(),
+        clip: clip.given(),
+    };
+    hierarchy_arrays(
+        alloc,
+        &asked,
         coordinates,
         contour_ends,
         shape_ends,

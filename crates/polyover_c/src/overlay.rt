@@ -10,6 +10,7 @@ ghost use Rattle.polyover_calls.specs.Written.{shape_room};
 ghost use Rattle.polyover_calls.specs.declared.status.Status.{Status};
 
 use polyover_calls::arrays::{Contours32, Contours64};
+use polyover_calls::asked::OverlayAsked;
 use polyover_calls::counts::Counts;
 use polyover_calls::options::{Options32, Options64};
 use polyover_calls::overlay::overlay_arrays;
@@ -38,19 +39,14 @@ pub extern "C" fn polyover_overlay_with(
         (shape_room coordinates.new contour_ends.new shape_ends.new counts.new)
         s × (result ≡ code_of s) }
 {
-    overlay_arrays(
-        alloc,
+    let asked = OverlayAsked {
         rule,
         fill,
-        options.numbers(),
-        &subject.given(),
-        &clip.given(),
-        coordinates,
-        contour_ends,
-        shape_ends,
-        counts,
-    )
-    .code()
+        options: options.numbers(),
+        subject: subject.given(),
+        clip: clip.given(),
+    };
+    overlay_arrays(alloc, &asked, coordinates, contour_ends, shape_ends, counts).code()
 }
 
 /// `polyover_overlay_with` at 32 bits.
@@ -75,17 +71,12 @@ pub extern "C" fn polyover_overlay_with_32(
         (shape_room coordinates.new contour_ends.new shape_ends.new counts.new)
         s × (result ≡ code_of s) }
 {
-    overlay_arrays(
-        alloc,
+    let asked = OverlayAsked {
         rule,
         fill,
-        options.numbers(),
-        &subject.given(),
-        &clip.given(),
-        coordinates,
-        contour_ends,
-        shape_ends,
-        counts,
-    )
-    .code()
+        options: options.numbers(),
+        subject: subject.given(),
+        clip: clip.given(),
+    };
+    overlay_arrays(alloc, &asked, coordinates, contour_ends, shape_ends, counts).code()
 }

@@ -90,8 +90,8 @@ module _ {I U : Type 0} (whole : I → ℤ) (limit rule fill : ℕ) (options : O
 
   module _ (r : OverlayRule) (f : FillRule) (b : Builder U)
       (is : IsAskedOverlay whole limit rule fill options subject clip r f b) where
-    pub memory_refused : (s : Status) → s ≡ Memory → is_refused s
-    memory_refused s = without_memory whole limit is_unknown are_known subject clip may tt s is.known is.subject_given
+    pub no_memory : (s : Status) → s ≡ Memory → is_refused s
+    no_memory s = without_memory whole limit is_unknown are_known subject clip may tt s is.known is.subject_given
         is.clip_given
 
     pub query_refused : {V : Type 0} (new : Builder U) (e : OverlayError) →

@@ -6,13 +6,13 @@ ghost use Rattle.polyover_calls.specs.Hierarchies.{IsLinkedOverlay, HierarchyEnd
 ghost use Rattle.polyover_calls.specs.Linked.{AreFlatLinked, flat_linked, linked_room};
 ghost use Rattle.polyover_calls.specs.Overlays.{IsOverlayRefused};
 
-use crate::asked::asked_overlay;
+use crate::asked::{OverlayAsked, asked_overlay};
 use crate::counts::Counts;
 use crate::given::Contours;
 use crate::linked_answer::{LinkedAnswer, flattened_hierarchy, put_linked, widened_linked};
 use crate::links::Link;
 use crate::narrowed::{ArrayInt, narrowed_both};
-use crate::numbers::{OptionNumbers, are_known};
+use crate::numbers::are_known;
 use crate::status::Status;
 use overlay_geom::integer::OverlayInt;
 use std::alloc::Global;
@@ -21,11 +21,7 @@ use std::alloc::Global;
 #[tactic(auto, using(crate::proofs::Endings::put_ends, crate::proofs::Endings::refused_ends))]
 pub fn hierarchy_arrays<I: ArrayInt>(
     alloc: Global,
-    rule: u32,
-    fill: u32,
-    options: OptionNumbers<I::WideUInt>,
-    subject: &Contours<I>,
-    clip: &Contours<I>,
+    asked: &OverlayAsked<I>,
     coordinates: &mut [I],
     contour_ends: &mut [usize],
     shape_ends: &mut [usize],
@@ -33,14 +29,15 @@ pub fn hierarchy_arrays<I: ArrayInt>(
     counts: &mut Counts,
     link_count: &mut usize,
 ) -> Status
-    ensures { HierarchyEnds I.whole I.limit I.Wide.width I.WideUInt.natural rule fill options
-        (contours_of subject.now.coordinates.now subject.now.ends.now)
-        (contours_of clip.now.coordinates.now clip.now.ends.now)
+    ensures { HierarchyEnds I.whole I.limit I.Wide.width I.WideUInt.natural
+        asked.now.rule asked.now.fill asked.now.options
+        (contours_of asked.now.subject.coordinates.now asked.now.subject.ends.now)
+        (contours_of asked.now.clip.coordinates.now asked.now.clip.ends.now)
         (linked_room coordinates.old contour_ends.old shape_ends.old links.old counts.old link_count.old)
         (linked_room coordinates.new contour_ends.new shape_ends.new links.new counts.new link_count.new)
         result }
 {
-    match fitted_hierarchy(alloc, rule, fill, options, subject, clip) {
+    match fitted_hierarchy(alloc, asked) {
         Ok(answer) => put_linked(
             &answer,
             coordinates,
@@ -55,27 +52,26 @@ pub fn hierarchy_arrays<I: ArrayInt>(
 }
 
 // The overlay that the numbers ask for, with the links between its shapes, as arrays.
-#[tactic(auto, using(crate::proofs::Overlays::memory_refused, crate::proofs::Overlays::query_refused, crate::proofs::Hierarchies::hierarchy_answered))]
+#[tactic(auto, using(crate::proofs::Overlays::no_memory, crate::proofs::Overlays::query_refused, crate::proofs::Hierarchies::hierarchy_answered))]
 fn hierarchy_answer<I: OverlayInt>(
     alloc: Global,
-    rule: u32,
-    fill: u32,
-    options: OptionNumbers<I::WideUInt>,
-    subject: &Contours<I>,
-    clip: &Contours<I>,
+    asked: &OverlayAsked<I>,
 ) -> Result<LinkedAnswer<I>, Status>
     ensures { MatchResult result
-        (λ a. AreFlatLinked (IsLinkedOverlay I.whole I.limit I.Wide.width I.WideUInt.natural rule fill options
-        (contours_of subject.now.coordinates.now subject.now.ends.now)
-        (contours_of clip.now.coordinates.now clip.now.ends.now)) I.whole
+        (λ a. AreFlatLinked (IsLinkedOverlay I.whole I.limit I.Wide.width I.WideUInt.natural
+        asked.now.rule asked.now.fill asked.now.options
+        (contours_of asked.now.subject.coordinates.now asked.now.subject.ends.now)
+        (contours_of asked.now.clip.coordinates.now asked.now.clip.ends.now)) I.whole
         (flat_linked a.shapes.coordinates.items a.shapes.contour_ends.items a.shapes.shape_ends.items
         a.links.items))
-        (IsOverlayRefused I.whole I.limit rule fill options
-        (contours_of subject.now.coordinates.now subject.now.ends.now)
-        (contours_of clip.now.coordinates.now clip.now.ends.now)) }
+        (IsOverlayRefused I.whole I.limit asked.now.rule asked.now.fill asked.now.options
+        (contours_of asked.now.subject.coordinates.now asked.now.subject.ends.now)
+        (contours_of asked.now.clip.coordinates.now asked.now.clip.ends.now)) }
 {
-    let mut asked = asked_overlay(alloc, rule, fill, options, subject, clip)?;
-    let hierarchy = asked.builder.overlay_hierarchy(asked.rule, asked.fill)?;
+    let mut overlay = asked_overlay(alloc, asked)?;
+    let hierarchy = overlay
+        .builder
+        .overlay_hierarchy(overlay.rule, overlay.fill)?;
     let answer = flattened_hierarchy(alloc, &hierarchy)?;
     Ok(answer)
 }
@@ -83,37 +79,40 @@ fn hierarchy_answer<I: OverlayInt>(
 // The same, at 32 bits where all coordinates fit and contours of all areas are kept.
 pub(crate) fn fitted_hierarchy<I: ArrayInt>(
     alloc: Global,
-    rule: u32,
-    fill: u32,
-    options: OptionNumbers<I::WideUInt>,
-    subject: &Contours<I>,
-    clip: &Contours<I>,
+    asked: &OverlayAsked<I>,
 ) -> Result<LinkedAnswer<I>, Status>
     ensures { MatchResult result
-        (λ a. AreFlatLinked (IsLinkedOverlay I.whole I.limit I.Wide.width I.WideUInt.natural rule fill options
-        (contours_of subject.now.coordinates.now subject.now.ends.now)
-        (contours_of clip.now.coordinates.now clip.now.ends.now)) I.whole
+        (λ a. AreFlatLinked (IsLinkedOverlay I.whole I.limit I.Wide.width I.WideUInt.natural
+        asked.now.rule asked.now.fill asked.now.options
+        (contours_of asked.now.subject.coordinates.now asked.now.subject.ends.now)
+        (contours_of asked.now.clip.coordinates.now asked.now.clip.ends.now)) I.whole
         (flat_linked a.shapes.coordinates.items a.shapes.contour_ends.items a.shapes.shape_ends.items
         a.links.items))
-        (IsOverlayRefused I.whole I.limit rule fill options
-        (contours_of subject.now.coordinates.now subject.now.ends.now)
-        (contours_of clip.now.coordinates.now clip.now.ends.now)) }
+        (IsOverlayRefused I.whole I.limit asked.now.rule asked.now.fill asked.now.options
+        (contours_of asked.now.subject.coordinates.now asked.now.subject.ends.now)
+        (contours_of asked.now.clip.coordinates.now asked.now.clip.ends.now)) }
 {
-    if options.keep_all() && are_known(rule, fill, &options) {
-        if let Some(both) = narrowed_both(alloc, subject, clip) {
-            let first = Contours {
+    if asked.options.keep_all() && are_known(asked.rule, asked.fill, &asked.options) {
+        if let Some(both) = narrowed_both(alloc, &asked.subject, &asked.clip) {
+            let subject = Contours {
                 coordinates: &both.first,
-                ends: subject.ends,
+                ends: asked.subject.ends,
             };
-            let second = Contours {
+            let clip = Contours {
                 coordinates: &both.second,
-                ends: clip.ends,
+                ends: asked.clip.ends,
             };
-            let narrow = options.without_minimum();
-            let answer = hierarchy_answer(alloc, rule, fill, narrow, &first, &second)?;
+            let narrow = OverlayAsked {
+                rule: asked.rule,
+                fill: asked.fill,
+                options: asked.options.without_minimum(),
+                subject,
+                clip,
+            };
+            let answer = hierarchy_answer(alloc, &narrow)?;
             let answer = widened_linked(alloc, answer)?;
             return Ok(answer);
         }
     }
-    hierarchy_answer(alloc, rule, fill, options, subject, clip)
+    hierarchy_answer(alloc, asked)
 }

@@ -5,6 +5,7 @@ ghost use Rattle.polyover_calls.specs.Held.{arrays_of};
 ghost use Rattle.polyover_calls.specs.Holding.{ClipsAreHeld, EdgesAreHeld, HierarchyIsHeld, OverlayIsHeld};
 ghost use Rattle.polyover_calls.specs.Holding.{SimplificationIsHeld, SlicesAreHeld};
 
+use crate::asked::OverlayAsked;
 use crate::clip::fitted_clip;
 use crate::clip_options::ClipOptions;
 use crate::edges::fitted_edges;
@@ -22,18 +23,15 @@ use std::alloc::Global;
 #[tactic(auto, using(crate::proofs::Endings::put_ends, crate::proofs::Endings::refused_ends))]
 pub fn overlay_held<'a, I: ArrayInt + 'a>(
     alloc: Global,
-    rule: u32,
-    fill: u32,
-    options: OptionNumbers<I::WideUInt>,
-    subject: &Contours<I>,
-    clip: &Contours<I>,
+    asked: &OverlayAsked<I>,
 ) -> HeldOutcome<'a, I>
-    ensures { OverlayIsHeld I.whole I.limit I.Wide.width I.WideUInt.natural rule fill options
-        (contours_of subject.now.coordinates.now subject.now.ends.now)
-        (contours_of clip.now.coordinates.now clip.now.ends.now)
+    ensures { OverlayIsHeld I.whole I.limit I.Wide.width I.WideUInt.natural
+        asked.now.rule asked.now.fill asked.now.options
+        (contours_of asked.now.subject.coordinates.now asked.now.subject.ends.now)
+        (contours_of asked.now.clip.coordinates.now asked.now.clip.ends.now)
         (arrays_of result.held) result.status }
 {
-    match fitted_overlay(alloc, rule, fill, options, subject, clip) {
+    match fitted_overlay(alloc, asked) {
         Ok(answer) => hold_shapes(answer),
         Err(status) => hold_nothing(status),
     }
@@ -61,18 +59,15 @@ pub fn simplification_held<'a, I: ArrayInt + 'a>(
 #[tactic(auto, using(crate::proofs::Endings::put_ends, crate::proofs::Endings::refused_ends))]
 pub fn hierarchy_held<'a, I: ArrayInt + 'a>(
     alloc: Global,
-    rule: u32,
-    fill: u32,
-    options: OptionNumbers<I::WideUInt>,
-    subject: &Contours<I>,
-    clip: &Contours<I>,
+    asked: &OverlayAsked<I>,
 ) -> HeldOutcome<'a, I>
-    ensures { HierarchyIsHeld I.whole I.limit I.Wide.width I.WideUInt.natural rule fill options
-        (contours_of subject.now.coordinates.now subject.now.ends.now)
-        (contours_of clip.now.coordinates.now clip.now.ends.now)
+    ensures { HierarchyIsHeld I.whole I.limit I.Wide.width I.WideUInt.natural
+        asked.now.rule asked.now.fill asked.now.options
+        (contours_of asked.now.subject.coordinates.now asked.now.subject.ends.now)
+        (contours_of asked.now.clip.coordinates.now asked.now.clip.ends.now)
         (arrays_of result.held) result.status }
 {
-    match fitted_hierarchy(alloc, rule, fill, options, subject, clip) {
+    match fitted_hierarchy(alloc, asked) {
         Ok(answer) => hold_linked(answer),
         Err(status) => hold_nothing(status),
     }

@@ -6,11 +6,11 @@ ghost use Rattle.polyover_calls.specs.Written.{IsFlat, flat_shapes, shape_room};
 ghost use Rattle.polyover_calls.specs.Overlays.{IsOverlay, IsOverlayRefused, OverlayEnds};
 
 use crate::answer::{Answer, flat_answer, put, widened};
-use crate::asked::asked_overlay;
+use crate::asked::{OverlayAsked, asked_overlay};
 use crate::counts::Counts;
 use crate::given::Contours;
 use crate::narrowed::{ArrayInt, narrowed_both};
-use crate::numbers::{OptionNumbers, are_known};
+use crate::numbers::are_known;
 use crate::status::Status;
 use overlay_geom::integer::OverlayInt;
 use std::alloc::Global;
@@ -19,50 +19,46 @@ use std::alloc::Global;
 #[tactic(auto, using(crate::proofs::Endings::put_ends, crate::proofs::Endings::refused_ends))]
 pub fn overlay_arrays<I: ArrayInt>(
     alloc: Global,
-    rule: u32,
-    fill: u32,
-    options: OptionNumbers<I::WideUInt>,
-    subject: &Contours<I>,
-    clip: &Contours<I>,
+    asked: &OverlayAsked<I>,
     coordinates: &mut [I],
     contour_ends: &mut [usize],
     shape_ends: &mut [usize],
     counts: &mut Counts,
 ) -> Status
-    ensures { OverlayEnds I.whole I.limit I.Wide.width I.WideUInt.natural rule fill options
-        (contours_of subject.now.coordinates.now subject.now.ends.now)
-        (contours_of clip.now.coordinates.now clip.now.ends.now)
+    ensures { OverlayEnds I.whole I.limit I.Wide.width I.WideUInt.natural
+        asked.now.rule asked.now.fill asked.now.options
+        (contours_of asked.now.subject.coordinates.now asked.now.subject.ends.now)
+        (contours_of asked.now.clip.coordinates.now asked.now.clip.ends.now)
         (shape_room coordinates.old contour_ends.old shape_ends.old counts.old)
         (shape_room coordinates.new contour_ends.new shape_ends.new counts.new)
         result }
 {
-    match fitted_overlay(alloc, rule, fill, options, subject, clip) {
+    match fitted_overlay(alloc, asked) {
         Ok(answer) => put(&answer, coordinates, contour_ends, shape_ends, counts),
         Err(status) => status,
     }
 }
 
 // The overlay that the numbers ask for, as arrays.
-#[tactic(auto, using(crate::proofs::Overlays::memory_refused, crate::proofs::Overlays::flat_refused, crate::proofs::Overlays::overlay_answered))]
+#[tactic(auto, using(crate::proofs::Overlays::no_memory, crate::proofs::Overlays::flat_refused, crate::proofs::Overlays::overlay_answered))]
 fn overlay_answer<I: OverlayInt>(
     alloc: Global,
-    rule: u32,
-    fill: u32,
-    options: OptionNumbers<I::WideUInt>,
-    subject: &Contours<I>,
-    clip: &Contours<I>,
+    asked: &OverlayAsked<I>,
 ) -> Result<Answer<I>, Status>
     ensures { MatchResult result
-        (λ a. IsFlat (IsOverlay I.whole I.limit I.Wide.width I.WideUInt.natural rule fill options
-        (contours_of subject.now.coordinates.now subject.now.ends.now)
-        (contours_of clip.now.coordinates.now clip.now.ends.now)) I.whole
+        (λ a. IsFlat (IsOverlay I.whole I.limit I.Wide.width I.WideUInt.natural
+        asked.now.rule asked.now.fill asked.now.options
+        (contours_of asked.now.subject.coordinates.now asked.now.subject.ends.now)
+        (contours_of asked.now.clip.coordinates.now asked.now.clip.ends.now)) I.whole
         (flat_shapes a.coordinates.items a.contour_ends.items a.shape_ends.items))
-        (IsOverlayRefused I.whole I.limit rule fill options
-        (contours_of subject.now.coordinates.now subject.now.ends.now)
-        (contours_of clip.now.coordinates.now clip.now.ends.now)) }
+        (IsOverlayRefused I.whole I.limit asked.now.rule asked.now.fill asked.now.options
+        (contours_of asked.now.subject.coordinates.now asked.now.subject.ends.now)
+        (contours_of asked.now.clip.coordinates.now asked.now.clip.ends.now)) }
 {
-    let asked = asked_overlay(alloc, rule, fill, options, subject, clip)?;
-    let flat = asked.builder.into_flat_shapes(asked.rule, asked.fill)?;
+    let overlay = asked_overlay(alloc, asked)?;
+    let flat = overlay
+        .builder
+        .into_flat_shapes(overlay.rule, overlay.fill)?;
     let answer = flat_answer(alloc, flat)?;
     Ok(answer)
 }
@@ -70,36 +66,39 @@ fn overlay_answer<I: OverlayInt>(
 // The same, at 32 bits where all coordinates fit and contours of all areas are kept.
 pub(crate) fn fitted_overlay<I: ArrayInt>(
     alloc: Global,
-    rule: u32,
-    fill: u32,
-    options: OptionNumbers<I::WideUInt>,
-    subject: &Contours<I>,
-    clip: &Contours<I>,
+    asked: &OverlayAsked<I>,
 ) -> Result<Answer<I>, Status>
     ensures { MatchResult result
-        (λ a. IsFlat (IsOverlay I.whole I.limit I.Wide.width I.WideUInt.natural rule fill options
-        (contours_of subject.now.coordinates.now subject.now.ends.now)
-        (contours_of clip.now.coordinates.now clip.now.ends.now)) I.whole
+        (λ a. IsFlat (IsOverlay I.whole I.limit I.Wide.width I.WideUInt.natural
+        asked.now.rule asked.now.fill asked.now.options
+        (contours_of asked.now.subject.coordinates.now asked.now.subject.ends.now)
+        (contours_of asked.now.clip.coordinates.now asked.now.clip.ends.now)) I.whole
         (flat_shapes a.coordinates.items a.contour_ends.items a.shape_ends.items))
-        (IsOverlayRefused I.whole I.limit rule fill options
-        (contours_of subject.now.coordinates.now subject.now.ends.now)
-        (contours_of clip.now.coordinates.now clip.now.ends.now)) }
+        (IsOverlayRefused I.whole I.limit asked.now.rule asked.now.fill asked.now.options
+        (contours_of asked.now.subject.coordinates.now asked.now.subject.ends.now)
+        (contours_of asked.now.clip.coordinates.now asked.now.clip.ends.now)) }
 {
-    if options.keep_all() && are_known(rule, fill, &options) {
-        if let Some(both) = narrowed_both(alloc, subject, clip) {
-            let first = Contours {
+    if asked.options.keep_all() && are_known(asked.rule, asked.fill, &asked.options) {
+        if let Some(both) = narrowed_both(alloc, &asked.subject, &asked.clip) {
+            let subject = Contours {
                 coordinates: &both.first,
-                ends: subject.ends,
+                ends: asked.subject.ends,
             };
-            let second = Contours {
+            let clip = Contours {
                 coordinates: &both.second,
-                ends: clip.ends,
+                ends: asked.clip.ends,
             };
-            let narrow = options.without_minimum();
-            let answer = overlay_answer(alloc, rule, fill, narrow, &first, &second)?;
+            let narrow = OverlayAsked {
+                rule: asked.rule,
+                fill: asked.fill,
+                options: asked.options.without_minimum(),
+                subject,
+                clip,
+            };
+            let answer = overlay_answer(alloc, &narrow)?;
             let answer = widened(alloc, answer)?;
             return Ok(answer);
         }
     }
-    overlay_answer(alloc, rule, fill, options, subject, clip)
+    overlay_answer(alloc, asked)
 }

@@ -57,7 +57,7 @@ fn asked_slices<I: OverlayInt>(
     let settings = options_of(options)?;
     let solver = known_solver(options.solver);
     let read = read_both(alloc, subject, lines)?;
-    let shapes = sliced_shapes(alloc, &read.first, &read.second, fill, settings, solver)?;
+    let shapes = sliced_shapes(alloc, &read, fill, settings, solver)?;
     let answer = flattened(alloc, &shapes)?;
     Ok(answer)
 }

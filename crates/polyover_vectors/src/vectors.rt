@@ -7,12 +7,10 @@ ghost use Rattle.polyover_vectors.specs.Flattened.{vector_arrays};
 ghost use Rattle.polyover_vectors.specs.Held.{arrays_of};
 ghost use Rattle.polyover_vectors.specs.Vectors.{AreVectors, VectorsAreHeld};
 
-use crate::asked::asked_vectors;
 use crate::flat::{FlatVectors, flattened};
 use crate::held::{Outcome, hold, hold_nothing};
 use overlay_geom::integer::OverlayInt;
-use polyover_calls::given::Contours;
-use polyover_calls::numbers::OptionNumbers;
+use polyover_calls::asked::{OverlayAsked, asked_overlay};
 use polyover_calls::status::Status;
 use std::alloc::Global;
 
@@ -20,44 +18,36 @@ use std::alloc::Global;
 #[tactic(auto, using(polyover_calls::proofs::Endings::put_ends, polyover_calls::proofs::Endings::refused_ends))]
 pub fn vectors_held<'a, I: OverlayInt + 'a>(
     alloc: Global,
-    rule: u32,
-    fill: u32,
-    options: OptionNumbers<I::WideUInt>,
-    subject: &Contours<I>,
-    clip: &Contours<I>,
+    asked: &OverlayAsked<I>,
 ) -> Outcome<'a, I>
-    ensures { VectorsAreHeld I.whole I.limit I.Wide.width I.WideUInt.natural rule fill options
-        (contours_of subject.now.coordinates.now subject.now.ends.now)
-        (contours_of clip.now.coordinates.now clip.now.ends.now)
+    ensures { VectorsAreHeld I.whole I.limit I.Wide.width I.WideUInt.natural
+        asked.now.rule asked.now.fill asked.now.options
+        (contours_of asked.now.subject.coordinates.now asked.now.subject.ends.now)
+        (contours_of asked.now.clip.coordinates.now asked.now.clip.ends.now)
         (arrays_of result.vectors) result.status }
 {
-    match vectors(alloc, rule, fill, options, subject, clip) {
+    match vectors(alloc, asked) {
         Ok(flat) => hold(flat),
         Err(status) => hold_nothing(status),
     }
 }
 
 // The shapes as arrays, or why there are none.
-#[tactic(auto, using(polyover_calls::proofs::Overlays::memory_refused, polyover_calls::proofs::Overlays::query_refused))]
-fn vectors<I: OverlayInt>(
-    alloc: Global,
-    rule: u32,
-    fill: u32,
-    options: OptionNumbers<I::WideUInt>,
-    subject: &Contours<I>,
-    clip: &Contours<I>,
-) -> Result<FlatVectors<I>, Status>
+#[tactic(auto, using(polyover_calls::proofs::Overlays::no_memory, polyover_calls::proofs::Overlays::query_refused))]
+fn vectors<I: OverlayInt>(alloc: Global, asked: &OverlayAsked<I>) -> Result<FlatVectors<I>, Status>
     ensures { MatchResult result
-        (λ f. AreVectors I.whole I.limit I.Wide.width I.WideUInt.natural rule fill options
-        (contours_of subject.now.coordinates.now subject.now.ends.now)
-        (contours_of clip.now.coordinates.now clip.now.ends.now)
+        (λ f. AreVectors I.whole I.limit I.Wide.width I.WideUInt.natural asked.now.rule asked.now.fill asked.now.options
+        (contours_of asked.now.subject.coordinates.now asked.now.subject.ends.now)
+        (contours_of asked.now.clip.coordinates.now asked.now.clip.ends.now)
         (vector_arrays f.coordinates.items f.contour_ends.items f.shape_ends.items f.fills.items))
-        (IsOverlayRefused I.whole I.limit rule fill options
-        (contours_of subject.now.coordinates.now subject.now.ends.now)
-        (contours_of clip.now.coordinates.now clip.now.ends.now)) }
+        (IsOverlayRefused I.whole I.limit asked.now.rule asked.now.fill asked.now.options
+        (contours_of asked.now.subject.coordinates.now asked.now.subject.ends.now)
+        (contours_of asked.now.clip.coordinates.now asked.now.clip.ends.now)) }
 {
-    let mut asked = asked_vectors(alloc, rule, fill, options, subject, clip)?;
-    let shapes = asked.builder.build_shape_vectors(asked.fill, asked.rule)?;
+    let mut overlay = asked_overlay(alloc, asked)?;
+    let shapes = overlay
+        .builder
+        .build_shape_vectors(overlay.fill, overlay.rule)?;
     let flat = flattened(alloc, &shapes)?;
     Ok(flat)
 }

@@ -27,6 +27,17 @@ pub struct HeldGraph<'a, E> {
     pub(crate) keep_given: u32,
 }
 
+/// The numbers that a graph is made by.
+#[derive(Clone, Copy)]
+pub struct GraphNumbers {
+    /// The fill rule.
+    pub fill: u32,
+    /// How edges are split: 0 by snap rounding, 1 in rounds.
+    pub solver: u32,
+    /// Whether given points on one line are kept, 1 or 0.
+    pub keep_given: u32,
+}
+
 /// The graph that a call hands out, and how it ends.
 #[derive(Clone, Copy)]
 pub struct Making<'a, E> {
@@ -34,28 +45,26 @@ pub struct Making<'a, E> {
     pub(crate) status: Status,
 }
 
-/// The graph of the contours of both under the fill rule with the number, in memory that stays.
+/// The graph of the contours of both that the numbers ask for, in memory that stays.
 #[tactic(auto, using(crate::proofs::Making::made_ends, crate::proofs::Making::unmade_ends))]
 pub fn graph_held<'a, I: OverlayInt, E: FormOf<CountedEdge<I, CountWithData<()>>> + 'a>(
     alloc: Global,
-    fill: u32,
-    solver: u32,
-    keep_given: u32,
+    numbers: GraphNumbers,
     subject: &Contours<I>,
     clip: &Contours<I>,
 ) -> Making<'a, E>
-    ensures { MakingEnds I.whole I.limit fill solver keep_given
+    ensures { MakingEnds I.whole I.limit numbers.fill numbers.solver numbers.keep_given
         (contours_of subject.now.coordinates.now subject.now.ends.now)
         (contours_of clip.now.coordinates.now clip.now.ends.now)
         (graph_of I.whole E.meant result.graph) result.status }
 {
-    match formed_edges(alloc, fill, solver, keep_given, subject, clip) {
+    match formed_edges(alloc, numbers, subject, clip) {
         Ok(edges) => {
             let graph = HeldGraph {
                 edges: lasting(edges),
-                fill,
-                solver,
-                keep_given,
+                fill: numbers.fill,
+                solver: numbers.solver,
+                keep_given: numbers.keep_given,
             };
             Making {
                 graph,
@@ -78,24 +87,22 @@ pub fn graph_held<'a, I: OverlayInt, E: FormOf<CountedEdge<I, CountWithData<()>>
 #[tactic(auto, using(crate::proofs::Making::contours_unread, crate::proofs::Making::memory_refused, crate::proofs::Making::making_refused))]
 fn formed_edges<I: OverlayInt, E: FormOf<CountedEdge<I, CountWithData<()>>>>(
     alloc: Global,
-    fill: u32,
-    solver: u32,
-    keep_given: u32,
+    numbers: GraphNumbers,
     subject: &Contours<I>,
     clip: &Contours<I>,
 ) -> Result<Vec<E, Global>, Status>
     ensures { MatchResult result
-        (λ v. IsGraphOf I.whole I.limit fill solver keep_given
+        (λ v. IsGraphOf I.whole I.limit numbers.fill numbers.solver numbers.keep_given
         (contours_of subject.now.coordinates.now subject.now.ends.now)
         (contours_of clip.now.coordinates.now clip.now.ends.now)
-        (plain_graph I.whole fill solver keep_given (map E.meant v.items)))
-        (IsMakingRefused I.whole I.limit fill solver keep_given
+        (plain_graph I.whole numbers.fill numbers.solver numbers.keep_given (map E.meant v.items)))
+        (IsMakingRefused I.whole I.limit numbers.fill numbers.solver numbers.keep_given
         (contours_of subject.now.coordinates.now subject.now.ends.now)
         (contours_of clip.now.coordinates.now clip.now.ends.now)) }
 {
-    let _rule = fill_of(fill)?;
-    let by = solver_of(solver)?;
-    let keep = kept_of(keep_given)?;
+    let _rule = fill_of(numbers.fill)?;
+    let by = solver_of(numbers.solver)?;
+    let keep = kept_of(numbers.keep_given)?;
     let read = read_both(alloc, subject, clip)?;
     let core = arranged_core(alloc, &read.first, &read.second, keep, by)?;
     let edges = formed(alloc, core.content().edges())?;

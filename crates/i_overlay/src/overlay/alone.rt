@@ -13,7 +13,7 @@ ghost use Rattle.i_overlay.specs.Builder.{held_by};
 use crate::overlay::Overlay;
 use crate::simplifying::arranged_alone::arrange_alone;
 use crate::simplifying::outcome::Outcome;
-use crate::simplifying::simple::outcome_of_contour;
+use crate::simplifying::simple::{Simplifying, outcome_of_contour};
 use overlay_geom::error::OverlayError;
 use overlay_geom::fill_rule::FillRule;
 use overlay_geom::integer::OverlayInt;
@@ -48,7 +48,7 @@ impl<I: OverlayInt, A: Allocator + Clone> Overlay<I, A> {
         self.hold_alone(resource)?;
         let shapes = self.extract(OverlayRule::Subject, fill_rule);
         self.core.set_failed(shapes.is_err());
-        shapes
+        Ok(shapes?)
     }
 
     /// Holds the paths of the resource alone, arranged.
@@ -80,16 +80,13 @@ impl<I: OverlayInt, A: Allocator + Clone> Overlay<I, A> {
         ensures kept { self.new ≡ record self.old { edges = self.new.edges; failed = self.new.failed } }
     {
         self.viewed = None;
-        let keeps_points = self.options.preserve_input_collinear;
-        let direction = self.options.output_direction;
-        outcome_of_contour(
-            &mut self.core,
-            self.solver,
-            contour,
-            keeps_points,
+        let asked = Simplifying {
+            solver: self.solver,
+            keeps_points: self.options.preserve_input_collinear,
             fill_rule,
-            direction,
-        )
+            output_direction: self.options.output_direction,
+        };
+        outcome_of_contour(&mut self.core, contour, asked)
     }
 
     /// Makes a buffer where there is none.

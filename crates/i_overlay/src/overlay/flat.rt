@@ -1,6 +1,6 @@
 //! Overlays that use the builder up.
 
-ghost use Rattle.std.specs.Prelude.{◌≡◌, false, IfOk, IsOkUnless};
+ghost use Rattle.std.specs.Prelude.{◌≡◌, false, IfOk};
 ghost use Rattle.overlay_order.specs.Content.{IsAscending};
 ghost use Rattle.overlay_extract.specs.Results.{asked, IsResult};
 ghost use Rattle.overlay_geom.specs.Flat.{shapes_in};
@@ -16,7 +16,7 @@ use overlay_geom::flat::shapes::FlatShapesBuffer;
 use overlay_geom::integer::OverlayInt;
 use overlay_geom::overlay_rule::OverlayRule;
 use overlay_walk::buffer::BooleanExtractionBuffer;
-use std::alloc::Allocator;
+use std::alloc::{AllocError, Allocator};
 
 impl<I: OverlayInt, A: Allocator + Clone> Overlay<I, A> {
     /// Splits the edges where they meet, and gives the shapes of `overlay` in one list, with nothing between
@@ -34,7 +34,7 @@ impl<I: OverlayInt, A: Allocator + Clone> Overlay<I, A> {
             (λ b. AreShapesPacked b.points.items b.contour_ranges.items b.shape_ranges.items) }
     {
         self.core.arrange(self.solver, &mut ())?;
-        self.extracted(overlay_rule, fill_rule)
+        Ok(self.extracted(overlay_rule, fill_rule)?)
     }
 
     // The shapes round the region of the arranged edges, in one list. The builder is dropped before the steps
@@ -43,7 +43,7 @@ impl<I: OverlayInt, A: Allocator + Clone> Overlay<I, A> {
         mut self,
         overlay_rule: OverlayRule,
         fill_rule: FillRule,
-    ) -> Result<FlatShapesBuffer<I, A>, OverlayError>
+    ) -> Result<FlatShapesBuffer<I, A>, AllocError>
         requires usable { self.failed ≡ false }
         requires ascending { IsAscending self.edges }
         requires settled { IsSettled self.edges }
@@ -52,7 +52,6 @@ impl<I: OverlayInt, A: Allocator + Clone> Overlay<I, A> {
             (shapes_in I.whole b.points.items b.contour_ranges.items b.shape_ranges.items)) }
         ensures packed { IfOk result
             (λ b. AreShapesPacked b.points.items b.contour_ranges.items b.shape_ranges.items) }
-        ensures err { IsOkUnless result OverlayError.Memory }
     {
         let graph = self.graph_filled_by(fill_rule)?;
         let options = self.options;
@@ -61,6 +60,6 @@ impl<I: OverlayInt, A: Allocator + Clone> Overlay<I, A> {
             graph.allocator(),
         )?;
         drop(self);
-        Ok(extract_flat_shapes(graph, overlay_rule, options, buffer)?)
+        extract_flat_shapes(graph, overlay_rule, options, buffer)
     }
 }

@@ -1,6 +1,6 @@
 //! Overlays that tell which shape lies in which hole.
 
-ghost use Rattle.std.specs.Prelude.{◌≡◌, false, map, Some, IfOk, OnOk, IsOkUnless};
+ghost use Rattle.std.specs.Prelude.{◌≡◌, false, map, Some, IfOk, OnOk};
 ghost use Rattle.overlay_order.specs.Content.{IsAscending};
 ghost use Rattle.overlay_extract.specs.ChildLinks.{plain_link};
 ghost use Rattle.overlay_extract.specs.GivenRegion.{WindsRoundGiven};
@@ -19,7 +19,7 @@ use overlay_geom::fill_rule::FillRule;
 use overlay_geom::integer::OverlayInt;
 use overlay_geom::overlay_rule::OverlayRule;
 use overlay_walk::buffer::BooleanExtractionBuffer;
-use std::alloc::Allocator;
+use std::alloc::{AllocError, Allocator};
 
 impl<I: OverlayInt, A: Allocator + Clone> Overlay<I, A> {
     /// Splits the edges where they meet, and gives the shapes of `overlay` in one list, with a link for each shape that
@@ -53,7 +53,7 @@ impl<I: OverlayInt, A: Allocator + Clone> Overlay<I, A> {
         self.core.arrange(self.solver, &mut ())?;
         let hierarchy = self.extract_hierarchy(overlay_rule, fill_rule);
         self.core.set_failed(hierarchy.is_err());
-        hierarchy
+        Ok(hierarchy?)
     }
 
     // The shapes round the region of the arranged edges, and their links. The buffer is there afterwards.
@@ -61,7 +61,7 @@ impl<I: OverlayInt, A: Allocator + Clone> Overlay<I, A> {
         &mut self,
         overlay_rule: OverlayRule,
         fill_rule: FillRule,
-    ) -> Result<FlatShapeHierarchy<I, A>, OverlayError>
+    ) -> Result<FlatShapeHierarchy<I, A>, AllocError>
         requires usable { self.old.failed ≡ false }
         requires ascending { IsAscending self.old.edges }
         requires settled { IsSettled self.old.edges }
@@ -73,7 +73,6 @@ impl<I: OverlayInt, A: Allocator + Clone> Overlay<I, A> {
             (λ h. AreShapesPacked h.shapes.points.items h.shapes.contour_ranges.items h.shapes.shape_ranges.items) }
         ensures kept { self.new ≡ record self.old { boolean_buffer = self.new.boolean_buffer } }
         ensures buffer { OnOk result (self.new.boolean_buffer ≡ Some tt) }
-        ensures err { IsOkUnless result OverlayError.Memory }
     {
         let graph = self.graph_filled_by(fill_rule)?;
         let mut buffer = BooleanExtractionBuffer::taken_from(

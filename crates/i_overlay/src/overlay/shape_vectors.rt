@@ -1,6 +1,6 @@
 //! The region of an overlay as shapes of edges with their filled sides.
 
-ghost use Rattle.std.specs.Prelude.{◌≡◌, false, Some, IfOk, OnOk, IsOkUnless};
+ghost use Rattle.std.specs.Prelude.{◌≡◌, false, Some, IfOk, OnOk};
 ghost use Rattle.overlay_geom.specs.Settled.{IsSettled};
 ghost use Rattle.overlay_order.specs.Content.{IsAscending};
 ghost use Rattle.overlay_extract.specs.GivenRegion.{WindsRoundGiven};
@@ -17,7 +17,7 @@ use overlay_geom::overlay_rule::OverlayRule;
 use overlay_vector::path::VectorShape;
 use overlay_vector::vector_shapes::vector_shapes;
 use overlay_walk::buffer::BooleanExtractionBuffer;
-use std::alloc::Allocator;
+use std::alloc::{AllocError, Allocator};
 
 impl<I: OverlayInt, A: Allocator + Clone> Overlay<I, A> {
     /// Splits the edges where they meet, as `build_separate_vectors` does, and gives the contours round the region
@@ -46,7 +46,7 @@ impl<I: OverlayInt, A: Allocator + Clone> Overlay<I, A> {
         self.core.arrange(self.solver, &mut ())?;
         let shapes = self.extract_shape_vectors(fill_rule, overlay_rule);
         self.core.set_failed(shapes.is_err());
-        shapes
+        Ok(shapes?)
     }
 
     // The shapes round the region of the arranged edges, as edges. The buffer is there afterwards.
@@ -54,7 +54,7 @@ impl<I: OverlayInt, A: Allocator + Clone> Overlay<I, A> {
         &mut self,
         fill_rule: FillRule,
         overlay_rule: OverlayRule,
-    ) -> Result<Vec<VectorShape<I, A>, A>, OverlayError>
+    ) -> Result<Vec<VectorShape<I, A>, A>, AllocError>
         requires usable { self.old.failed ≡ false }
         requires ascending { IsAscending self.old.edges }
         requires settled { IsSettled self.old.edges }
@@ -63,7 +63,6 @@ impl<I: OverlayInt, A: Allocator + Clone> Overlay<I, A> {
             self.old.edges (plain_vector_shapes I.whole v.items)) }
         ensures kept { self.new ≡ record self.old { boolean_buffer = self.new.boolean_buffer } }
         ensures buffer { OnOk result (self.new.boolean_buffer ≡ Some tt) }
-        ensures err { IsOkUnless result OverlayError.Memory }
     {
         let graph = self.graph_filled_by(fill_rule)?;
         let mut buffer = BooleanExtractionBuffer::taken_from(
@@ -72,6 +71,6 @@ impl<I: OverlayInt, A: Allocator + Clone> Overlay<I, A> {
         )?;
         let shapes = vector_shapes(&graph, overlay_rule, self.options, &mut buffer, &mut ());
         self.boolean_buffer = Some(buffer);
-        Ok(shapes?)
+        shapes
     }
 }

@@ -2,7 +2,7 @@
 //! are the answer.
 
 ghost use Rattle.std.specs.Prelude.{◌≡◌, ◌↔◌, ◌∷◌, [], All, length, IsTrue, false, Some, None, option_map};
-ghost use Rattle.std.specs.Prelude.{IfOk, OnOk, IsOkUnless};
+ghost use Rattle.std.specs.Prelude.{IfOk, OnOk};
 ghost use Rattle.overlay_order.specs.Content.{IsAscending};
 ghost use Rattle.overlay_geom.specs.declared.options.ShapeType.TheVariants.{Subject};
 ghost use Rattle.overlay_geom.specs.Paths.{paths_of_shape, plain_shapes};
@@ -27,7 +27,7 @@ use overlay_geom::path::{IntContour, IntShapes};
 use overlay_geom::point::IntPoint;
 use overlay_geom::resource::IntShapeResource;
 use overlay_geom::resource::borrowed::BorrowedContours;
-use std::alloc::Allocator;
+use std::alloc::{AllocError, Allocator};
 
 impl<I: OverlayInt, A: Allocator + Clone> Overlay<I, A> {
     /// Drops the edges and mends a failed builder, adds the paths of the resource as the subject, and gives
@@ -104,7 +104,7 @@ impl<I: OverlayInt, A: Allocator + Clone> Overlay<I, A> {
         let outcome = self.outcome_alone(contour, fill_rule)?;
         let answer = self.answer(contour, fill_rule, outcome);
         self.core.set_failed(answer.is_err());
-        answer
+        Ok(answer?)
     }
 
     /// Drops the edges and mends a failed builder, adds the contours of the shape as the subject, and gives the
@@ -176,7 +176,7 @@ impl<I: OverlayInt, A: Allocator + Clone> Overlay<I, A> {
         let outcome = self.outcome_alone(contour, fill_rule)?;
         let shapes = self.left(contour, fill_rule, outcome);
         self.core.set_failed(shapes.is_err());
-        shapes
+        Ok(shapes?)
     }
 
     // The answer for a contour of which this becomes: `None` where it stays as it is given. The buffer is
@@ -186,7 +186,7 @@ impl<I: OverlayInt, A: Allocator + Clone> Overlay<I, A> {
         contour: &[IntPoint<I>],
         fill_rule: FillRule,
         outcome: Outcome,
-    ) -> Result<Option<IntShapes<I, A>>, OverlayError>
+    ) -> Result<Option<IntShapes<I, A>>, AllocError>
         requires usable { self.old.failed ≡ false }
         requires ascending { IsAscending self.old.edges }
         requires settled { IsSettled self.old.edges }
@@ -198,7 +198,6 @@ impl<I: OverlayInt, A: Allocator + Clone> Overlay<I, A> {
         ensures as_given { IfOk result (λ o. (o ≡ None) ↔ (outcome ≡ Outcome.AsGiven)) }
         ensures kept { self.new ≡ record self.old { boolean_buffer = self.new.boolean_buffer } }
         ensures buffer { OnOk result (self.new.boolean_buffer ≡ Some tt) }
-        ensures err { IsOkUnless result OverlayError.Memory }
     {
         if outcome == Outcome::AsGiven {
             self.keep_buffer()?;
@@ -213,7 +212,7 @@ impl<I: OverlayInt, A: Allocator + Clone> Overlay<I, A> {
         contour: &[IntPoint<I>],
         fill_rule: FillRule,
         outcome: Outcome,
-    ) -> Result<IntShapes<I, A>, OverlayError>
+    ) -> Result<IntShapes<I, A>, AllocError>
         requires usable { self.old.failed ≡ false }
         requires ascending { IsAscending self.old.edges }
         requires settled { IsSettled self.old.edges }
@@ -222,12 +221,11 @@ impl<I: OverlayInt, A: Allocator + Clone> Overlay<I, A> {
             (plain_points I.whole contour.now) self.old.edges (plain_shapes I.whole v.items)) }
         ensures kept { self.new ≡ record self.old { boolean_buffer = self.new.boolean_buffer } }
         ensures buffer { OnOk result (self.new.boolean_buffer ≡ Some tt) }
-        ensures err { IsOkUnless result OverlayError.Memory }
     {
         if outcome == Outcome::NotSimple {
             return self.extract(OverlayRule::Subject, fill_rule);
         }
         self.keep_buffer()?;
-        Ok(shapes_left(self.core.content().allocator().clone()?, contour, outcome)?)
+        shapes_left(self.core.content().allocator().clone()?, contour, outcome)
     }
 }

@@ -1,6 +1,6 @@
 //! Contours in one list that are simplified where they stand.
 
-ghost use Rattle.std.specs.Prelude.{◌≡◌, ◌≢◌, [], All, length, false, Some, IfOk, OnOk, OnErr, IsOkUnless};
+ghost use Rattle.std.specs.Prelude.{◌≡◌, ◌≢◌, [], All, length, false, Some, IfOk, OnOk, OnErr};
 ghost use Rattle.overlay_order.specs.Content.{IsAscending};
 ghost use Rattle.overlay_geom.specs.declared.options.ShapeType.TheVariants.{Subject};
 ghost use Rattle.overlay_geom.specs.Flat.{part_in, first_range, paths_in};
@@ -23,7 +23,7 @@ use overlay_geom::fill_rule::FillRule;
 use overlay_geom::flat::contours::FlatContoursBuffer;
 use overlay_geom::integer::OverlayInt;
 use overlay_geom::overlay_rule::OverlayRule;
-use std::alloc::Allocator;
+use std::alloc::{AllocError, Allocator};
 
 impl<I: OverlayInt, A: Allocator + Clone> Overlay<I, A> {
     /// Drops the edges and mends a failed builder, adds the contours of the buffer as the subject, and leaves
@@ -78,7 +78,7 @@ impl<I: OverlayInt, A: Allocator + Clone> Overlay<I, A> {
         let outcome = self.outcome_of_contours(flat_buffer, fill_rule)?;
         let left = self.leave_contours(flat_buffer, fill_rule, outcome);
         self.core.set_failed(left.is_err());
-        left
+        Ok(left?)
     }
 
     // Holds the contours alone, arranged, and tells what becomes of them.
@@ -110,7 +110,7 @@ impl<I: OverlayInt, A: Allocator + Clone> Overlay<I, A> {
         contours: &mut FlatContoursBuffer<I, B>,
         fill_rule: FillRule,
         outcome: Outcome,
-    ) -> Result<(), OverlayError>
+    ) -> Result<(), AllocError>
         requires usable { self.old.failed ≡ false }
         requires ascending { IsAscending self.old.edges }
         requires settled { IsSettled self.old.edges }
@@ -130,7 +130,6 @@ impl<I: OverlayInt, A: Allocator + Clone> Overlay<I, A> {
             contours.old.ranges.items contours.new.ranges.items) }
         ensures kept { self.new ≡ record self.old { boolean_buffer = self.new.boolean_buffer } }
         ensures buffer { OnOk result (self.new.boolean_buffer ≡ Some tt) }
-        ensures err { IsOkUnless result OverlayError.Memory }
     {
         if outcome == Outcome::NotSimple {
             emptied(contours);

@@ -26,9 +26,21 @@ use overlay_order::data::CountWithData;
 use overlay_walk::points_once::has_each_point_once;
 use std::alloc::{AllocError, Allocator};
 
+/// How a contour is simplified.
+#[derive(Clone, Copy)]
+pub struct Simplifying {
+    /// How its edges are split.
+    pub solver: Solver,
+    /// Whether its points on one line stay, or are dropped first.
+    pub keeps_points: bool,
+    /// What it fills.
+    pub fill_rule: FillRule,
+    /// The direction in which outlines run.
+    pub output_direction: ContourDirection,
+}
+
 /// Drops what the core holds and mends it, adds the contour as the subject's, and brings it into an arrangement by the
-/// solver. The answer tells what becomes of the contour where it is simplified. Points on one line stay, or are dropped
-/// first. The points are in the coordinate range.
+/// solver. The answer tells what becomes of the contour where it is simplified. The points are in the coordinate range.
 ///
 /// It is simple where no point of it was left out in adding, none of its edges was cut, no point is visited
 /// twice, and some edge is left: whether it is does not depend on the solver.
@@ -37,27 +49,17 @@ use std::alloc::{AllocError, Allocator};
 /// and `Memory`.
 pub fn outcome_of_contour<I: IntNumber, A: Allocator + Clone>(
     core: &mut BuilderCore<I, CountWithData<()>, A>,
-    solver: Solver,
     contour: &[IntPoint<I>],
-    keeps_points: bool,
-    fill_rule: FillRule,
-    output_direction: ContourDirection,
+    asked: Simplifying,
 ) -> Result<Outcome, OverlayError>
     requires { AllInRange I.limit (plain_points I.whole contour.now) }
-    ensures alone { AnswersAlone I.limit solver keeps_points
+    ensures alone { AnswersAlone I.limit asked.solver asked.keeps_points
         (paths_for Subject (plain_points I.whole contour.now ∷ [])) (plain_held core.new) result }
-    ensures outcome { IfOk result (IsOutcome keeps_points fill_rule output_direction
+    ensures outcome { IfOk result (IsOutcome asked.keeps_points asked.fill_rule asked.output_direction
         (plain_points I.whole contour.now) (edges_in core.new.edges)) }
 {
     core.clear();
-    let outcome = add_and_test(
-        core,
-        solver,
-        contour,
-        keeps_points,
-        fill_rule,
-        output_direction,
-    );
+    let outcome = add_and_test(core, contour, asked);
     core.set_failed(outcome.is_err());
     outcome
 }
@@ -65,29 +67,27 @@ pub fn outcome_of_contour<I: IntNumber, A: Allocator + Clone>(
 // Adds the contour to nothing, brings it into an arrangement, and tests it.
 fn add_and_test<I: IntNumber, A: Allocator + Clone>(
     core: &mut BuilderCore<I, CountWithData<()>, A>,
-    solver: Solver,
     contour: &[IntPoint<I>],
-    keeps_points: bool,
-    fill_rule: FillRule,
-    output_direction: ContourDirection,
+    asked: Simplifying,
 ) -> Result<Outcome, OverlayError>
     requires nothing { core.old ≡ nothing_held }
     requires points { AllInRange I.limit (plain_points I.whole contour.now) }
-    ensures arranged { OnOk result (IsArrangedAlone keeps_points solver
+    ensures arranged { OnOk result (IsArrangedAlone asked.keeps_points asked.solver
         (paths_for Subject (plain_points I.whole contour.now ∷ [])) (edges_in core.new.edges)) }
     ensures content { OnOk result (IsContent I.limit (edges_in core.new.edges)) }
-    ensures outcome { IfOk result (IsOutcome keeps_points fill_rule output_direction
+    ensures outcome { IfOk result (IsOutcome asked.keeps_points asked.fill_rule asked.output_direction
         (plain_points I.whole contour.now) (edges_in core.new.edges)) }
-    ensures err { IfErr result (MayRefuseAlone keeps_points solver
+    ensures err { IfErr result (MayRefuseAlone asked.keeps_points asked.solver
         (paths_for Subject (plain_points I.whole contour.now ∷ []))) }
 {
-    let kind = contour_kind(keeps_points);
+    let kind = contour_kind(asked.keeps_points);
     let passing = passing_without_data(ShapeType::Subject);
     let leaves_out = core.add_path(contour, kind, passing)?;
-    let is_cut = core.arrange(solver, &mut ())?;
+    let is_cut = core.arrange(asked.solver, &mut ())?;
     let is_whole = !leaves_out && !is_cut;
     if is_whole && visits_each_once(core, contour)? {
-        return Ok(outcome_of(fill_rule, output_direction, direction_of(contour)));
+        let direction = direction_of(contour);
+        return Ok(outcome_of(asked.fill_rule, asked.output_direction, direction));
     }
     Ok(Outcome::NotSimple)
 }

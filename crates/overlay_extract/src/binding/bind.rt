@@ -1,21 +1,13 @@
 //! Binding: the shape that each hole belongs to.
 
-ghost use Rattle.std.specs.Prelude.{◌≡◌, false, length, map, All, AllPairs, Some, IfOk};
-ghost use Rattle.overlay_geom.specs.Plane.{edge_of, edge_eq};
-ghost use Rattle.overlay_geom.specs.Settled.{IsSettledBy};
-ghost use Rattle.overlay_plane.specs.Anchors.{HasEachEdgeOnce};
-ghost use Rattle.overlay_plane.specs.Binding.{all_filled_above};
+ghost use Rattle.std.specs.Prelude.{◌≡◌, length, All, Some, IfOk};
 ghost use Rattle.overlay_plane.specs.BoundContours.{walks_in, AreShapesFound};
-ghost use Rattle.overlay_plane.specs.Contours.{IsContour, all_steps};
 ghost use Rattle.overlay_plane.specs.KeptContours.{CanBeBound};
 ghost use Rattle.overlay_scan.specs.Scan.{empty_sweep};
-ghost use Rattle.overlay_walk.specs.GroupedContours.{plain_contours, walk_of};
-ghost use Rattle.overlay_extract.specs.Parents.{HasShapeNumber};
+ghost use Rattle.overlay_walk.specs.GroupedContours.{plain_contours};
 ghost use Rattle.overlay_walk.specs.Steps.{filled_hand, IsLong};
-ghost use Rattle.overlay_extract.specs.Sides.{hand_on_side};
 
 use crate::binding::known_shapes::{shape_count, shapes_known};
-use crate::binding::side::EdgeSide;
 use crate::binding::sweep::parents_by_sweep;
 use overlay_geom::number::IntNumber;
 use overlay_geom::options::ContourDirection;
@@ -76,55 +68,6 @@ pub fn bind_contours<I: IntNumber, A: Allocator + Clone, S: Scan<I, usize>>(
         return all_in_first(alloc, contours.len());
     }
     let known = shapes_known(alloc.clone()?, contours)?;
-    let shapes = find_shapes(alloc, scan, contours, &known, direction, EdgeSide::Above)?;
+    let shapes = parents_by_sweep(alloc, scan, contours, &known, direction)?;
     Ok(shapes)
-}
-
-/// Returns a list with a number, or None, for each contour. Contours with a known shape have their number in `known`;
-/// their entries are left open. Each other contour takes the number that is known of, or found for, the contour with
-/// the next edge below its anchor. Only edges filled on the side count. The entry is None if there is no such edge, or
-/// if none is found for that contour.
-///
-/// With `EdgeSide::Above` holes find their parents. With `EdgeSide::Below`, and the holes' places as known, an island
-/// finds the hole round it. The contours are as for [`bind_contours`].
-pub(crate) fn find_shapes<I: IntNumber, A: Allocator + Clone, S: Scan<I, usize>>(
-    alloc: A,
-    scan: &mut S,
-    contours: &[Contour<I, A>],
-    known: &[Option<usize>],
-    direction: ContourDirection,
-    side: EdgeSide,
-) -> Result<Vec<Option<usize>, A>, AllocError>
-    requires long { All (All (IsLong I.limit)) (map (walk_of I.whole) contours.now) }
-    requires contours { All IsContour (map (walk_of I.whole) contours.now) }
-    requires single { All HasEachEdgeOnce (map (walk_of I.whole) contours.now) }
-    requires distinct { AllPairs (λ e f. edge_eq e f ≡ false) (all_filled_above
-        (hand_on_side side (filled_hand direction)) (map (walk_of I.whole) contours.now)) }
-    requires settled { IsSettledBy edge_of (all_steps (map (walk_of I.whole) contours.now)) }
-    requires known { length known.now ≡ length contours.now }
-    requires empty { S.content scan.old ≡ empty_sweep }
-    ensures counted { IfOk result (λ v. length v.items ≡ length contours.now) }
-    ensures numbers { IfOk result (λ v. (n : _) → HasShapeNumber
-        (hand_on_side side (filled_hand direction))
-        (map (walk_of I.whole) contours.now) known.now v.items n) }
-{
-    parents_by_sweep(
-        alloc,
-        scan,
-        contours,
-        known,
-        filled_above_as(direction, side),
-    )
-}
-
-/// Returns the direction of contours whose filled-above edges are those filled on the side, for contours in
-/// `direction`.
-fn filled_above_as(direction: ContourDirection, side: EdgeSide) -> ContourDirection
-    ensures { filled_hand result ≡ hand_on_side side (filled_hand direction) }
-{
-    match (side, direction) {
-        (EdgeSide::Above, direction) => direction,
-        (EdgeSide::Below, ContourDirection::CounterClockwise) => ContourDirection::Clockwise,
-        (EdgeSide::Below, ContourDirection::Clockwise) => ContourDirection::CounterClockwise,
-    }
 }

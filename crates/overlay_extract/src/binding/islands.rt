@@ -4,13 +4,13 @@ ghost use Rattle.std.specs.Prelude.{◌≡◌, length, All, IfOk};
 ghost use Rattle.overlay_plane.specs.BoundContours.{walks_in};
 ghost use Rattle.overlay_plane.specs.Islands.{hole_places, AreHolesRound};
 ghost use Rattle.overlay_plane.specs.KeptContours.{CanBeBound};
+ghost use Rattle.overlay_plane.specs.Turn.{other_hand};
 ghost use Rattle.overlay_scan.specs.Scan.{empty_sweep};
 ghost use Rattle.overlay_walk.specs.GroupedContours.{plain_contours};
 ghost use Rattle.overlay_extract.specs.HolePlaces.{at_outlines};
 ghost use Rattle.overlay_walk.specs.Steps.{filled_hand, IsLong};
 
-use crate::binding::bind::find_shapes;
-use crate::binding::side::EdgeSide;
+use crate::binding::sweep::parents_by_sweep;
 use overlay_geom::number::IntNumber;
 use overlay_geom::options::ContourDirection;
 use overlay_scan::scan::Scan;
@@ -37,15 +37,19 @@ pub fn holes_round<I: IntNumber, A: Allocator + Clone, S: Scan<I, usize>>(
         (λ v. AreHolesRound (filled_hand direction) (plain_contours I.whole contours.now) v.items) }
 {
     let places = hole_places(alloc.clone()?, contours)?;
-    let found = find_shapes(
-        alloc.clone()?,
-        scan,
-        contours,
-        &places,
-        direction,
-        EdgeSide::Below,
-    )?;
+    let below = other_direction(direction);
+    let found = parents_by_sweep(alloc.clone()?, scan, contours, &places, below)?;
     at_outlines(alloc, contours, &found)
+}
+
+// Returns the direction of contours whose filled-above edges are the filled-below edges of those in `direction`.
+fn other_direction(direction: ContourDirection) -> ContourDirection
+    ensures { filled_hand result ≡ other_hand (filled_hand direction) }
+{
+    match direction {
+        ContourDirection::CounterClockwise => ContourDirection::Clockwise,
+        ContourDirection::Clockwise => ContourDirection::CounterClockwise,
+    }
 }
 
 /// Returns for each contour its place if it is a hole, or None if it is an outline.

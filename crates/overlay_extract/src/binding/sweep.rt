@@ -26,7 +26,11 @@ use overlay_walk::numbered_edge::NumberedEdge;
 use std::alloc::{AllocError, Allocator};
 
 /// Returns for each walk whose shape is not known (`known` has None there) the number of the shape found for it by its
-/// next filled-above edge, if there is one. The scan is empty at first; its content afterwards is left open.
+/// next filled-above edge, if there is one. That is the number that is known of, or found for, the walk with that edge.
+/// The entries of other walks are left open. The scan is empty at first; its content afterwards is left open.
+///
+/// In the contours' direction holes find their parents. In the other direction, with the holes' places as known, an
+/// island finds the hole round it.
 pub(crate) fn parents_by_sweep<I: IntNumber, A: Allocator + Clone, S: Scan<I, usize>>(
     alloc: A,
     scan: &mut S,

@@ -1,6 +1,6 @@
 //! Strings, clipped by the shape.
 
-ghost use Rattle.std.specs.Prelude.{◌≡◌, ◌⊎◌, ◌↔◌, true, IfOk, IfErr, IsErrOf, IsOkUnless};
+ghost use Rattle.std.specs.Prelude.{◌≡◌, ◌⊎◌, ◌↔◌, true, IfOk, IfErr, IsErrOf};
 ghost use Rattle.overlay_geom.specs.Flat.{paths_in};
 ghost use Rattle.overlay_geom.specs.Packed.{IsPacked};
 ghost use Rattle.overlay_geom.specs.Paths.{paths_of_shape};
@@ -89,16 +89,15 @@ impl<I: OverlayInt, A: Allocator + Clone> StringOverlay<I, A> {
     }
 }
 
-// Returns the paths of the pieces that a clip keeps of the graph's strings. The only refusal is `Memory`.
+// Returns the paths of the pieces that a clip keeps of the graph's strings.
 fn clipped<I: IntNumber, A: Allocator + Clone>(
     graph: &Graph<I, ShapeCountString, A>,
     rule: ClipRule,
-) -> Result<FlatContoursBuffer<I, A>, OverlayError>
+) -> Result<FlatContoursBuffer<I, A>, AllocError>
     ensures paths { IfOk result (λ b. ArePathsOf
         (clip_pieces graph.now.fill_rule rule (graph_edges graph.now))
         (paths_in I.whole b.points.items b.ranges.items)) }
     ensures packed { IfOk result (λ b. IsPacked b.points.items b.ranges.items) }
-    ensures only { IsOkUnless result OverlayError.Memory }
 {
     let kept = kept_pieces(graph, rule)?;
     let mut pieces = OpenPieces::new(kept)?;

@@ -1,6 +1,6 @@
 //! The contours of an answer, as shapes of edges with data.
 
-ghost use Rattle.std.specs.Prelude.{◌≡◌, Some, IfOk, OnOk, IsErrOf, IsOkUnless};
+ghost use Rattle.std.specs.Prelude.{◌≡◌, Some, IfOk, OnOk, IsErrOf};
 ghost use Rattle.overlay_geom.specs.Settled.{IsSettled};
 ghost use Rattle.overlay_plane.specs.Balance.{HasBalancedCounts};
 ghost use Rattle.overlay_plane.specs.Carried.{edges_in};
@@ -22,7 +22,7 @@ use overlay_geom::integer::OverlayInt;
 use overlay_geom::overlay_rule::OverlayRule;
 use overlay_order::data::OverlayEdgeData;
 use overlay_walk::buffer::BooleanExtractionBuffer;
-use std::alloc::Allocator;
+use std::alloc::{AllocError, Allocator};
 
 impl<I: OverlayInt, D: OverlayEdgeData, A: Allocator + Clone> EdgeOverlay<I, D, A> {
     /// Splits the edges where they meet, as `build_vectors` does, and gives the contours round the region of
@@ -75,7 +75,7 @@ impl<I: OverlayInt, D: OverlayEdgeData, A: Allocator + Clone> EdgeOverlay<I, D, 
         self.core.arrange(self.solver, &mut self.store)?;
         let shapes = self.extract(overlay_rule, fill_rule);
         self.core.set_failed(shapes.is_err());
-        shapes
+        Ok(shapes?)
     }
 
     // The shapes round the region of the arranged edges. The buffer is there afterwards.
@@ -84,7 +84,7 @@ impl<I: OverlayInt, D: OverlayEdgeData, A: Allocator + Clone> EdgeOverlay<I, D, 
         &mut self,
         overlay_rule: OverlayRule,
         fill_rule: FillRule,
-    ) -> Result<Vec<DataVectorShape<I, D, A>, A>, OverlayError>
+    ) -> Result<Vec<DataVectorShape<I, D, A>, A>, AllocError>
         requires balanced { HasBalancedCounts (edges_in self.old.edges) }
         requires ascending { IsAscending (edges_in self.old.edges) }
         requires settled { IsSettled (edges_in self.old.edges) }
@@ -97,7 +97,6 @@ impl<I: OverlayInt, D: OverlayEdgeData, A: Allocator + Clone> EdgeOverlay<I, D, 
           store = self.new.store;
         } }
         ensures buffer { OnOk result (self.new.boolean_buffer ≡ Some tt) }
-        ensures err { IsOkUnless result OverlayError.Memory }
     {
         let graph = self.core.content().graph(fill_rule)?;
         let mut buffer = BooleanExtractionBuffer::taken_from(
@@ -112,6 +111,6 @@ impl<I: OverlayInt, D: OverlayEdgeData, A: Allocator + Clone> EdgeOverlay<I, D, 
             &mut self.store,
         );
         self.boolean_buffer = Some(buffer);
-        Ok(shapes?)
+        shapes
     }
 }

@@ -38,6 +38,6 @@ loop-walk-preserved g c =
     (sym (walks_more whole c.args.walks.now c.loop-walk.walk-index c.walk-item.result c.loop-walk-test.true
     c.walk-item.is))
     (subst (λ ps. Show whole keep (before ++ w ∷ []) ps c.add_contour.new.self.ranges.items)
-    (sym c.in_ok-add_contour.ensures.points)
-    (subst (λ rs. Show whole keep (before ++ w ∷ []) (points ++ contour) rs) (sym c.in_ok-add_contour.ensures.ranges)
+    (sym c.in-Ok.ensures.points)
+    (subst (λ rs. Show whole keep (before ++ w ∷ []) (points ++ contour) rs) (sym c.in-Ok.ensures.ranges)
     (show_more whole keep before w points contour ranges c.loop-walk.invariant taken)))

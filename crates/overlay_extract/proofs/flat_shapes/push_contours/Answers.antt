@@ -1,5 +1,5 @@
 -- A further contour for a further place.
-use Rattle.std.proofs.Common.{◌∷◌, ◌++◌, [], ◌+◌, ◌<◌, map, take, length, All, sym, ap, ap₂, ◌∙◌, subst}
+use Rattle.std.proofs.Common.{◌∷◌, ◌++◌, [], ◌+◌, ◌<◌, map, take, length, All, refl, sym, ap, ap₂, ◌∙◌, subst}
 use Rattle.std.proofs.Common.{arith}
 use Rattle.std.proofs.lemmas.List.{length-map, map-append}
 use Rattle.overlay_geom.proofs.Mapped.{read_mapped}
@@ -15,8 +15,11 @@ use Rattle.overlay_extract.proofs.TakenBehind.{none_taken, one_taken}
 use Rattle.overlay_extract.proofs.flat_shapes.push_contours.Goals as goal
 
 pub loop-i-init : goal.loop-i-init
-loop-i-init g c =
-    none_taken g.I.IntNumber.whole c.args.keeps_points c.args.points.now.items c.args.ranges.now.items
+loop-i-init g c = record {
+  taken = none_taken g.I.IntNumber.whole c.args.keeps_points c.args.flat.now.points.items
+      c.args.flat.now.contour_ranges.items;
+  same_shapes = refl;
+}
 
 pub push_points-requires : goal.push_points-requires
 push_points-requires g c =
@@ -54,20 +57,25 @@ loop-i-preserved g c =
     let walk = walk_there cs place (plain x) inside
     (read_mapped plain c.args.contours.now place x (plain x) (omega (arith, inside, long)) c.index-contours-place.is) in
     let before = take i places in
-    let points = c.loop-i.points.items in
+    let points = c.loop-i.flat.points.items in
     let new = c.push_points.new.points.items in
     let taken : IsTakenBehind whole keep (points_of (walk_at cs place)) points new =
     subst (λ w. IsTakenBehind whole keep (points_of w) points new) (sym walk)
     (subst (λ ss. IsTakenBehind whole keep (points_of (plain_steps whole ss)) points new)
     (c.deref.ensures.value ∙ ap (λ (y : _). y.steps.items) (sym c.index-contours-place.is))
     c.in_ok-push_points.ensures.taken) in
-    let more = c.in_ok-push.ensures.items ∙ ap₂ (λ a b. c.loop-i.ranges.items ++ (record { start = a; end = b }) ∷ [])
-    (c.len-start.ensures ∙ c.loop-i.points.ok.0) (c.len.ensures ∙ c.push_points.new.points.ok.0) in
-    subst (λ given. AreTakenBehind whole keep given c.args.points.now.items c.args.ranges.now.items new
-    c.push.new.self.items)
-    (sym (ap (λ ps. map points_of (map (walk_at cs) ps)) (place_behind places i place c.place-place.ensures here)
-    ∙ ap (map points_of) (map-append (walk_at cs) before (place ∷ []))
-    ∙ map-append points_of (map (walk_at cs) before) (walk_at cs place ∷ [])))
-    (one_taken whole keep c.args.points.now.items c.args.ranges.now.items (map points_of (map (walk_at cs) before))
-    (points_of (walk_at cs place)) points new c.loop-i.ranges.items c.push.new.self.items taken more
-    c.loop-i.invariant)
+    let ranges = c.loop-i.flat.contour_ranges.items in
+    let more = c.in_ok-push.ensures.items ∙ ap₂ (λ a b. ranges ++ (record { start = a; end = b }) ∷ [])
+    (c.len-start.ensures ∙ c.loop-i.flat.points.ok.0) (c.len.ensures ∙ c.push_points.new.points.ok.0) in
+    let old = c.args.flat.now in
+    record {
+      taken = subst (λ given. AreTakenBehind whole keep given old.points.items old.contour_ranges.items new
+          c.push.new.self.items)
+          (sym (ap (λ ps. map points_of (map (walk_at cs) ps)) (place_behind places i place c.place-place.ensures here)
+          ∙ ap (map points_of) (map-append (walk_at cs) before (place ∷ []))
+          ∙ map-append points_of (map (walk_at cs) before) (walk_at cs place ∷ [])))
+          (one_taken whole keep old.points.items old.contour_ranges.items (map points_of (map (walk_at cs) before))
+          (points_of (walk_at cs place)) points new ranges c.push.new.self.items taken more
+          c.loop-i.invariant.taken);
+      same_shapes = c.loop-i.invariant.same_shapes;
+    }

@@ -121,7 +121,7 @@ returns-clause-hierarchy g c =
     (points_of_shapes (walks_at (plain_contours whole ds) (place_lists c.deref-2.result.now))) shapes)
     c.deref.ensures.value c.in_ok-shapes.ensures.shapes) in
     subst (λ ss. IsHierarchy q es ss links)
-    (sym (c.in_ok-shapes-2.ensures.shapes ∙ ap (plain_shapes whole) c.deref-6.ensures.value))
+    (sym (c.in-Ok.ensures.shapes ∙ ap (plain_shapes whole) c.deref-6.ensures.value))
     (hierarchy_shown q es cs places c.in_ok-placed.ensures.placed shapes shown links
     (subst (λ ds. AreLinks (filled_hand c.args.options.output_direction) ds links) same c.in_ok-links.ensures.links)
     c.in_ok-links.ensures.children)

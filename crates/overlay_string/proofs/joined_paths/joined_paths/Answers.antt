@@ -11,11 +11,11 @@ use Rattle.overlay_string.proofs.joined_paths.joined_paths.Goals as goal
 
 pub loop-piece-init : goal.loop-piece-init
 loop-piece-init g c =
-    let paths = c.in_ok-paths.paths in
-    let none = c.in_ok-paths.ensures in (
+    let points = c.new.result.items in
+    let ranges = c.new-2.result.items in (
       subst (AreJoinedSoFar c.args.pieces.now c.args.pieces.now)
-          (sym (ap (paths_in g.I.IntNumber.whole paths.points.items) none.ranges)) (none_joined c.args.pieces.now),
-      packed_none paths.points.items paths.ranges.items none.points none.ranges,
+          (sym (ap (paths_in g.I.IntNumber.whole points) c.new-2.ensures.items)) (none_joined c.args.pieces.now),
+      packed_none points ranges c.new.ensures.items c.new-2.ensures.items,
     )
 
 pub loop-piece-smaller : goal.loop-piece-smaller
@@ -31,7 +31,7 @@ loop-piece-preserved g c =
     let points = l.paths.points.items in
     let ranges = l.paths.ranges.items in
     let path = c.deref.result.now in
-    let added = c.in_ok-add_contour.ensures in
+    let added = c.in-Ok.ensures in
     let packed = l.invariant.1 in (
       one_more_joined c.args.pieces.now l.pieces c.take_first.new.self (paths_in whole points ranges) l.invariant.0
           (plain_piece whole c.in-Some.piece) c.in-Some.ensures c.write_path.new.pieces

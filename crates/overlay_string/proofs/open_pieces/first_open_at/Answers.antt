@@ -10,7 +10,8 @@ pub returns-clause-ok : goal.returns-clause-ok
 returns-clause-ok g c =
     let whole = g.I.IntNumber.whole in
     let pieces = c.args.pieces.now in
-    first_place_from whole c.args.way (plain_point whole c.args.point) (plain_pieces whole pieces) c.args.taken.now
+    let sought = c.args.sought in
+    first_place_from whole sought.way (plain_point whole sought.point) (plain_pieces whole pieces) c.args.taken.now
     (c.requires.marks ∙ sym (length-map pieces (plain_piece whole))) c.make_by_start.new.sorted.steps.items
     c.in_ok-make_by_start.ensures.ok c.first_open_from.result
     (rw (c.deref-2.ensures.value) at c.first_open_from.ensures)

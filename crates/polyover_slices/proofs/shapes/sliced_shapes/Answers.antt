@@ -23,9 +23,9 @@ returns-in-Some-clause-sliced g c =
     let view : IsStringView c.args.solver c.args.fill content graph = rw c.in-Some.is at c.in_ok-view.ensures.view in
     IfOk-weaker c.extract_shapes_custom.result _ _
     (λ v are. slices_along c.args.solver (asked width natural c.args.fill Subject options)
-    (shape_and_strings (paths_in whole c.args.shape.now.points.items c.args.shape.now.ranges.items)
-    (paths_in whole c.args.lines.now.points.items c.args.lines.now.ranges.items)) content (graph_edges graph)
-    c.in_ok-overlay.ensures.ok view.arranged view.some_edge (plain_shapes whole v.items)
+    (shape_and_strings (paths_in whole c.args.read.now.first.points.items c.args.read.now.first.ranges.items)
+    (paths_in whole c.args.read.now.second.points.items c.args.read.now.second.ranges.items)) content
+    (graph_edges graph) c.in_ok-overlay.ensures.ok view.arranged view.some_edge (plain_shapes whole v.items)
     (subst (λ fill. IsSliced width (natural options.min_output_area) fill options.output_direction (graph_edges graph)
     (plain_shapes whole v.items)) view.filled are))
     c.extract_shapes_custom.ensures.sliced
@@ -33,8 +33,8 @@ returns-in-Some-clause-sliced g c =
 pub returns-in-Some-clause-err : goal.returns-in-Some-clause-err
 returns-in-Some-clause-err g c =
     let whole = g.I.IntNumber.whole in
-    let paths = shape_and_strings (paths_in whole c.args.shape.now.points.items c.args.shape.now.ranges.items)
-    (paths_in whole c.args.lines.now.points.items c.args.lines.now.ranges.items) in
+    let paths = shape_and_strings (paths_in whole c.args.read.now.first.points.items c.args.read.now.first.ranges.items)
+    (paths_in whole c.args.read.now.second.points.items c.args.read.now.second.ranges.items) in
     IfErr-weaker c.extract_shapes_custom.result _ _
     (λ e is. subst (MayRefusePaths c.args.solver paths) (sym is) tt) c.extract_shapes_custom.ensures.err
 
@@ -43,7 +43,7 @@ returns-clause-sliced g c =
     let whole = g.I.IntNumber.whole in
     no_slices c.args.solver
     (asked g.I.Wide.WideIntNumber.width g.I.WideUInt.UIntNumber.natural c.args.fill Subject c.args.options)
-    (shape_and_strings (paths_in whole c.args.shape.now.points.items c.args.shape.now.ranges.items)
-    (paths_in whole c.args.lines.now.points.items c.args.lines.now.ranges.items)) c.in_ok-overlay.overlay.edges
-    c.in_ok-overlay.ensures.ok (rw c.in-None.is at c.in_ok-view.ensures.arranged)
+    (shape_and_strings (paths_in whole c.args.read.now.first.points.items c.args.read.now.first.ranges.items)
+    (paths_in whole c.args.read.now.second.points.items c.args.read.now.second.ranges.items))
+    c.in_ok-overlay.overlay.edges c.in_ok-overlay.ensures.ok (rw c.in-None.is at c.in_ok-view.ensures.arranged)
     (plain_shapes whole c.new.result.items) (ap (plain_shapes whole) c.new.ensures.items)

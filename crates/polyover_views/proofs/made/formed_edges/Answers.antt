@@ -11,7 +11,7 @@ pub returns : goal.returns
 returns g c =
     let whole = g.I.IntNumber.whole in
     let core = c.in_ok-core.ensures in
-    graph_made whole g.I.IntNumber.limit c.args.fill c.args.solver c.args.keep_given
+    graph_made whole g.I.IntNumber.limit c.args.numbers.fill c.args.numbers.solver c.args.numbers.keep_given
     (contours_of c.args.subject.now.coordinates.now c.args.subject.now.ends.now)
     (contours_of c.args.clip.now.coordinates.now c.args.clip.now.ends.now) c.in_ok-by.by c.in_ok-keep.keep _ _
     (edges_in c.in_ok-core.core.edges) (map g.E.FormOf.meant c.in_ok-edges.edges.items)

@@ -27,30 +27,30 @@ returns-then-shape_count-eq1 g c = record {
       c.all_in_first.ensures.ok;
 }
 
-pub find_shapes-requires-clause-long : goal.find_shapes-requires-clause-long
-find_shapes-requires-clause-long g c =
+pub parents_by_sweep-requires-clause-long : goal.parents_by_sweep-requires-clause-long
+parents_by_sweep-requires-clause-long g c =
     subst (All (All (IsLong g.I.IntNumber.limit))) (walks_alike g.I.IntNumber.whole c.args.contours.now) c.requires.long
 
-pub find_shapes-requires-clause-contours : goal.find_shapes-requires-clause-contours
-find_shapes-requires-clause-contours g c =
+pub parents_by_sweep-requires-clause-contours : goal.parents_by_sweep-requires-clause-contours
+parents_by_sweep-requires-clause-contours g c =
     subst (All IsContour) (walks_alike g.I.IntNumber.whole c.args.contours.now) c.requires.bindable.contours
 
-pub find_shapes-requires-clause-single : goal.find_shapes-requires-clause-single
-find_shapes-requires-clause-single g c =
+pub parents_by_sweep-requires-clause-single : goal.parents_by_sweep-requires-clause-single
+parents_by_sweep-requires-clause-single g c =
     subst (All HasEachEdgeOnce) (walks_alike g.I.IntNumber.whole c.args.contours.now) c.requires.bindable.single
 
-pub find_shapes-requires-clause-distinct : goal.find_shapes-requires-clause-distinct
-find_shapes-requires-clause-distinct g c =
+pub parents_by_sweep-requires-clause-distinct : goal.parents_by_sweep-requires-clause-distinct
+parents_by_sweep-requires-clause-distinct g c =
     subst (λ ws. AllPairs (λ e f. edge_eq e f ≡ false) (all_filled_above (filled_hand c.args.direction) ws))
     (walks_alike g.I.IntNumber.whole c.args.contours.now) c.requires.bindable.distinct_above
 
-pub find_shapes-requires-clause-settled : goal.find_shapes-requires-clause-settled
-find_shapes-requires-clause-settled g c =
+pub parents_by_sweep-requires-clause-settled : goal.parents_by_sweep-requires-clause-settled
+parents_by_sweep-requires-clause-settled g c =
     subst (λ ws. IsSettledBy edge_of (all_steps ws)) (walks_alike g.I.IntNumber.whole c.args.contours.now)
     c.requires.bindable.settled
 
-pub find_shapes-requires-clause-known : goal.find_shapes-requires-clause-known
-find_shapes-requires-clause-known g c =
+pub parents_by_sweep-requires-clause-known : goal.parents_by_sweep-requires-clause-known
+parents_by_sweep-requires-clause-known g c =
     let contours = plain_contours g.I.IntNumber.whole c.args.contours.now in
     ap length (c.deref.ensures.value ∙ c.in_ok-known.ensures.ok)
     ∙ length-map contours (λ (k : Contour). stands_in k.role)

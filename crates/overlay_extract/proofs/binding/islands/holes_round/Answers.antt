@@ -18,31 +18,33 @@ use Rattle.overlay_extract.proofs.HolesRound.{holes_found}
 use Rattle.overlay_extract.proofs.RolesRead.{walks_alike}
 use Rattle.overlay_extract.proofs.binding.islands.holes_round.Goals as goal
 
-pub find_shapes-requires-clause-long : goal.find_shapes-requires-clause-long
-find_shapes-requires-clause-long g c =
+pub parents_by_sweep-requires-clause-long : goal.parents_by_sweep-requires-clause-long
+parents_by_sweep-requires-clause-long g c =
     subst (All (All (IsLong g.I.IntNumber.limit))) (walks_alike g.I.IntNumber.whole c.args.contours.now) c.requires.long
 
-pub find_shapes-requires-clause-contours : goal.find_shapes-requires-clause-contours
-find_shapes-requires-clause-contours g c =
+pub parents_by_sweep-requires-clause-contours : goal.parents_by_sweep-requires-clause-contours
+parents_by_sweep-requires-clause-contours g c =
     subst (All IsContour) (walks_alike g.I.IntNumber.whole c.args.contours.now) c.requires.bindable.contours
 
-pub find_shapes-requires-clause-single : goal.find_shapes-requires-clause-single
-find_shapes-requires-clause-single g c =
+pub parents_by_sweep-requires-clause-single : goal.parents_by_sweep-requires-clause-single
+parents_by_sweep-requires-clause-single g c =
     subst (All HasEachEdgeOnce) (walks_alike g.I.IntNumber.whole c.args.contours.now) c.requires.bindable.single
 
-pub find_shapes-requires-clause-distinct : goal.find_shapes-requires-clause-distinct
-find_shapes-requires-clause-distinct g c =
-    subst (λ ws. AllPairs (λ e f. edge_eq e f ≡ false)
+pub parents_by_sweep-requires-clause-distinct : goal.parents_by_sweep-requires-clause-distinct
+parents_by_sweep-requires-clause-distinct g c =
+    let walks = map (walk_of g.I.IntNumber.whole) c.args.contours.now in
+    subst (λ h. AllPairs (λ e f. edge_eq e f ≡ false) (all_filled_above h walks)) (sym c.other_direction-below.ensures)
+    (subst (λ ws. AllPairs (λ e f. edge_eq e f ≡ false)
     (all_filled_above (other_hand (filled_hand c.args.direction)) ws))
-    (walks_alike g.I.IntNumber.whole c.args.contours.now) c.requires.bindable.distinct_below
+    (walks_alike g.I.IntNumber.whole c.args.contours.now) c.requires.bindable.distinct_below)
 
-pub find_shapes-requires-clause-settled : goal.find_shapes-requires-clause-settled
-find_shapes-requires-clause-settled g c =
+pub parents_by_sweep-requires-clause-settled : goal.parents_by_sweep-requires-clause-settled
+parents_by_sweep-requires-clause-settled g c =
     subst (λ ws. IsSettledBy edge_of (all_steps ws)) (walks_alike g.I.IntNumber.whole c.args.contours.now)
     c.requires.bindable.settled
 
-pub find_shapes-requires-clause-known : goal.find_shapes-requires-clause-known
-find_shapes-requires-clause-known g c =
+pub parents_by_sweep-requires-clause-known : goal.parents_by_sweep-requires-clause-known
+parents_by_sweep-requires-clause-known g c =
     let contours = plain_contours g.I.IntNumber.whole c.args.contours.now in
     ap length (c.deref.ensures.value ∙ c.in_ok-places.ensures.ok)
     ∙ places_counted 0 contours
@@ -62,7 +64,9 @@ returns g c = record {
       (λ n. subst (λ ws. HasShapeNumber (other_hand filled) ws (hole_places 0 contours) found n)
       (sym (walks_alike whole c.args.contours.now))
       (subst (λ known. HasShapeNumber (other_hand filled) (map (walk_of whole) c.args.contours.now) known found n)
-      (c.deref.ensures.value ∙ c.in_ok-places.ensures.ok) (c.in_ok-found.ensures.numbers n))) in
+      (c.deref.ensures.value ∙ c.in_ok-places.ensures.ok)
+      (subst (λ h. HasShapeNumber h (map (walk_of whole) c.args.contours.now) c.deref.result.now found n)
+      c.other_direction-below.ensures (c.in_ok-found.ensures.numbers n)))) in
       IfOk-weaker c.at_outlines.result _ (λ v. AreHolesRound filled contours v.items)
       (λ v is. subst (AreHolesRound filled contours) (sym (is ∙ ap (at_outlines contours) c.deref-2.ensures.value))
       round)

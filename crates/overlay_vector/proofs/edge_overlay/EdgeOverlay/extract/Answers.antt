@@ -28,9 +28,3 @@ returns-clause-store g c =
     let left = c.vector_shapes-shapes.new.store in
     subst (λ b. IsStoreReached g.D.OverlayEdgeData.writes b.store left) c.self.view_is
     c.vector_shapes-shapes.ensures.store
-
-pub returns-in_err-shapes-clause-store : goal.returns-in_err-shapes-clause-store
-returns-in_err-shapes-clause-store g c =
-    let left = c.vector_shapes-shapes.new.store in
-    subst (λ b. IsStoreReached g.D.OverlayEdgeData.writes b.store left) c.self.view_is
-    c.vector_shapes-shapes.ensures.store
