@@ -70,7 +70,7 @@ fn as_alone(rt: HostRuntime) -> Result<(), Fail> {
     let mut seed = 7;
     for (contours, corners, grid) in [
         (1, 200, 1000),
-        (1, 60, 12),
+        (1, 80, 12),
         (30, 3, 40),
         (40, 4, 7),
         (200, 3, 100_000),

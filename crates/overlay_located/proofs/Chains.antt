@@ -15,8 +15,8 @@ use Rattle.overlay_geom.specs.Plane.{Point, total}
 use Rattle.overlay_geom.proofs.Mapped.{read_mapped, mapped_more}
 use Rattle.overlay_geom.proofs.Signs.{linear}
 use Rattle.overlay_geom.proofs.Totals.{total-append}
-use Rattle.overlay_located.specs.Together.{Band, IsWithin, Spans, IsInSpan, IsUnder, IsUnderAt, Counted, edge_in}
-use Rattle.overlay_located.specs.Together.{edges_of, IsChain, HasChain}
+use Rattle.overlay_located.specs.Slabs.{Band, IsWithin, Spans}
+use Rattle.overlay_located.specs.Chains.{IsInSpan, IsUnder, IsUnderAt, Counted, edge_in, edges_of, IsChain, HasChain}
 use Rattle.overlay_located.specs.Tells.{Tells, nothing}
 use Rattle.overlay_located.proofs.TellsMore.{tells_same, tells_through, tells_behind, tells_permuted}
 

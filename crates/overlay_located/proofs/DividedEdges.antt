@@ -12,7 +12,8 @@ use Rattle.overlay_geom.specs.Plane.{Point, Edge, in_plane, side}
 use Rattle.overlay_geom.proofs.Signs.{linear}
 use Rattle.overlay_located.specs.Sectors.{spans_beside}
 use Rattle.overlay_located.specs.Tells.{PassesBy, Tells, nothing}
-use Rattle.overlay_located.specs.Together.{Band, IsWithin, Spans, IsBeside, AreDivided, HasChain, Counted, edges_of}
+use Rattle.overlay_located.specs.Slabs.{Band, IsWithin, Spans, IsBeside, AreDivided}
+use Rattle.overlay_located.specs.Chains.{HasChain, Counted, edges_of}
 use Rattle.overlay_located.specs.declared.flank.Flank.{Flank}
 use Rattle.overlay_located.proofs.NearTests.{spanned}
 use Rattle.overlay_located.proofs.TellsMore.{added, tells_on, tells_as, tells_before, tells_behind}

@@ -12,7 +12,7 @@ use Rattle.overlay_geom.proofs.Signs.{linear, mul-pos, mul-neg, mul-nonneg, mul-
 use Rattle.overlay_plane.proofs.Tests.{ge_from_test}
 use Rattle.overlay_order.specs.Content.{IsHeld}
 use Rattle.overlay_relate.proofs.ByEdge.{leads_right}
-use Rattle.overlay_located.specs.Together.{lift, IsInSpan, IsUnder, IsUnderAt, StartsUnder, EndsUnder}
+use Rattle.overlay_located.specs.Chains.{lift, IsInSpan, IsUnder, IsUnderAt, StartsUnder, EndsUnder}
 
 -- lift as it is written
 abbrev liftE : (ax ay bx by cx cy dx dy x y : Expr) → Expr

@@ -4,7 +4,7 @@ use Rattle.std.proofs.lemmas.Bool.{and_parts, both_ways}
 use Rattle.overlay_geom.specs.Edges.{CountedEdge}
 use Rattle.overlay_geom.specs.Plane.{Point}
 use Rattle.overlay_plane.proofs.Tests.{lt_from_test, ge_from_test}
-use Rattle.overlay_located.specs.Together.{Band, IsWithin, Spans, IsBeside, is_within, spans, is_beside}
+use Rattle.overlay_located.specs.Slabs.{Band, IsWithin, Spans, IsBeside, is_within, spans, is_beside}
 
 pub not_false : (t : Bool) → not t ≡ true → t ≡ false
 not_false true h = sym h

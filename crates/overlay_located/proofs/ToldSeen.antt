@@ -13,7 +13,7 @@ use Rattle.overlay_located.specs.Located.{LiesIn}
 use Rattle.overlay_located.specs.Sectors.{fills_sector, leads_from, is_low}
 use Rattle.overlay_located.specs.Seen.{location_of, has_seen, IsSeenOf, IsSeenUpTo, AddsFilling}
 use Rattle.overlay_located.specs.Tells.{near_sum, Tells}
-use Rattle.overlay_located.specs.Together.{Asked, sum_on, IsTold, SeesRay, SeesRays}
+use Rattle.overlay_located.specs.Queries.{Asked, sum_on, IsTold, SeesRay, SeesRays}
 use Rattle.overlay_located.specs.declared.flank.Flank.{Flank}
 use Rattle.overlay_located.specs.declared.flank.Flank.TheVariants.{Left, Right}
 use Rattle.overlay_located.specs.declared.seen.Seen.{Seen}

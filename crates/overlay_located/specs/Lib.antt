@@ -1,10 +1,12 @@
 pub mod Blocks
+pub mod Chains
 pub mod Few
 pub mod GivenShapes
 pub mod Laws
 pub mod Located
+pub mod Queries
 pub mod Rays
 pub mod Sectors
 pub mod Seen
+pub mod Slabs
 pub mod Tells
-pub mod Together

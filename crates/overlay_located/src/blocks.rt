@@ -1,6 +1,6 @@
 //! Blocks of counted edges that stand in a row, each with numbers between which its edges lie.
 
-ghost use Rattle.std.specs.Prelude.{◌≡◌, ◌<◌, ◌≤◌, ◌≤ℤ◌, int_lt, length, map, All, IfOk};
+ghost use Rattle.std.specs.Prelude.{◌≡◌, ◌<◌, ◌≤◌, ◌≤ℤ◌, length, map, All, IfOk};
 ghost use Rattle.overlay_geom.specs.Edges.{ends_of};
 ghost use Rattle.overlay_geom.specs.Points.{plain_point};
 ghost use Rattle.overlay_order.specs.Content.{plain_edge, plain_edges};
@@ -11,6 +11,7 @@ use overlay_geom::number::IntNumber;
 use overlay_geom::point::IntPoint;
 use overlay_order::count::EdgeCount;
 use overlay_order::edge::CountedEdge;
+use overlay_pairs::extents::is_less;
 use overlay_relate::blocks::Block;
 use overlay_relate::form::FormOf;
 use std::alloc::{AllocError, Allocator};
@@ -135,13 +136,6 @@ fn is_clear<I: IntNumber>(p: IntPoint<I>, block: Block<I>) -> bool
     ensures { result ≡ is_clear (plain_point I.whole p) (plain_block I.whole block) }
 {
     is_less(p.x, block.left) || is_less(block.right, p.x) || is_less(p.y, block.bottom)
-}
-
-/// Returns whether the first number is less than the second.
-pub(crate) fn is_less<I: IntNumber>(x: I, y: I) -> bool
-    ensures { result ≡ int_lt (I.whole x) (I.whole y) }
-{
-    x.compare(y).is_lt()
 }
 
 // Returns the lesser of two numbers.

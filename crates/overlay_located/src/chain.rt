@@ -3,10 +3,10 @@
 ghost use Rattle.std.specs.Prelude.{◌≡◌, ◌++◌, ◌∷◌, [], ◌≤◌, true, false, length, All, IfOk, IfSome};
 ghost use Rattle.overlay_geom.specs.Points.{plain_point};
 ghost use Rattle.overlay_order.specs.Content.{plain_edge};
-ghost use Rattle.overlay_located.specs.Together.{plain_query, plain_lines, plain_links, plain_slab, edges_of, Adds};
+ghost use Rattle.overlay_located.specs.Slabs.{plain_lines, plain_slab, Spans, IsWithin};
+ghost use Rattle.overlay_located.specs.Chains.{plain_links, edges_of, IsInSpan, IsChain, IsAmong, HasChain};
+ghost use Rattle.overlay_located.specs.Queries.{plain_query, Adds, IsOpen};
 ghost use Rattle.overlay_located.specs.Tells.{TellsWhere};
-ghost use Rattle.overlay_located.specs.Together.{Spans, IsWithin, IsInSpan, IsChain, IsAmong, HasChain};
-ghost use Rattle.overlay_located.specs.Together.{IsOpen};
 
 use crate::heights::is_under;
 use crate::line::Line;

@@ -8,13 +8,13 @@ ghost use Rattle.overlay_builder.specs.GivenPaths.{paths_for, added_paths};
 ghost use Rattle.overlay_builder.specs.PathLists.{MayRefuseBuilder};
 ghost use Rattle.overlay_relate.specs.Answers.{AnswersEach};
 ghost use Rattle.overlay_located.specs.GivenShapes.{IsShapeOf, TellsLocation};
-ghost use Rattle.overlay_located.specs.Together.{plain_query, IsTold};
+ghost use Rattle.overlay_located.specs.Queries.{plain_query, IsTold};
 ghost use Rattle.overlay_order.specs.Counts.{boolean_counts};
 
 use crate::blocks::{BLOCK, GROUP, blocks_over};
 use crate::located::{locate, locate_told};
 use crate::query::Query;
-use crate::together::told_of;
+use crate::together::{pays, told_of};
 use overlay_builder::boolean::passing;
 use overlay_builder::builder_core::BuilderCore;
 use overlay_builder::path::PathKind;
@@ -159,14 +159,29 @@ impl<I: OverlayInt, A: Allocator> ExactShape<I, A> {
 
 impl<I: OverlayInt, A: Allocator + Clone> ExactShape<I, A> {
     /// Writes where each of the points lies to its place in `out`, as `locate` tells it of each. There are as many
-    /// places as points. Many points are asked together (`together::told_of`), in memory that is given back. Where
-    /// memory is refused, each is asked alone.
+    /// places as points. Where that pays (`together::pays`), points are asked together, in memory that is given back.
+    /// Else, and where memory is refused, each is asked alone.
     pub fn locate_all(&self, points: &[IntPoint<I>], out: &mut [PointLocation])
         requires { length out.old ≡ length points.now }
         ensures { AnswersEach (λ v l. TellsLocation self.now (in_plane v) l) (plain_points I.whole points.now) out.new }
     {
-        let told = self.told(points);
+        let told = self.told_if_it_pays(points);
         self.locate_each(&told, points, out);
+    }
+
+    // Returns what the edges tell of each of the points, in their order, or of none.
+    fn told_if_it_pays(
+        &self,
+        points: &[IntPoint<I>],
+    ) -> Result<Vec<Query<I, ShapeCountBoolean>, A>, AllocError>
+        ensures { IfOk result (λ v. All (λ q. IsTold self.now.edges (plain_query I.whole boolean_counts q)) v.items) }
+    {
+        if pays(self.core.content().edges().len(), points.len()) {
+            self.told(points)
+        } else {
+            let alloc = self.blocks.allocator().clone()?;
+            Ok(Vec::new(alloc))
+        }
     }
 
     // Returns what the edges tell of each of the points, in their order.

@@ -3,7 +3,8 @@
 ghost use Rattle.std.specs.Prelude.{◌≡◌, true, false, map, All, IfOk};
 ghost use Rattle.std.specs.Ordering.{is_gt};
 ghost use Rattle.overlay_order.specs.Content.{plain_edge, plain_edges, IsHeld};
-ghost use Rattle.overlay_located.specs.Together.{IsUnder, StartsUnder, EndsUnder, plain_lines};
+ghost use Rattle.overlay_located.specs.Slabs.{plain_lines};
+ghost use Rattle.overlay_located.specs.Chains.{IsUnder, StartsUnder, EndsUnder};
 
 use crate::form::EdgeForm;
 use crate::line::Line;

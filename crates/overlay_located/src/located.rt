@@ -12,7 +12,7 @@ ghost use Rattle.overlay_located.specs.Located.{LiesIn};
 ghost use Rattle.overlay_located.specs.Rays.{plain_ray, IsRayHeld};
 ghost use Rattle.overlay_located.specs.Seen.{IsSeenUpTo, AddsFilling};
 ghost use Rattle.overlay_located.specs.Sectors.{fills_sector, leads_from};
-ghost use Rattle.overlay_located.specs.Together.{plain_query, IsTold};
+ghost use Rattle.overlay_located.specs.Queries.{plain_query, IsTold};
 
 use crate::blocks::passed_from;
 use crate::flank::Flank;

@@ -1,7 +1,8 @@
 //! A list of edges, divided by a slab: a chain of those that span it, and others.
 
 ghost use Rattle.std.specs.Prelude.{IfOk};
-ghost use Rattle.overlay_located.specs.Together.{plain_lines, plain_links, plain_slab, AreDivided, HasChain};
+ghost use Rattle.overlay_located.specs.Slabs.{plain_lines, plain_slab, AreDivided};
+ghost use Rattle.overlay_located.specs.Chains.{plain_links, HasChain};
 
 use crate::chain::{Link, chain_of};
 use crate::heights::compare_heights;

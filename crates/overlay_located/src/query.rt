@@ -4,7 +4,8 @@ ghost use Rattle.std.specs.Prelude.{◌≡◌, ◌∷◌, [], ◌^◌, ◌<◌, 
 ghost use Rattle.overlay_geom.specs.Numbers.{Within};
 ghost use Rattle.overlay_geom.specs.Points.{plain_point};
 ghost use Rattle.overlay_order.specs.Content.{plain_edge};
-ghost use Rattle.overlay_located.specs.Together.{plain_query, plain_lines, IsOpen, IsTold, Adds, AddsSums};
+ghost use Rattle.overlay_located.specs.Slabs.{plain_lines};
+ghost use Rattle.overlay_located.specs.Queries.{plain_query, IsOpen, IsTold, Adds, AddsSums};
 
 use crate::few::Few;
 use crate::flank::Flank;

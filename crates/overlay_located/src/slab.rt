@@ -3,13 +3,13 @@
 ghost use Rattle.std.specs.Prelude.{◌≡◌};
 ghost use Rattle.overlay_geom.specs.Points.{plain_point};
 ghost use Rattle.overlay_order.specs.Content.{plain_edge};
-ghost use Rattle.overlay_located.specs.Together.{plain_slab, is_within, spans, is_beside};
+ghost use Rattle.overlay_located.specs.Slabs.{plain_slab, is_within, spans, is_beside};
 
-use crate::blocks::is_less;
 use overlay_geom::number::IntNumber;
 use overlay_geom::point::IntPoint;
 use overlay_order::count::EdgeCount;
 use overlay_order::edge::CountedEdge;
+use overlay_pairs::extents::is_less;
 
 /// The points with x-coordinates between two numbers.
 #[derive(Clone, Copy)]

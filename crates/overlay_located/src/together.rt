@@ -2,7 +2,8 @@
 
 ghost use Rattle.std.specs.Prelude.{map, All, IfOk};
 ghost use Rattle.overlay_order.specs.Content.{plain_edges, IsContent};
-ghost use Rattle.overlay_located.specs.Together.{plain_query, plain_lines, IsOpen, IsTold};
+ghost use Rattle.overlay_located.specs.Slabs.{plain_lines};
+ghost use Rattle.overlay_located.specs.Queries.{plain_query, IsOpen, IsTold};
 
 use crate::chain::with_chain;
 use crate::form::EdgeForm;
@@ -16,8 +17,21 @@ use overlay_geom::point::IntPoint;
 use overlay_order::count::EdgeCount;
 use std::alloc::{AllocError, Allocator};
 
-// Greatest number of points, or of edges, that are asked one by one.
+// Greatest number of points, or of edges, that are asked one by one in a half.
 const FEW: usize = 8;
+
+// Least number of points, and of edges, that pay.
+const MANY: usize = 64;
+
+// Greatest number of edges for each point that pays. Where there are more, points are asked alone in less time, as
+// blocks of edges are passed over.
+const EDGES_A_POINT: usize = 32;
+
+/// Returns whether points are asked together in less time than alone: from 64 points and 64 edges on, where there are
+/// at most 32 edges for each point.
+pub fn pays(edges: usize, points: usize) -> bool {
+    MANY <= edges && MANY <= points && edges / EDGES_A_POINT <= points
+}
 
 /// Returns what the edges tell of each of the points, in their order, for `located::locate_told`. The edges may cross
 /// and overlap. Where few cross, and few begin or end above one another, n points and n edges take about n log^2 n

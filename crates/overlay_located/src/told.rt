@@ -10,7 +10,7 @@ ghost use Rattle.overlay_located.specs.Located.{LiesIn};
 ghost use Rattle.overlay_located.specs.Rays.{plain_ray, IsRayHeld};
 ghost use Rattle.overlay_located.specs.Sectors.{is_low};
 ghost use Rattle.overlay_located.specs.Tells.{near_sum};
-ghost use Rattle.overlay_located.specs.Together.{plain_query, sum_on, IsTold, SeesRay, SeesRays};
+ghost use Rattle.overlay_located.specs.Queries.{plain_query, sum_on, IsTold, SeesRay, SeesRays};
 
 use crate::flank::Flank;
 use crate::near::{is_below_near, leads_from};

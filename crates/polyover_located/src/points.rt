@@ -2,7 +2,7 @@
 //! each alone.
 
 ghost use Rattle.std.specs.Prelude.{◌≡◌, MatchResult, ◌<◌, map, All, IfOk};
-ghost use Rattle.overlay_located.specs.Together.{plain_query, IsTold};
+ghost use Rattle.overlay_located.specs.Queries.{plain_query, IsTold};
 ghost use Rattle.overlay_order.specs.Content.{plain_edges, IsContent};
 ghost use Rattle.overlay_order.specs.Counts.{boolean_counts};
 ghost use Rattle.polyover_calls.specs.Asked.{fill_of};
@@ -19,7 +19,7 @@ use overlay_geom::point::IntPoint;
 use overlay_located::form::EdgeForm;
 use overlay_located::located::locate_told;
 use overlay_located::query::Query;
-use overlay_located::together::told_of;
+use overlay_located::together::{pays, told_of};
 use overlay_order::count::ShapeCountBoolean;
 use overlay_relate::blocks::Block;
 use overlay_relate::form::FormOf;
@@ -30,13 +30,6 @@ use std::alloc::{AllocError, Global};
 
 // Greatest number of points that are asked together.
 const TOGETHER: usize = 65_536;
-
-// Least number of points, and of edges, that are asked together.
-const MANY: usize = 64;
-
-// Greatest number of edges for each point that is asked together. Where there are more, points are asked alone in less
-// time, as blocks of edges are passed over.
-const EDGES_A_POINT: usize = 32;
 
 /// Writes where each point lies in the shape with these parts, as a number for each.
 #[tactic(auto, using(crate::proofs::Asking::asked_ends, crate::proofs::Asking::unasked_ends))]
@@ -114,7 +107,7 @@ fn write_locations<I: OverlayInt, E: EdgeForm<I, ShapeCountBoolean>, B: FormOf<B
 }
 
 // Returns what the edges tell of the points whose coordinates begin at the place, where all before were asked; else
-// what is told already. Of few points, or few edges, nothing is told, nor where memory is refused.
+// what is told already. Where asking together does not pay (`pays`), or memory is refused, nothing is told.
 fn told_from<I: OverlayInt, E: EdgeForm<I, ShapeCountBoolean>>(
     alloc: Global,
     told: Vec<Query<I, ShapeCountBoolean>, Global>,
@@ -134,8 +127,7 @@ fn told_from<I: OverlayInt, E: EdgeForm<I, ShapeCountBoolean>>(
     let Some(rest) = points.get(place..) else {
         return Vec::new(alloc);
     };
-    let count = rest.len() / 2;
-    if edges.len() < MANY || count < MANY || count < edges.len() / EDGES_A_POINT {
+    if !pays(edges.len(), rest.len() / 2) {
         return Vec::new(alloc);
     }
     match told_of_first(alloc, edges, rest) {

@@ -3,7 +3,8 @@ use Rattle.std.proofs.Common.{◌≡◌, ◌+◌, ◌++◌, ◌∷◌, [], ◌�
 use Rattle.std.proofs.Common.{to_z-of_z}
 use Rattle.std.proofs.lemmas.List.{map-append}
 use Rattle.overlay_geom.proofs.Mapped.{mapped_more, mapped_whole, All-mapped_at}
-use Rattle.overlay_located.specs.Together.{plain_line, plain_lines, plain_link, plain_links, Spans, IsChain, HasChain}
+use Rattle.overlay_located.specs.Slabs.{plain_line, plain_lines, Spans}
+use Rattle.overlay_located.specs.Chains.{plain_link, plain_links, IsChain, HasChain}
 use Rattle.overlay_located.proofs.Chains.{divided_none, chain_takes_as, chain_leaves_as}
 use Rattle.overlay_located.proofs.chain.chain_of.Goals.{in-Some+in_ok-push-in-Some, in-None+in_ok-push-in-None}
 use Rattle.overlay_located.proofs.chain.chain_of.Goals as goal

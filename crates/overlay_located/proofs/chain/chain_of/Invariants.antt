@@ -1,7 +1,8 @@
 -- The lines so far, and those that were kept, are divided.
 use Rattle.std.proofs.Common.{◌++◌, take}
 use Rattle.std.specs.List.{All}
-use Rattle.overlay_located.specs.Together.{plain_lines, plain_links, Band, Spans, HasChain}
+use Rattle.overlay_located.specs.Slabs.{plain_lines, Band, Spans}
+use Rattle.overlay_located.specs.Chains.{plain_links, HasChain}
 use Rattle.overlay_located.proofs.chain.chain_of.Given as goal
 
 abbrev pub invariant-loop-line : goal.invariant-loop-line

@@ -2,7 +2,7 @@
 use Rattle.std.proofs.Common.{◌<◌, ◌-◌, ◌∙◌, length, sym, arith, rules}
 use Rattle.std.proofs.lemmas.List.{length-map}
 use Rattle.overlay_geom.specs.Points.{plain_point}
-use Rattle.overlay_located.specs.Together.{plain_link, plain_links}
+use Rattle.overlay_located.specs.Chains.{plain_link, plain_links}
 use Rattle.overlay_located.proofs.ChainsTell.{among, high_at, low_at, low_from, over_at}
 use Rattle.overlay_located.proofs.chain.is_among.Goals.{else-start-gt0-via-then-start-gt0+else-not-is_gt}
 use Rattle.overlay_located.proofs.chain.is_among.Goals.{else-start-gt0-via-else-start-gt0}

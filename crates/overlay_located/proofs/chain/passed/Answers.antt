@@ -1,7 +1,9 @@
 -- Of a point in the slab the chain tells the sum below, and the edges on its level.
 use Rattle.std.proofs.Common.{◌≡◌, ◌-◌, ◌∙◌, sym, ap, arith, rules, w64, to_z, of_z, to_z-of_z}
 use Rattle.overlay_geom.specs.Points.{plain_point}
-use Rattle.overlay_located.specs.Together.{plain_query, plain_link, plain_links, plain_slab, edges_of}
+use Rattle.overlay_located.specs.Slabs.{plain_slab}
+use Rattle.overlay_located.specs.Chains.{plain_link, plain_links, edges_of}
+use Rattle.overlay_located.specs.Queries.{plain_query}
 use Rattle.overlay_located.proofs.Chains.{sum_none, sum_at}
 use Rattle.overlay_located.proofs.ChainsTell.{all_over, level_adds}
 use Rattle.overlay_located.proofs.OpenQueries.{adds_alone}

@@ -1,7 +1,7 @@
 -- Each edge of the chain is over the point.
 use Rattle.std.proofs.Common.{◌<◌, ◌+◌, ◌-◌, ◌/◌, length, rules}
 use Rattle.overlay_geom.specs.Points.{plain_point}
-use Rattle.overlay_located.specs.Together.{plain_link}
+use Rattle.overlay_located.specs.Chains.{plain_link}
 use Rattle.overlay_located.proofs.ChainsTell.{over_at}
 use Rattle.overlay_located.proofs.chain.place_over.Goals as goal
 

@@ -5,7 +5,7 @@ use Rattle.std.proofs.lemmas.Option.{IfSome_then}
 use Rattle.overlay_geom.proofs.Mapped.{read_mapped}
 use Rattle.overlay_geom.specs.Edges.{subj_of}
 use Rattle.overlay_order.specs.Content.{plain_edge}
-use Rattle.overlay_located.specs.Together.{plain_link, plain_links}
+use Rattle.overlay_located.specs.Chains.{plain_link, plain_links}
 use Rattle.overlay_located.proofs.Chains.{chain_begun, chain_grown}
 use Rattle.overlay_located.proofs.chain.sum_with.Goals as goal
 

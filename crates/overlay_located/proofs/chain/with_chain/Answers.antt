@@ -1,6 +1,8 @@
 -- One query more has what the chain tells.
 use Rattle.std.proofs.Common.{rules}
-use Rattle.overlay_located.specs.Together.{plain_query, plain_links, plain_slab, edges_of, IsOpen, IsWithin}
+use Rattle.overlay_located.specs.Slabs.{plain_slab, IsWithin}
+use Rattle.overlay_located.specs.Chains.{plain_links, edges_of}
+use Rattle.overlay_located.specs.Queries.{plain_query, IsOpen}
 use Rattle.overlay_located.proofs.ChangedLists.{All-at, All-pushed}
 use Rattle.overlay_located.proofs.OpenQueries.{open_after}
 use Rattle.overlay_located.proofs.chain.with_chain.Goals as goal

@@ -2,7 +2,9 @@
 use Rattle.std.proofs.Common.{◌≡◌, ◌++◌, List, length}
 use Rattle.std.specs.List.{All}
 use Rattle.overlay_geom.specs.Edges.{CountedEdge}
-use Rattle.overlay_located.specs.Together.{plain_query, plain_links, plain_slab, edges_of, IsWithin, IsOpen}
+use Rattle.overlay_located.specs.Slabs.{plain_slab, IsWithin}
+use Rattle.overlay_located.specs.Chains.{plain_links, edges_of}
+use Rattle.overlay_located.specs.Queries.{plain_query, IsOpen}
 use Rattle.overlay_located.specs.Tells.{TellsWhere}
 use Rattle.overlay_located.proofs.chain.with_chain.Given as goal
 

@@ -2,7 +2,8 @@
 use Rattle.std.proofs.Common.{◌∷◌, [], subst, sym, take}
 use Rattle.overlay_geom.proofs.Mapped.{mapped_whole}
 use Rattle.overlay_order.specs.Content.{plain_edge}
-use Rattle.overlay_located.specs.Together.{plain_query, plain_link, plain_links, edges_of, Adds}
+use Rattle.overlay_located.specs.Chains.{plain_link, plain_links, edges_of}
+use Rattle.overlay_located.specs.Queries.{plain_query, Adds}
 use Rattle.overlay_located.proofs.Chains.{edges_more}
 use Rattle.overlay_located.proofs.OpenQueries.{adds_none, adds_more}
 use Rattle.overlay_located.proofs.chain.with_level.Goals as goal

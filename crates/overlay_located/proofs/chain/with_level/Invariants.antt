@@ -1,6 +1,7 @@
 -- What the edges so far tell is added.
 use Rattle.std.proofs.Common.{take}
-use Rattle.overlay_located.specs.Together.{plain_query, plain_links, edges_of, Adds}
+use Rattle.overlay_located.specs.Chains.{plain_links, edges_of}
+use Rattle.overlay_located.specs.Queries.{plain_query, Adds}
 use Rattle.overlay_located.proofs.chain.with_level.Given as goal
 
 abbrev pub invariant-loop-link : goal.invariant-loop-link

@@ -4,7 +4,7 @@ use Rattle.std.proofs.lemmas.List.{map-append}
 use Rattle.overlay_geom.proofs.Mapped.{mapped_more, mapped_whole}
 use Rattle.overlay_order.specs.Content.{plain_edge, plain_edges, IsHeld}
 use Rattle.overlay_relate.proofs.Forms.{all_at}
-use Rattle.overlay_located.specs.Together.{plain_line, plain_lines}
+use Rattle.overlay_located.specs.Slabs.{plain_line, plain_lines}
 use Rattle.overlay_located.proofs.heights.lines_of.Goals as goal
 
 pub invariant_of-push : goal.invariant_of-push

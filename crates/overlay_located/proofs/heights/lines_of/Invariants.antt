@@ -1,7 +1,7 @@
 -- The lines of the edges so far.
 use Rattle.std.proofs.Common.{◌≡◌, map, take}
 use Rattle.overlay_order.specs.Content.{plain_edges}
-use Rattle.overlay_located.specs.Together.{plain_lines}
+use Rattle.overlay_located.specs.Slabs.{plain_lines}
 use Rattle.overlay_located.proofs.heights.lines_of.Given as goal
 
 abbrev pub invariant-loop-e : goal.invariant-loop-e

@@ -3,7 +3,7 @@ use Rattle.std.proofs.Common.{◌≡◌, List, ◌∷◌, ◌++◌, [], map, tak
 use Rattle.std.proofs.lemmas.List.{map-append}
 use Rattle.overlay_geom.proofs.Mapped.{mapped_more, mapped_whole}
 use Rattle.overlay_geom.specs.Edges.{CountedEdge}
-use Rattle.overlay_located.specs.Together.{plain_line, plain_lines, plain_slab, AreDivided}
+use Rattle.overlay_located.specs.Slabs.{plain_line, plain_lines, plain_slab, AreDivided}
 use Rattle.overlay_located.proofs.DividedEdges.{divided_as, divided_spanning, divided_beside, divided_kept}
 use Rattle.overlay_located.proofs.Slabs.{spans_from_test, beside_from_test}
 use Rattle.overlay_located.proofs.node.divide.Goals as goal

@@ -1,6 +1,6 @@
 -- The lines so far are divided.
 use Rattle.std.proofs.Common.{take}
-use Rattle.overlay_located.specs.Together.{plain_lines, plain_slab, AreDivided}
+use Rattle.overlay_located.specs.Slabs.{plain_lines, plain_slab, AreDivided}
 use Rattle.overlay_located.proofs.node.divide.Given as goal
 
 abbrev pub invariant-loop-line : goal.invariant-loop-line

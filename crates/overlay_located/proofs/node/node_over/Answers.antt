@@ -3,7 +3,8 @@ use Rattle.std.proofs.Common.{◌++◌, List, All, sym, ap, subst}
 use Rattle.std.specs.List.Sorted.{IsPermutation}
 use Rattle.std.proofs.lemmas.List.Sorted.{IsPermutation-map}
 use Rattle.overlay_geom.specs.Edges.{CountedEdge}
-use Rattle.overlay_located.specs.Together.{plain_line, plain_lines, plain_links, plain_slab, Spans, HasChain}
+use Rattle.overlay_located.specs.Slabs.{plain_line, plain_lines, plain_slab, Spans}
+use Rattle.overlay_located.specs.Chains.{plain_links, HasChain}
 use Rattle.overlay_located.proofs.DividedEdges.{chain_over}
 use Rattle.overlay_located.proofs.node.node_over.Goals as goal
 

@@ -1,5 +1,6 @@
 -- One query more is told.
-use Rattle.overlay_located.specs.Together.{plain_query, plain_lines, IsOpen, IsTold}
+use Rattle.overlay_located.specs.Slabs.{plain_lines}
+use Rattle.overlay_located.specs.Queries.{plain_query, IsOpen, IsTold}
 use Rattle.overlay_located.proofs.ChangedLists.{All-at, All-written}
 use Rattle.overlay_located.proofs.OpenQueries.{told_after}
 use Rattle.overlay_located.proofs.query.ask_each.Goals as goal

@@ -2,7 +2,8 @@
 use Rattle.std.proofs.Common.{List}
 use Rattle.std.specs.List.{All}
 use Rattle.overlay_geom.specs.Edges.{CountedEdge}
-use Rattle.overlay_located.specs.Together.{plain_query, plain_lines, IsOpen, IsTold}
+use Rattle.overlay_located.specs.Slabs.{plain_lines}
+use Rattle.overlay_located.specs.Queries.{plain_query, IsOpen, IsTold}
 use Rattle.overlay_located.proofs.query.ask_each.Given as goal
 
 abbrev pub invariant-loop-q : goal.invariant-loop-q

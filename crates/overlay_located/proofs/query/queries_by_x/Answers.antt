@@ -2,7 +2,7 @@
 use Rattle.std.proofs.Common.{◌∙◌, ap}
 use Rattle.std.proofs.lemmas.List.Sorted.{All-permutation}
 use Rattle.overlay_order.specs.Content.{plain_edges}
-use Rattle.overlay_located.specs.Together.{Asked, plain_query, IsOpen}
+use Rattle.overlay_located.specs.Queries.{Asked, plain_query, IsOpen}
 use Rattle.overlay_located.proofs.ChangedLists.{All-pushed_as}
 use Rattle.overlay_located.proofs.OpenQueries.{open_first}
 use Rattle.overlay_located.proofs.query.queries_by_x.Goals as goal

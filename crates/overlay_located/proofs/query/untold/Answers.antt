@@ -1,6 +1,6 @@
 -- One query more, for its point alone.
 use Rattle.std.proofs.Common.{ap}
-use Rattle.overlay_located.specs.Together.{Asked, plain_query, IsTold}
+use Rattle.overlay_located.specs.Queries.{Asked, plain_query, IsTold}
 use Rattle.overlay_located.proofs.ChangedLists.{All-pushed_as}
 use Rattle.overlay_located.proofs.OpenQueries.{told_alone}
 use Rattle.overlay_located.proofs.query.untold.Goals as goal

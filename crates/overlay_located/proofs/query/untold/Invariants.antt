@@ -2,7 +2,7 @@
 use Rattle.std.proofs.Common.{List}
 use Rattle.std.specs.List.{All}
 use Rattle.overlay_geom.specs.Edges.{CountedEdge}
-use Rattle.overlay_located.specs.Together.{plain_query, IsTold}
+use Rattle.overlay_located.specs.Queries.{plain_query, IsTold}
 use Rattle.overlay_located.proofs.query.untold.Given as goal
 
 abbrev pub invariant-loop-place : goal.invariant-loop-place

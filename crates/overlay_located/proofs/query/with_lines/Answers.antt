@@ -1,7 +1,8 @@
 -- One line more.
 use Rattle.std.proofs.Common.{◌∷◌, [], subst, sym, take}
 use Rattle.overlay_geom.proofs.Mapped.{mapped_more, mapped_whole}
-use Rattle.overlay_located.specs.Together.{plain_line, plain_lines, plain_query, Adds}
+use Rattle.overlay_located.specs.Slabs.{plain_line, plain_lines}
+use Rattle.overlay_located.specs.Queries.{plain_query, Adds}
 use Rattle.overlay_located.proofs.OpenQueries.{adds_none, adds_more}
 use Rattle.overlay_located.proofs.query.with_lines.Goals as goal
 

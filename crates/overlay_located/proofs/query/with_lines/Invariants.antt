@@ -1,6 +1,7 @@
 -- What the lines so far tell is added.
 use Rattle.std.proofs.Common.{take}
-use Rattle.overlay_located.specs.Together.{plain_query, plain_lines, Adds}
+use Rattle.overlay_located.specs.Slabs.{plain_lines}
+use Rattle.overlay_located.specs.Queries.{plain_query, Adds}
 use Rattle.overlay_located.proofs.query.with_lines.Given as goal
 
 abbrev pub invariant-loop-line : goal.invariant-loop-line

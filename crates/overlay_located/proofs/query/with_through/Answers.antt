@@ -1,7 +1,7 @@
 -- The edge comes to those that lead from the point, or the point is asked for alone.
 use Rattle.std.proofs.Common.{◌∷◌, [], refl, ap, rules}
 use Rattle.overlay_order.specs.Content.{plain_edge, plain_edges}
-use Rattle.overlay_located.specs.Together.{plain_query}
+use Rattle.overlay_located.specs.Queries.{plain_query}
 use Rattle.overlay_located.proofs.OpenQueries.{adds_alone, adds_through}
 use Rattle.overlay_located.proofs.query.with_through.Goals as goal
 

@@ -3,7 +3,9 @@ use Rattle.std.proofs.Common.{◌≡◌, ℕ, ◌-◌, List, ◌++◌, length, g
 use Rattle.std.specs.List.{All}
 use Rattle.std.proofs.lemmas.List.Elements.{All-take, All-drop}
 use Rattle.overlay_located.specs.Tells.{TellsWhere}
-use Rattle.overlay_located.specs.Together.{plain_query, plain_lines, plain_links, edges_of, Band, IsOpen, IsWithin}
+use Rattle.overlay_located.specs.Slabs.{plain_lines, Band, IsWithin}
+use Rattle.overlay_located.specs.Chains.{plain_links, edges_of}
+use Rattle.overlay_located.specs.Queries.{plain_query, IsOpen}
 use Rattle.overlay_located.proofs.together.+ask.Goals as goal
 
 -- what holds of all holds of both parts

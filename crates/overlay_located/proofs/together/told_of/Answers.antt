@@ -3,7 +3,8 @@ use Rattle.std.proofs.Common.{map, length, drop, sym, ap, subst, ◌∙◌}
 use Rattle.std.specs.List.{All}
 use Rattle.std.proofs.lemmas.List.Elements.{All-append, All-take, All-drop}
 use Rattle.overlay_order.specs.Content.{plain_edges}
-use Rattle.overlay_located.specs.Together.{plain_query, plain_lines, IsOpen, IsTold}
+use Rattle.overlay_located.specs.Slabs.{plain_lines}
+use Rattle.overlay_located.specs.Queries.{plain_query, IsOpen, IsTold}
 use Rattle.overlay_located.proofs.together.told_of.Goals as goal
 
 pub returns : goal.returns

@@ -9,7 +9,7 @@ use Rattle.overlay_geom.specs.Rules.{is_filled}
 use Rattle.overlay_order.specs.Content.{plain_edge}
 use Rattle.overlay_order.specs.declared.edge.CountedEdge.{CountedEdge}
 use Rattle.overlay_located.specs.Few.{if_some}
-use Rattle.overlay_located.specs.Together.{plain_query, SeesRays}
+use Rattle.overlay_located.specs.Queries.{plain_query, SeesRays}
 use Rattle.overlay_located.proofs.ToldSeen.{sees_both, told_entry}
 use Rattle.overlay_located.proofs.told.seen_by.Goals as goal
 

@@ -1,7 +1,7 @@
 -- The first points are told of in the first places, and what is told of others is so.
 use Rattle.std.proofs.Common.{map}
 use Rattle.std.specs.List.{All}
-use Rattle.overlay_located.specs.Together.{plain_query, IsTold}
+use Rattle.overlay_located.specs.Queries.{plain_query, IsTold}
 use Rattle.overlay_order.specs.Content.{plain_edges}
 use Rattle.overlay_order.specs.Counts.{boolean_counts}
 use Rattle.polyover_calls.specs.Arrays.{points_of}

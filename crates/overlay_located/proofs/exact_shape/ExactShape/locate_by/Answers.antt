@@ -10,7 +10,7 @@ use Rattle.overlay_order.specs.Counts.{boolean_counts}
 use Rattle.overlay_relate.specs.Blocks.{plain_blocks}
 use Rattle.overlay_located.specs.Blocks.{AreBlocked}
 use Rattle.overlay_located.specs.Located.{LiesIn}
-use Rattle.overlay_located.specs.Together.{plain_query, IsTold}
+use Rattle.overlay_located.specs.Queries.{plain_query, IsTold}
 use Rattle.overlay_located.proofs.ToldShapes.{tells_location}
 use Rattle.overlay_located.proofs.exact_shape.ExactShape.locate_by.Goals as goal
 

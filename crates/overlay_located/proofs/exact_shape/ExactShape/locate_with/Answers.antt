@@ -2,7 +2,7 @@
 use Rattle.std.proofs.Common.{All, sym, subst}
 use Rattle.std.specs.Prelude.{IfOk}
 use Rattle.overlay_order.specs.Counts.{boolean_counts}
-use Rattle.overlay_located.specs.Together.{plain_query, IsTold}
+use Rattle.overlay_located.specs.Queries.{plain_query, IsTold}
 use Rattle.overlay_located.proofs.exact_shape.ExactShape.locate_with.Goals as goal
 
 pub locate_by-requires : goal.locate_by-requires

@@ -5,7 +5,7 @@ use Rattle.std.proofs.lemmas.Result.{IfOk-weaker}
 use Rattle.overlay_plane.specs.Carried.{edges_in}
 use Rattle.overlay_order.specs.Content.{plain_edges}
 use Rattle.overlay_order.specs.Counts.{boolean_counts}
-use Rattle.overlay_located.specs.Together.{plain_query, IsTold}
+use Rattle.overlay_located.specs.Queries.{plain_query, IsTold}
 use Rattle.overlay_located.proofs.exact_shape.ExactShape.told.Goals as goal
 
 pub returns : goal.returns
