@@ -1,8 +1,10 @@
 pub mod AddedTimes
 pub mod AlikePieces
+pub mod ApartEdges
 pub mod BelowWhole
 pub mod Crossings
 pub mod FirstSteps
+pub mod HeightBlocks
 pub mod LeftSteps
 pub mod MeetingKinds
 pub mod MoreSides
@@ -22,7 +24,6 @@ pub mod Sums
 pub mod ToldContacts
 pub mod ToldRelations
 pub mod UncrossedEdges
-pub mod UprightEdges
 pub mod WalkSteps
 pub mod Walked
 pub mod Winds

@@ -1,7 +1,7 @@
 -- Edges that do not cross meet in ends of one of them, or overlap: all their meeting points are whole. The edges of a
 -- list that do not cross.
-use Rattle.std.proofs.Common.{◌≡◌, ◌⊎◌, ⊎_elim, inl, inr, true, false, ◌&&◌, ◌||◌, ℕ, ◌<◌, ◌≤◌, ℤ, pos, ◌<ℤ◌}
-use Rattle.std.proofs.Common.{Bool, int_lt, List, All, Contains, length, refl, sym, ap₂, ◌∙◌, subst, arith}
+use Rattle.std.proofs.Common.{◌≡◌, ◌⊎◌, ⊎_elim, inl, inr, true, false, ◌&&◌, ◌||◌, ℕ, ◌+◌, ◌<◌, ◌≤◌, ℤ, pos, ◌<ℤ◌}
+use Rattle.std.proofs.Common.{◌≤ℤ◌, int_lt, List, All, Contains, length, refl, sym, ap₂, ◌∙◌, subst, arith}
 use Rattle.std.proofs.lemmas.Bool.{false≢true, and_cases, cases_lt}
 use Rattle.std.proofs.lemmas.Bool.Decides.{Decides-and, Decides-or}
 use Rattle.std.proofs.lemmas.Int.{by_lt_z}
@@ -26,12 +26,14 @@ use Rattle.overlay_pairs.specs.Near.{AreNear}
 use Rattle.overlay_pairs.specs.Places.{IsAt, AreSettledBefore}
 use Rattle.overlay_pairs.proofs.Entries.{one_entry}
 use Rattle.overlay_pairs.proofs.SettledLists.{starts_no_further_left}
+use Rattle.overlay_exact.proofs.MetByStarts.{entry_at}
 use Rattle.overlay_exact.proofs.ToldMeetings.{less_at}
 use Rattle.overlay_given.specs.Crossing.{cross, crosses_line}
 use Rattle.overlay_given.specs.Uncrossed.{SomeCross, NoneCross, CrossesNoneBehind, CrossesSomeBehind}
+use Rattle.overlay_given.specs.Uncrossed.{CrossesNoneOf}
+use Rattle.overlay_given.proofs.ApartEdges.{left_uncrossed, cross_back}
 use Rattle.overlay_given.proofs.NearTests.{FailsAt, edges_cross}
 use Rattle.overlay_given.proofs.SettledEdges.{settled_uncrossed}
-use Rattle.overlay_given.proofs.UprightEdges.{upright_uncrossed}
 
 -- ---- two edges
 
@@ -129,17 +131,30 @@ not_itself e = ap₂ (λ s t. ((int_lt (pos 0) s && int_lt t (pos 0)) || (int_lt
     ((int_lt (pos 0) s && int_lt t (pos 0)) || (int_lt s (pos 0) && int_lt (pos 0) t))) (start_on_line e)
     (end_on_line e)
 
--- where one crosses the other, the other crosses it
-cross_back : (e f : Edge) → cross e f ≡ false → cross f e ≡ false
-cross_back e f test = by (crosses_line e f) (crosses_line f e) test
-  where
-    by : (s t : Bool) → (s && t) ≡ false → (t && s) ≡ false
-    by true true is = is
-    by true false is = refl
-    by false true is = refl
-    by false false is = refl
-
 -- ---- a list
+
+-- the edge at place i crosses none of the edges after it, up to place j
+abbrev pub CrossesNoneUpTo : List CountedEdge → ℕ → ℕ → Type 0
+CrossesNoneUpTo es i j = (k : ℕ) (e f : CountedEdge) → i < k → k < j → IsAt es i e → IsAt es k f →
+    cross (ends_of e) (ends_of f) ≡ false
+
+-- nor of those from there up to a further place
+pub crosses_none_further : (es : List CountedEdge) (i j end : ℕ) (e : CountedEdge) → IsAt es i e →
+    CrossesNoneUpTo es i j → CrossesNoneOf es e j end → CrossesNoneUpTo es i end
+crosses_none_further es i j end e at_e so_far none k g h past less at_g at_h = ⊎_elim
+    (λ (before : k < j). so_far k g h past before at_g at_h)
+    (λ (from : j ≤ k). subst (λ (u : CountedEdge). cross (ends_of u) (ends_of h) ≡ false)
+    (one_entry es i e g at_e at_g) (none k h from less at_h))
+    (cases_lt k j)
+
+-- it crosses none up to a place, nor the edge there
+pub crosses_none_more : (es : List CountedEdge) (e : CountedEdge) (from k : ℕ) (f : CountedEdge) → IsAt es k f →
+    cross (ends_of e) (ends_of f) ≡ false → CrossesNoneOf es e from k → CrossesNoneOf es e from (k + 1)
+crosses_none_more es e from k f at_f fails so_far m h past less at_h = ⊎_elim
+    (λ (same : m ≡ k). subst (λ (u : CountedEdge). cross (ends_of e) (ends_of u) ≡ false)
+    (one_entry es k f h at_f (subst (λ n. IsAt es n h) same at_h)) fails)
+    (λ (before : m < k). so_far m h past before at_h)
+    (eq-or-lt_of_le (let le : m ≤ k = omega (arith, less) in le))
 
 module _ (limit : ℕ) (es : List CountedEdge) (held : All (IsHeld limit) es) where
   leads : (e : CountedEdge) → Contains es e → IsBefore e.a e.b
@@ -153,13 +168,24 @@ module _ (limit : ℕ) (es : List CountedEdge) (held : All (IsHeld limit) es) wh
       settled)
       ((near e at_e).all k f (omega (arith, past)) at_f)
 
-  -- an upright edge crosses none
-  pub none_behind_upright : IsAscending es → (i : ℕ) (u : CountedEdge) → IsAt es i u → u.b.x ≡ u.a.x →
-      CrossesNoneBehind es i
-  none_behind_upright up i u at upright k e f past at_e at_f =
-      upright_uncrossed (ends_of e) (ends_of f) (leads e (i, at_e.0, at_e.1)) (leads f (k, at_f.0, at_f.1))
-      (subst (λ (g : CountedEdge). g.b.x ≡ g.a.x) (one_entry es i u e at at_e) upright)
-      (starts_no_further_left (ends_of e) (ends_of f) (less_at es i e at_e up i k e f past at_e at_f))
+  -- nor do those from the first on that does not start left of the edge's right end
+  pub none_behind_run : IsAscending es → (i j : ℕ) → i < j → ((e f : CountedEdge) → IsAt es i e → IsAt es j f →
+      e.b.x ≤ℤ f.a.x) → CrossesNoneUpTo es i j → CrossesNoneBehind es i
+  none_behind_run up i j ordered right so_far k e f past at_e at_f = ⊎_elim
+      (λ (before : k < j). so_far k e f past before at_e at_f)
+      (λ (from : j ≤ k).
+      let first = entry_at es j (let within = at_f.0 in omega (arith, from, within)) in
+      let starts = right e first.0 at_e first.1 in
+      let later : first.0.a.x ≤ℤ f.a.x = ⊎_elim
+      (λ (same : j ≡ k). subst (λ (g : CountedEdge). first.0.a.x ≤ℤ g.a.x)
+      (one_entry es j first.0 f first.1 (subst (λ n. IsAt es n f) (sym same) at_f)) (omega linear))
+      (λ (behind : j < k). starts_no_further_left (ends_of first.0) (ends_of f)
+      (less_at es j first.0 first.1 up j k first.0 f behind first.1 at_f))
+      (eq-or-lt_of_le from) in
+      let e_leads = (leads e (i, at_e.0, at_e.1)).x in
+      let f_leads = (leads f (k, at_f.0, at_f.1)).x in
+      left_uncrossed (ends_of e) (ends_of f) e.b.x e_leads (omega linear) (omega linear) (omega linear))
+      (cases_lt k j)
 
   -- the edges before place n meet later edges in ends alone
   pub none_behind_settled : (n : ℕ) → AreSettledBefore es n → (i : ℕ) → i < n → CrossesNoneBehind es i

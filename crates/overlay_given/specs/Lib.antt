@@ -1,6 +1,7 @@
 pub mod Beside
 pub mod Crossing
 pub mod First
+pub mod Heights
 pub mod Laws
 pub mod Places
 pub mod Relations

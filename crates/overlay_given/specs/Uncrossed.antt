@@ -1,5 +1,5 @@
 -- Where the edges of a list meet: edges that cross, and lists of which no edges do.
-use Rattle.std.specs.Prelude.{◌≡◌, ◌↔◌, true, false, ℕ, ◌<◌, List, Contains}
+use Rattle.std.specs.Prelude.{◌≡◌, ◌↔◌, true, false, ℕ, ◌<◌, ◌≤◌, List, Contains}
 use Rattle.overlay_geom.specs.Edges.{CountedEdge, ends_of}
 use Rattle.overlay_geom.specs.Settled.{IsSettled}
 use Rattle.overlay_plane.specs.Meetings.{MeetInWholePoints}
@@ -25,6 +25,16 @@ CrossesNoneBehind es i = (k : ℕ) (e f : CountedEdge) → i < k → IsAt es i e
 -- it crosses a later edge
 abbrev pub CrossesSomeBehind : List CountedEdge → ℕ → Type 0
 CrossesSomeBehind es i = (k : ℕ) × (e : CountedEdge) × (f : CountedEdge) × (i < k) × IsAt es i e × IsAt es k f
+    × (cross (ends_of e) (ends_of f) ≡ true)
+
+-- the edge e crosses none of those from place `from` up to `to`
+abbrev pub CrossesNoneOf : List CountedEdge → CountedEdge → ℕ → ℕ → Type 0
+CrossesNoneOf es e from to = (k : ℕ) (f : CountedEdge) → from ≤ k → k < to → IsAt es k f →
+    cross (ends_of e) (ends_of f) ≡ false
+
+-- it crosses one of them
+abbrev pub CrossesSomeOf : List CountedEdge → CountedEdge → ℕ → ℕ → Type 0
+CrossesSomeOf es e from to = (k : ℕ) × (f : CountedEdge) × (from ≤ k) × (k < to) × IsAt es k f
     × (cross (ends_of e) (ends_of f) ≡ true)
 
 -- the edges meet so. Where none cross, they meet in whole points alone

@@ -5,6 +5,7 @@
 pub mod beside;
 mod crossing;
 pub mod first;
+mod heights;
 pub mod laws;
 mod one_edge;
 pub mod relations;

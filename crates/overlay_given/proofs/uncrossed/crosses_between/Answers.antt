@@ -1,0 +1,15 @@
+-- Edges whose heights do not overlap do not cross.
+use Rattle.std.proofs.Common.{sym, ◌∙◌}
+use Rattle.overlay_geom.specs.Edges.{ends_of}
+use Rattle.overlay_order.specs.Content.{plain_edge}
+use Rattle.overlay_given.proofs.HeightBlocks.{uncrossed_apart}
+use Rattle.overlay_given.proofs.uncrossed.crosses_between.Goals as goal
+
+pub returns : goal.returns
+returns g c =
+    let whole = g.I.IntNumber.whole in
+    let plain = plain_edge whole g.C.EdgeCount.counts in
+    let of_f = c.heights_of-of_f.result in
+    sym (uncrossed_apart (ends_of (plain c.args.e.now)) (ends_of (plain c.args.f.now)) (whole c.args.heights.low)
+    (whole c.args.heights.high) (whole of_f.low) (whole of_f.high) c.requires.heights c.heights_of-of_f.ensures
+    (sym c.overlap-meets.ensures ∙ c.if-meets.false))
