@@ -1,7 +1,9 @@
 -- The shapes are those of the arranged edges, and wind as asked of the edges before, far from these. A refusal is
 -- remembered.
-use Rattle.std.proofs.Common.{ap, subst, ◌∙◌}
-use Rattle.std.proofs.lemmas.Result.{IfOk-weaker}
+use Rattle.std.proofs.Common.{refl, is_err, ap, subst, ◌∙◌}
+use Rattle.std.proofs.lemmas.Result.{IfOk-at_ok, err_from_is_err_and}
+use Rattle.std.specs.Prelude.{Ok, Err}
+use Rattle.overlay_geom.specs.declared.error.OverlayError.TheVariants.{Memory}
 use Rattle.overlay_plane.specs.Carried.{edges_in}
 use Rattle.overlay_builder.specs.Held.{plain_held}
 use Rattle.overlay_extract.specs.Results.{asked, WindsRoundRegion}
@@ -15,21 +17,32 @@ returns-clause-answers g c =
     let core = plain_held c.set_failed.new.self in
     let e = c.extract_shape_vectors-shapes.ensures in
     extracted g.I.IntNumber.limit c.self.view_is (plain_held c.arrange.new.self) c.in_ok-arrange.field-0
-    c.in_ok-arrange.ensures.query core.edges core.failed c.extract_shape_vectors-shapes.result
-    (ap (λ h. h.failed) c.set_failed.ensures ∙ c.is_err.ensures.value) e.err c.self-2.view_is e.kept
-    (ap (λ h. edges_in h.edges) c.set_failed.ensures) e.buffer
+    c.in_ok-arrange.ensures.query core.edges core.failed (Ok c.in_ok-shapes.field-0)
+    (ap (λ h. h.failed) c.set_failed.ensures ∙ c.is_err.ensures.value ∙ ap is_err c.in_ok-shapes.was) tt
+    c.self-2.view_is e.kept (ap (λ h. edges_in h.edges) c.set_failed.ensures) (rw c.in_ok-shapes.was at e.buffer)
+
+pub returns-in_err-shapes-clause-answers : goal.returns-in_err-shapes-clause-answers
+returns-in_err-shapes-clause-answers g c =
+    let core = plain_held c.set_failed.new.self in
+    let e = c.extract_shape_vectors-shapes.ensures in
+    let p = err_from_is_err_and c.from_residual-in_err-shapes.result c.from_residual-in_err-shapes.ensures.1 in
+    rw (p.1, p.2) (extracted g.I.IntNumber.limit c.self.view_is (plain_held c.arrange.new.self)
+    c.in_ok-arrange.field-0 c.in_ok-arrange.ensures.query core.edges core.failed (Err Memory)
+    (ap (λ h. h.failed) c.set_failed.ensures ∙ c.is_err.ensures.value ∙ ap is_err c.in_err-shapes.was) refl
+    c.self-2.view_is e.kept (ap (λ h. edges_in h.edges) c.set_failed.ensures) tt)
 
 pub returns-clause-given : goal.returns-clause-given
 returns-clause-given g c =
     let e = c.extract_shape_vectors-shapes.ensures in
     let q = asked g.I.Wide.WideIntNumber.width g.I.WideUInt.UIntNumber.natural c.args.fill_rule c.args.overlay_rule
     c.self.inside.options in
+    let along = steps_along (plain_vector_shapes g.I.IntNumber.whole c.in_ok-shapes.field-0.items) in
     given_round g.I.IntNumber.limit c.self.view_is (plain_held c.arrange.new.self) c.in_ok-arrange.field-0
     c.in_ok-arrange.ensures.query
     (λ b. asked g.I.Wide.WideIntNumber.width g.I.WideUInt.UIntNumber.natural c.args.fill_rule c.args.overlay_rule
     b.options)
     (λ v. steps_along (plain_vector_shapes g.I.IntNumber.whole v.items)) (edges_in c.set_failed.new.self.edges)
     (ap (λ h. edges_in h.edges) c.set_failed.ensures ∙ ap (λ b. b.edges) c.self-2.view_is ∙ ap (λ b. b.edges) e.kept)
-    c.extract_shape_vectors-shapes.result (IfOk-weaker c.extract_shape_vectors-shapes.result _ _
-    (λ v is zero. subst (λ es. WindsRoundRegion q es (steps_along (plain_vector_shapes g.I.IntNumber.whole v.items)))
-    is.edges (is.shapes.winds zero)) e.result)
+    (Ok c.in_ok-shapes.field-0)
+    (λ zero. let is = IfOk-at_ok _ c.in_ok-shapes.was e.result in
+    subst (λ es. WindsRoundRegion q es along) is.edges (is.shapes.winds zero))

@@ -1,10 +1,12 @@
 -- The shapes are those of the arranged edges; over no edges there is none.
-use Rattle.std.proofs.Common.{◌≡◌, is_err, refl, sym, subst, rules}
-use Rattle.std.proofs.lemmas.Result.{IfOk-weaker}
-use Rattle.std.specs.Prelude.{Some, Err, IfOk}
+use Rattle.std.proofs.Common.{◌≡◌, true, false, refl, sym, subst, rules}
+use Rattle.std.proofs.lemmas.Result.{err_from_is_err_and}
+use Rattle.std.specs.Prelude.{Some, Ok, Err}
 use Rattle.overlay_builder.specs.Held.{plain_held}
 use Rattle.overlay_extract.specs.Results.{asked, IsResult}
 use Rattle.overlay_geom.specs.Flat.{shapes_in}
+use Rattle.overlay_geom.specs.declared.error.OverlayError.{OverlayError}
+use Rattle.overlay_geom.specs.declared.error.OverlayError.TheVariants.{Memory}
 use Rattle.i_overlay.specs.UsedUp.{GivesFlatShapes}
 use Rattle.overlay_plane.specs.ShapeWindings.{steps_of_shapes}
 use Rattle.i_overlay.proofs.GivenRegions.{given_round}
@@ -27,26 +29,40 @@ returns-in_err-arrange-clause-answers g c =
       empty = λ none. tt;
     })
 
+pub returns-in_err-extracted-clause-answers : goal.returns-in_err-extracted-clause-answers
+returns-in_err-extracted-clause-answers g c =
+    let mid = plain_held c.arrange.new.self in
+    let p = err_from_is_err_and c.from_residual-in_err-extracted.result c.from_residual-in_err-extracted.ensures.1 in
+    rw (p.1, p.2) (record {
+      after = record c.args.self { edges = mid.edges; boolean_buffer = Some tt; failed = true };
+      extracts = extracted_from g.I.IntNumber.limit c.self.view_is mid c.in_ok-arrange.field-0
+          c.in_ok-arrange.ensures.query (Err Memory) refl;
+      is_result = tt;
+      given = tt;
+      empty = λ none. tt;
+    })
+
 pub returns-clause-answers : goal.returns-clause-answers
 returns-clause-answers g c =
     let whole = g.I.IntNumber.whole in
     let mid = plain_held c.arrange.new.self in
-    let r = c.extracted.result in
-    let result = subst (λ b. IfOk r (λ v. IsResult
-    (asked g.I.Wide.WideIntNumber.width g.I.WideUInt.UIntNumber.natural c.args.fill_rule c.args.overlay_rule b.options)
-    mid.edges (shapes_in whole v.points.items v.contour_ranges.items v.shape_ranges.items))) c.self.view_is
-    c.extracted.ensures.result in
+    let v = c.in_ok-extracted.field-0 in
+    let shapes = shapes_in whole v.points.items v.contour_ranges.items v.shape_ranges.items in
+    let is = c.in_ok-extracted.ensures.result in
+    let result = subst (λ b. IsResult (asked g.I.Wide.WideIntNumber.width g.I.WideUInt.UIntNumber.natural
+    c.args.fill_rule c.args.overlay_rule b.options) mid.edges shapes) c.self.view_is is in
     record {
-      after = record c.args.self { edges = mid.edges; boolean_buffer = Some tt; failed = is_err r };
+      after = record c.args.self { edges = mid.edges; boolean_buffer = Some tt; failed = false };
       extracts = extracted_from g.I.IntNumber.limit c.self.view_is mid c.in_ok-arrange.field-0
-          c.in_ok-arrange.ensures.query r c.extracted.ensures.err;
+          c.in_ok-arrange.ensures.query (Ok v) tt;
       is_result = result;
       given = given_round g.I.IntNumber.limit c.self.view_is mid c.in_ok-arrange.field-0
           c.in_ok-arrange.ensures.query
           (λ b. asked g.I.Wide.WideIntNumber.width g.I.WideUInt.UIntNumber.natural c.args.fill_rule
           c.args.overlay_rule b.options)
           (λ v. steps_of_shapes (shapes_in whole v.points.items v.contour_ranges.items v.shape_ranges.items)) mid.edges
-          refl r (IfOk-weaker r _ _ (λ v is. is.winds) c.extracted.ensures.result);
-      empty = no_flat_shapes whole (asked g.I.Wide.WideIntNumber.width g.I.WideUInt.UIntNumber.natural
-          c.args.fill_rule c.args.overlay_rule c.args.self.options) mid.edges r result;
+          refl (Ok v) is.winds;
+      empty = no_flat_shapes {E = OverlayError} whole (asked g.I.Wide.WideIntNumber.width
+          g.I.WideUInt.UIntNumber.natural c.args.fill_rule c.args.overlay_rule c.args.self.options) mid.edges (Ok v)
+          result;
     }

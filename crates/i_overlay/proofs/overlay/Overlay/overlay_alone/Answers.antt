@@ -1,7 +1,9 @@
 -- The shapes are those of the arranged paths; and a refusal is remembered.
-use Rattle.std.proofs.Common.{◌≡◌, sym, ap, subst, ◌∙◌}
-use Rattle.std.specs.Prelude.{IfOk}
+use Rattle.std.proofs.Common.{◌≡◌, is_err, refl, sym, ap, subst, ◌∙◌}
+use Rattle.std.proofs.lemmas.Result.{IfOk-at_ok, err_from_is_err_and}
+use Rattle.std.specs.Prelude.{Ok, Err}
 use Rattle.overlay_geom.specs.Paths.{plain_shapes}
+use Rattle.overlay_geom.specs.declared.error.OverlayError.TheVariants.{Memory}
 use Rattle.overlay_geom.specs.declared.options.ShapeType.TheVariants.{Subject}
 use Rattle.overlay_geom.specs.declared.overlay_rule.OverlayRule.TheVariants.{Subject as OfSubject}
 use Rattle.overlay_plane.specs.Carried.{edges_in}
@@ -17,14 +19,26 @@ returns-clause-alone g c =
     alone_after g.I.IntNumber.limit c.args.self.now.solver c.args.self.now.options.preserve_input_collinear
     (paths_for Subject (g.R0.IntShapeResource.paths c.args.resource.now))
     (held_by c.hold_alone.new.self) (plain_held c.set_failed.new.self) c.in_ok-hold_alone.field-0
-    c.in_ok-hold_alone.ensures.alone c.extract-shapes.result
+    c.in_ok-hold_alone.ensures.alone (Ok c.in_ok-shapes.field-0)
     (ap (λ h. edges_in h.edges) c.set_failed.ensures ∙ ap (λ b. b.edges) c.self.view_is
     ∙ ap (λ b. b.edges) c.extract-shapes.ensures.kept)
-    (ap (λ h. h.failed) c.set_failed.ensures ∙ c.is_err.ensures.value) c.extract-shapes.ensures.err
+    (ap (λ h. h.failed) c.set_failed.ensures ∙ c.is_err.ensures.value ∙ ap is_err c.in_ok-shapes.was) tt
+
+pub returns-in_err-shapes-clause-alone : goal.returns-in_err-shapes-clause-alone
+returns-in_err-shapes-clause-alone g c =
+    let p = err_from_is_err_and c.from_residual-in_err-shapes.result c.from_residual-in_err-shapes.ensures.1 in
+    rw (p.1, p.2) (alone_after g.I.IntNumber.limit c.args.self.now.solver
+    c.args.self.now.options.preserve_input_collinear
+    (paths_for Subject (g.R0.IntShapeResource.paths c.args.resource.now))
+    (held_by c.hold_alone.new.self) (plain_held c.set_failed.new.self) c.in_ok-hold_alone.field-0
+    c.in_ok-hold_alone.ensures.alone (Err Memory)
+    (ap (λ h. edges_in h.edges) c.set_failed.ensures ∙ ap (λ b. b.edges) c.self.view_is
+    ∙ ap (λ b. b.edges) c.extract-shapes.ensures.kept)
+    (ap (λ h. h.failed) c.set_failed.ensures ∙ c.is_err.ensures.value ∙ ap is_err c.in_err-shapes.was) refl)
 
 pub returns-clause-result : goal.returns-clause-result
 returns-clause-result g c =
-    let whole = g.I.IntNumber.whole in
+    let shapes = plain_shapes g.I.IntNumber.whole c.in_ok-shapes.field-0.items in
     let old = c.args.self.now in
     let mid = c.hold_alone.new.self in
     let width = g.I.Wide.WideIntNumber.width in
@@ -33,7 +47,6 @@ returns-clause-result g c =
     ap (λ h. edges_in h.edges) c.set_failed.ensures ∙ ap (λ b. b.edges) c.self.view_is
     ∙ ap (λ b. b.edges) c.extract-shapes.ensures.kept in
     let same_options : mid.options ≡ old.options = ap (λ b. b.options) c.in_ok-hold_alone.ensures.kept in
-    subst (λ es. IfOk c.extract-shapes.result (λ v. IsResult (asked width natural c.args.fill_rule OfSubject
-    old.options) es (plain_shapes whole v.items))) (sym same)
-    (subst (λ o. IfOk c.extract-shapes.result (λ v. IsResult (asked width natural c.args.fill_rule OfSubject o)
-    mid.edges (plain_shapes whole v.items))) same_options c.extract-shapes.ensures.result)
+    subst (λ es. IsResult (asked width natural c.args.fill_rule OfSubject old.options) es shapes) (sym same)
+    (subst (λ o. IsResult (asked width natural c.args.fill_rule OfSubject o) mid.edges shapes) same_options
+    (IfOk-at_ok _ c.in_ok-shapes.was c.extract-shapes.ensures.result))

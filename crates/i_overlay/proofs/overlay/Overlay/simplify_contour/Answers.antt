@@ -1,9 +1,10 @@
 -- What becomes of the contour is told and left; and a refusal is remembered.
-use Rattle.std.proofs.Common.{◌≡◌, refl, [], ◌∷◌, sym, ap, subst, ◌∙◌}
-use Rattle.std.proofs.lemmas.Result.{IfOk-weaker}
-use Rattle.std.specs.Prelude.{◌↔◌, None, IfOk, option_map}
+use Rattle.std.proofs.Common.{◌≡◌, is_err, refl, [], ◌∷◌, sym, ap, subst, ◌∙◌}
+use Rattle.std.proofs.lemmas.Result.{IfOk-at_ok, err_from_is_err_and}
+use Rattle.std.specs.Prelude.{◌↔◌, None, Ok, Err, option_map}
 use Rattle.overlay_geom.specs.Paths.{plain_shapes}
 use Rattle.overlay_geom.specs.Points.{plain_points}
+use Rattle.overlay_geom.specs.declared.error.OverlayError.TheVariants.{Memory}
 use Rattle.overlay_geom.specs.declared.options.ShapeType.TheVariants.{Subject}
 use Rattle.overlay_geom.specs.declared.overlay_rule.OverlayRule.TheVariants.{Subject as OfSubject}
 use Rattle.overlay_plane.specs.Carried.{edges_in}
@@ -21,15 +22,28 @@ returns-clause-alone g c =
     alone_after g.I.IntNumber.limit c.args.self.now.solver c.args.self.now.options.preserve_input_collinear
     (paths_for Subject (plain_points g.I.IntNumber.whole c.args.contour.now ∷ []))
     (held_by c.outcome_alone.new.self) (plain_held c.set_failed.new.self) c.in_ok-outcome.outcome
-    c.in_ok-outcome.ensures.alone c.answer-answer.result
+    c.in_ok-outcome.ensures.alone (Ok c.in_ok-answer.field-0)
     (ap (λ h. edges_in h.edges) c.set_failed.ensures ∙ ap (λ b. b.edges) c.self.view_is
     ∙ ap (λ b. b.edges) c.answer-answer.ensures.kept)
-    (ap (λ h. h.failed) c.set_failed.ensures ∙ c.is_err.ensures.value) c.answer-answer.ensures.err
+    (ap (λ h. h.failed) c.set_failed.ensures ∙ c.is_err.ensures.value ∙ ap is_err c.in_ok-answer.was) tt
+
+pub returns-in_err-answer-clause-alone : goal.returns-in_err-answer-clause-alone
+returns-in_err-answer-clause-alone g c =
+    let p = err_from_is_err_and c.from_residual-in_err-answer.result c.from_residual-in_err-answer.ensures.1 in
+    rw (p.1, p.2) (alone_after g.I.IntNumber.limit c.args.self.now.solver
+    c.args.self.now.options.preserve_input_collinear
+    (paths_for Subject (plain_points g.I.IntNumber.whole c.args.contour.now ∷ []))
+    (held_by c.outcome_alone.new.self) (plain_held c.set_failed.new.self) c.in_ok-outcome.outcome
+    c.in_ok-outcome.ensures.alone (Err Memory)
+    (ap (λ h. edges_in h.edges) c.set_failed.ensures ∙ ap (λ b. b.edges) c.self.view_is
+    ∙ ap (λ b. b.edges) c.answer-answer.ensures.kept)
+    (ap (λ h. h.failed) c.set_failed.ensures ∙ c.is_err.ensures.value ∙ ap is_err c.in_err-answer.was) refl)
 
 pub returns-clause-simplified : goal.returns-clause-simplified
 returns-clause-simplified g c =
     let whole = g.I.IntNumber.whole in
     let ps = plain_points whole c.args.contour.now in
+    let shapes = shapes_answered (ps ∷ []) (option_map (λ v. plain_shapes whole v.items) c.in_ok-answer.field-0) in
     let old = c.args.self.now in
     let mid = c.outcome_alone.new.self in
     let keep = old.options.preserve_input_collinear in
@@ -39,15 +53,12 @@ returns-clause-simplified g c =
     ap (λ h. edges_in h.edges) c.set_failed.ensures ∙ ap (λ b. b.edges) c.self.view_is
     ∙ ap (λ b. b.edges) c.answer-answer.ensures.kept in
     let same_options : mid.options ≡ old.options = ap (λ b. b.options) c.in_ok-outcome.ensures.kept in
-    subst (λ es. IfOk c.answer-answer.result (λ o. IsSimplified (asked width natural c.args.fill_rule OfSubject
-    old.options) keep (ps ∷ []) es (shapes_answered (ps ∷ []) (option_map (λ v. plain_shapes whole v.items) o))))
+    subst (λ es. IsSimplified (asked width natural c.args.fill_rule OfSubject old.options) keep (ps ∷ []) es shapes)
     (sym same)
-    (IfOk-weaker c.answer-answer.result _ _ (λ o left. simplified_contour keep ps mid.edges
-    (asked width natural c.args.fill_rule OfSubject old.options) refl c.in_ok-outcome.outcome
-    c.in_ok-outcome.ensures.outcome _
+    (simplified_contour keep ps mid.edges (asked width natural c.args.fill_rule OfSubject old.options) refl
+    c.in_ok-outcome.outcome c.in_ok-outcome.ensures.outcome shapes
     (subst (λ opts. IsLeft c.in_ok-outcome.outcome (asked width natural c.args.fill_rule OfSubject opts) ps mid.edges
-    (shapes_answered (ps ∷ []) (option_map (λ v. plain_shapes whole v.items) o))) same_options left))
-    c.answer-answer.ensures.left)
+    shapes) same_options (IfOk-at_ok _ c.in_ok-answer.was c.answer-answer.ensures.left)))
 
 pub returns-clause-as_given : goal.returns-clause-as_given
 returns-clause-as_given g c =
@@ -60,7 +71,7 @@ returns-clause-as_given g c =
     let same : edges_in c.set_failed.new.self.edges ≡ mid.edges =
     ap (λ h. edges_in h.edges) c.set_failed.ensures ∙ ap (λ b. b.edges) c.self.view_is
     ∙ ap (λ b. b.edges) c.answer-answer.ensures.kept in
-    subst (λ es. IfOk c.answer-answer.result (λ o. (o ≡ None) ↔ StayAsGiven q keep (ps ∷ []) es)) (sym same)
-    (IfOk-weaker c.answer-answer.result _ _ (λ o is. none_as_given keep ps mid.edges c.args.fill_rule
-    old.options.output_direction o c.in_ok-outcome.outcome c.in_ok-outcome.ensures.outcome is)
-    c.answer-answer.ensures.as_given)
+    subst (λ es. (c.in_ok-answer.field-0 ≡ None) ↔ StayAsGiven q keep (ps ∷ []) es) (sym same)
+    (none_as_given keep ps mid.edges c.args.fill_rule old.options.output_direction c.in_ok-answer.field-0
+    c.in_ok-outcome.outcome c.in_ok-outcome.ensures.outcome
+    (IfOk-at_ok _ c.in_ok-answer.was c.answer-answer.ensures.as_given))

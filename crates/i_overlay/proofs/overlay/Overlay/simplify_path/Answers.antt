@@ -1,9 +1,10 @@
 -- What becomes of the contour is told and left; and a refusal is remembered.
-use Rattle.std.proofs.Common.{◌≡◌, refl, [], ◌∷◌, sym, ap, subst, ◌∙◌}
-use Rattle.std.proofs.lemmas.Result.{IfOk-weaker}
-use Rattle.std.specs.Prelude.{IfOk}
+use Rattle.std.proofs.Common.{◌≡◌, is_err, refl, [], ◌∷◌, sym, ap, subst, ◌∙◌}
+use Rattle.std.proofs.lemmas.Result.{IfOk-at_ok, err_from_is_err_and}
+use Rattle.std.specs.Prelude.{Ok, Err}
 use Rattle.overlay_geom.specs.Paths.{plain_shapes}
 use Rattle.overlay_geom.specs.Points.{plain_points}
+use Rattle.overlay_geom.specs.declared.error.OverlayError.TheVariants.{Memory}
 use Rattle.overlay_geom.specs.declared.options.ShapeType.TheVariants.{Subject}
 use Rattle.overlay_geom.specs.declared.overlay_rule.OverlayRule.TheVariants.{Subject as OfSubject}
 use Rattle.overlay_plane.specs.Carried.{edges_in}
@@ -21,15 +22,28 @@ returns-clause-alone g c =
     alone_after g.I.IntNumber.limit c.args.self.now.solver c.args.self.now.options.preserve_input_collinear
     (paths_for Subject (plain_points g.I.IntNumber.whole c.args.contour.now ∷ []))
     (held_by c.outcome_alone.new.self) (plain_held c.set_failed.new.self) c.in_ok-outcome.outcome
-    c.in_ok-outcome.ensures.alone c.left-shapes.result
+    c.in_ok-outcome.ensures.alone (Ok c.in_ok-shapes.field-0)
     (ap (λ h. edges_in h.edges) c.set_failed.ensures ∙ ap (λ b. b.edges) c.self.view_is
     ∙ ap (λ b. b.edges) c.left-shapes.ensures.kept)
-    (ap (λ h. h.failed) c.set_failed.ensures ∙ c.is_err.ensures.value) c.left-shapes.ensures.err
+    (ap (λ h. h.failed) c.set_failed.ensures ∙ c.is_err.ensures.value ∙ ap is_err c.in_ok-shapes.was) tt
+
+pub returns-in_err-shapes-clause-alone : goal.returns-in_err-shapes-clause-alone
+returns-in_err-shapes-clause-alone g c =
+    let p = err_from_is_err_and c.from_residual-in_err-shapes.result c.from_residual-in_err-shapes.ensures.1 in
+    rw (p.1, p.2) (alone_after g.I.IntNumber.limit c.args.self.now.solver
+    c.args.self.now.options.preserve_input_collinear
+    (paths_for Subject (plain_points g.I.IntNumber.whole c.args.contour.now ∷ []))
+    (held_by c.outcome_alone.new.self) (plain_held c.set_failed.new.self) c.in_ok-outcome.outcome
+    c.in_ok-outcome.ensures.alone (Err Memory)
+    (ap (λ h. edges_in h.edges) c.set_failed.ensures ∙ ap (λ b. b.edges) c.self.view_is
+    ∙ ap (λ b. b.edges) c.left-shapes.ensures.kept)
+    (ap (λ h. h.failed) c.set_failed.ensures ∙ c.is_err.ensures.value ∙ ap is_err c.in_err-shapes.was) refl)
 
 pub returns-clause-simplified : goal.returns-clause-simplified
 returns-clause-simplified g c =
     let whole = g.I.IntNumber.whole in
     let ps = plain_points whole c.args.contour.now in
+    let shapes = plain_shapes whole c.in_ok-shapes.field-0.items in
     let old = c.args.self.now in
     let mid = c.outcome_alone.new.self in
     let keep = old.options.preserve_input_collinear in
@@ -39,12 +53,9 @@ returns-clause-simplified g c =
     ap (λ h. edges_in h.edges) c.set_failed.ensures ∙ ap (λ b. b.edges) c.self.view_is
     ∙ ap (λ b. b.edges) c.left-shapes.ensures.kept in
     let same_options : mid.options ≡ old.options = ap (λ b. b.options) c.in_ok-outcome.ensures.kept in
-    subst (λ es. IfOk c.left-shapes.result (λ v. IsSimplifiedContour (asked width natural c.args.fill_rule OfSubject
-    old.options) keep ps es (plain_shapes whole v.items)))
+    subst (λ es. IsSimplifiedContour (asked width natural c.args.fill_rule OfSubject old.options) keep ps es shapes)
     (sym same)
-    (IfOk-weaker c.left-shapes.result _ _ (λ v left. simplified_contour keep ps mid.edges
-    (asked width natural c.args.fill_rule OfSubject old.options) refl c.in_ok-outcome.outcome
-    c.in_ok-outcome.ensures.outcome _
+    (simplified_contour keep ps mid.edges (asked width natural c.args.fill_rule OfSubject old.options) refl
+    c.in_ok-outcome.outcome c.in_ok-outcome.ensures.outcome shapes
     (subst (λ opts. IsLeft c.in_ok-outcome.outcome (asked width natural c.args.fill_rule OfSubject opts) ps mid.edges
-    (plain_shapes whole v.items)) same_options left))
-    c.left-shapes.ensures.left)
+    shapes) same_options (IfOk-at_ok _ c.in_ok-shapes.was c.left-shapes.ensures.left)))
