@@ -181,7 +181,7 @@ module _ (es : List Edge) (v : Point) (m n : Flank → ℤ) (all : Tells v (map 
 
 -- ---- parity
 
-never : Edge → Bool
+abbrev never : Edge → Bool
 never e = false
 
 below_right : (s t u w : Bool) → ((s && t) && (u || (w && false))) ≡ (s && t && u)

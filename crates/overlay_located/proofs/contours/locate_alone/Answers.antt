@@ -11,12 +11,11 @@ pub locate_in_shape-requires-clause-points : goal.locate_in_shape-requires-claus
 locate_in_shape-requires-clause-points g c =
     All-cons (InRange g.I.IntNumber.limit) _ [] c.requires.point (All-nil (InRange g.I.IntNumber.limit))
 
-pub bounds-located-0 : goal.bounds-located-0
-bounds-located-0 g c = let counted = c.in_ok-located.ensures.counted in omega (arith, counted)
+pub index-requires : goal.index-requires
+index-requires g c = let counted = c.in_ok-located.ensures.located.counted in omega (arith, counted)
 
 pub returns : goal.returns
 returns g c =
-    let located = c.in_ok-located.located.items in
-    subst (IsLocatedIn (paths_of_shape g.I.IntNumber.whole c.args.contours.now)
-    (in_plane (plain_point g.I.IntNumber.whole c.args.p))) (sym c.index-located-0.is)
-    (c.in_ok-located.ensures.each 0 (plain_point g.I.IntNumber.whole c.args.p) c.index-located-0.result (omega arith))
+    let p = plain_point g.I.IntNumber.whole c.args.p in
+    subst (IsLocatedIn (paths_of_shape g.I.IntNumber.whole c.args.contours.now) (in_plane p)) (sym c.index.ensures)
+    (c.in_ok-located.ensures.located.each 0 p c.index.result.now (omega arith))

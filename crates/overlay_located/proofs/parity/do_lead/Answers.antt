@@ -1,5 +1,5 @@
 -- The first edge leads from the point, or there is none.
-use Rattle.std.proofs.Common.{◌≡◌, ◌++◌, ◌∷◌, [], All, map, sym, ap, subst}
+use Rattle.std.proofs.Common.{◌∷◌, [], All, Contains, refl, sym, subst}
 use Rattle.std.specs.Prelude.{Some}
 use Rattle.std.proofs.lemmas.List.Elements.{All-head}
 use Rattle.overlay_order.specs.Content.{plain_edge, plain_edges}

@@ -1,5 +1,5 @@
 -- What leads from the point, and the parity of the winding right of it, tell the location.
-use Rattle.std.proofs.Common.{◌≡◌, cond, ◌||◌, map, sym, ap, ◌∙◌, subst, rules, w64, to_z, of_z, to_z-of_z}
+use Rattle.std.proofs.Common.{◌≡◌, true, cond, ◌||◌, map, sym, ap, ◌∙◌, subst, rules, w64, to_z, of_z, to_z-of_z}
 use Rattle.std.proofs.lemmas.List.Elements.{All-weaker}
 use Rattle.overlay_geom.specs.Plane.{point_lt, in_plane}
 use Rattle.overlay_geom.specs.Points.{plain_point}

@@ -16,7 +16,7 @@ told_of-requires g c =
     let limit = g.I.IntNumber.limit in
     let es = plain_edges whole c.args.edges.now in
     let mapped = length-map c.args.edges.now (plain_edge whole) in
-    let few = c.if-edges.false in
+    let few = c.if-edges-ge-TOO_MANY.false in
     subst (IsContent limit) (sym (counted_same whole c.args.edges.now))
     (content_once limit es c.requires (omega (arith, mapped, few)))
 
