@@ -19,7 +19,10 @@ pub(crate) fn next(seed: &mut u64, below: u64) -> i32 {
 }
 
 // Squares round the origin, 4 units apart.
-pub(crate) fn nested<A: Allocator + Clone>(alloc: A, count: i32) -> Result<IntShape<i32, A>, AllocError> {
+pub(crate) fn nested<A: Allocator + Clone>(
+    alloc: A,
+    count: i32,
+) -> Result<IntShape<i32, A>, AllocError> {
     let mut shape: IntShape<i32, A> = Vec::new(alloc.clone()?);
     for n in 1..count + 1 {
         let r = 4 * n;
