@@ -1,6 +1,6 @@
--- Edges that count once are edges that a builder may hold, where they are not too many; so are the upright ones, turned.
-use Rattle.std.proofs.Common.{◌≡◌, inl, inr, ℕ, ◌+◌, ◌<◌, ◌^◌, ℤ, Bool, true, false, cond, List, [], ◌∷◌, Contains, length, map, sum_by, refl}
-use Rattle.std.proofs.Common.{sym, ap, ◌∙◌, subst, arith}
+-- A builder may hold edges that count once, where they are not too many, and the upright ones, turned.
+use Rattle.std.proofs.Common.{◌≡◌, inl, inr, ℕ, ◌+◌, ◌<◌, ◌^◌, ℤ, Bool, true, false, cond, List, [], ◌∷◌, Contains}
+use Rattle.std.proofs.Common.{length, map, sum_by, refl, sym, ap, ◌∙◌, subst, arith}
 use Rattle.std.specs.List.{All}
 use Rattle.std.specs.Ordering.{int_eq}
 use Rattle.std.proofs.lemmas.Bool.Decides.{Decides-int_eq}

@@ -1,6 +1,6 @@
 -- What edges that count once tell of a point: whether it is on one of them, and how many are below it.
-use Rattle.std.proofs.Common.{◌≡◌, ◌⊎◌, inl, inr, Bool, true, false, cond, not, ◌&&◌, ◌||◌, ℤ, pos, ◌+ℤ◌, ◌-ℤ◌, ◌*ℤ◌, ◌<ℤ◌}
-use Rattle.std.proofs.Common.{◌≤ℤ◌, int_lt, int_le, List, [], ◌∷◌, Contains, map, refl, sym, ap, ◌∙◌, subst, arith}
+use Rattle.std.proofs.Common.{◌≡◌, ◌⊎◌, inl, inr, Bool, true, false, cond, not, ◌&&◌, ◌||◌, ℤ, pos, ◌+ℤ◌, ◌-ℤ◌, ◌*ℤ◌}
+use Rattle.std.proofs.Common.{◌<ℤ◌, ◌≤ℤ◌, int_lt, int_le, List, [], ◌∷◌, Contains, map, refl, sym, ap, ◌∙◌, subst, arith}
 use Rattle.std.specs.List.{All}
 use Rattle.std.specs.Ordering.{int_eq}
 use Rattle.std.proofs.lemmas.Bool.{and_parts}
@@ -13,8 +13,8 @@ use Rattle.overlay_geom.specs.Plane.{Point, Edge, point_lt, side, in_plane, is_s
 use Rattle.overlay_geom.proofs.PointOrder.{IsBefore, Decides-point_lt}
 use Rattle.overlay_geom.proofs.Signs.{linear, zero_of_mul-zero, mul-zero}
 use Rattle.overlay_plane.proofs.Crossing.{between_on_line}
-use Rattle.overlay_plane.proofs.Entries.{any_of_entry, all_of_entries, Contains-map, Contains-from_map, Contains-flat_map}
-use Rattle.overlay_plane.proofs.Entries.{Contains-from_flat_map}
+use Rattle.overlay_plane.proofs.Entries.{any_of_entry, all_of_entries, Contains-map, Contains-from_map}
+use Rattle.overlay_plane.proofs.Entries.{Contains-flat_map, Contains-from_flat_map}
 use Rattle.overlay_plane.proofs.Tests.{test_from_lt, test_from_le}
 use Rattle.overlay_geom.proofs.Entries.{Contains-head, Contains-cases}
 use Rattle.overlay_relate.specs.Locations.{differ, is_odd, odd_below, IsOnSome}
@@ -61,7 +61,8 @@ module _ (e : Edge) (v : Point) where
       (λ before. (
         Right,
         sym (both_so (spans_beside Right e (in_plane v)) true _
-            (span_right e v ∙ ap₂_and (test_from_le e.a.x v.x from) (test_from_lt v.x e.b.x before)) (sym (level_test level))),
+            (span_right e v ∙ ap₂_and (test_from_le e.a.x v.x from) (test_from_lt v.x e.b.x before))
+            (sym (level_test level))),
       ))
       (λ past. (
         Left,
@@ -105,7 +106,8 @@ module _ (e : Edge) (v : Point) (upright : e.a.x ≡ e.b.x) where
       narrow : (z : ℤ) → (e.b.x -ℤ e.a.x) *ℤ z ≡ pos 0
       narrow z = let zero : e.b.x -ℤ e.a.x ≡ pos 0 = omega linear in ap (λ w. w *ℤ z) zero ∙ omega (arith, ints)
 
-  pub turned_leads_where_on : IsBefore e.a e.b → IsOn e (in_plane v) → LeadsFrom (turned_point v) (counted_once (turned e))
+  pub turned_leads_where_on : IsBefore e.a e.b → IsOn e (in_plane v) →
+      LeadsFrom (turned_point v) (counted_once (turned e))
   turned_leads_where_on before on =
       let high = before.y (omega linear) in by high on.in_x on.in_y
     where

@@ -122,11 +122,23 @@ fn told_from<I: IntNumber, B: Allocator + Clone>(
     if place % TOGETHER != 0 {
         return Ok(told);
     }
-    let rest = &points[place..];
-    if rest.len() > TOGETHER {
-        told_once(alloc, edges, &rest[..TOGETHER])
+    told_first(alloc, edges, &points[place..], TOGETHER)
+}
+
+// Returns what the edges tell of the first points, at most of that number.
+fn told_first<I: IntNumber, B: Allocator + Clone>(
+    alloc: B,
+    edges: &[IntEdge<I>],
+    points: &[IntPoint<I>],
+    most: usize,
+) -> Result<ToldOnce<I, B>, AllocError>
+    requires { All (IsLongEdge I.limit) (plain_edges I.whole edges.now) }
+    ensures { IfOk result (λ t. AreToldOnce I.whole (plain_edges I.whole edges.now) t.all.items t.uprights.items) }
+{
+    if points.len() > most {
+        told_once(alloc, edges, &points[..most])
     } else {
-        told_once(alloc, edges, rest)
+        told_once(alloc, edges, points)
     }
 }
 

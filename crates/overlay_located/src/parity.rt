@@ -23,8 +23,8 @@ use overlay_order::count::ShapeCountBoolean;
 use overlay_order::edge::CountedEdge;
 use overlay_relate::location::PointLocation;
 
-/// Returns where the point lies, if both queries at the place tell of it: on an edge, or else inside where an odd number
-/// of edges are below it.
+/// Returns where the point lies, if both queries at the place tell of it: on an edge, or else inside where an odd
+/// number of edges are below it.
 pub(crate) fn parity_location<I: IntNumber>(
     told: &[Query<I, ShapeCountBoolean>],
     uprights: &[Query<I, ShapeCountBoolean>],

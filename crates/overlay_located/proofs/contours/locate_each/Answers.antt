@@ -33,7 +33,7 @@ loop-at-preserved g c =
     let paths = paths_of_shape whole c.args.contours.now in
     let p = c.index-points-at.result in
     let seen = plain_points whole (take c.loop-at.at points) in (
-      c.in_ok-told_from.ensures,
+      c.in_ok-told-2.ensures,
       subst (AnswersWhere (IsLocatedIn paths) (plain_points whole (take (c.loop-at.at + 1) points)))
           (sym c.in_ok-push.ensures.items)
           (subst (λ ps. AnswersWhere (IsLocatedIn paths) ps _)

@@ -1,5 +1,5 @@
 -- The first edge leads from the point, or there is none.
-use Rattle.std.proofs.Common.{◌∷◌, [], All, Contains, refl, sym, subst}
+use Rattle.std.proofs.Common.{◌≡◌, ◌∷◌, [], true, All, Contains, subst, rules}
 use Rattle.std.specs.Prelude.{Some}
 use Rattle.std.proofs.lemmas.List.Elements.{All-head}
 use Rattle.overlay_order.specs.Content.{plain_edge, plain_edges}
@@ -16,12 +16,13 @@ returns-in-Some g c =
     let few = c.args.q.through in
     let through = (plain_query whole boolean_counts c.args.q).through in
     let e = c.in-Some.e in
+    let does : c.leads.result ≡ true = search rules in
     let all = in_first (plain (if_some few.first)) (plain (if_some few.second)) (plain (if_some few.third))
     (plain (if_some few.fourth)) through
     (mapped_parts (plain_edge whole boolean_counts) (if_some few.first) (if_some few.second) (if_some few.third)
     (if_some few.fourth)) in (
       plain_edge whole boolean_counts e,
       All-head (Contains through) (plain_edge whole boolean_counts e) []
-          (subst (λ o. All (Contains through) (plain (if_some o))) (sym c.in-Some.is) all),
-      c.leads.ensures refl,
+          (subst (λ o. All (Contains through) (plain (if_some o))) c.in-Some.is all),
+      c.leads.ensures does,
     )

@@ -23,6 +23,6 @@ told_of-requires g c =
 pub returns : goal.returns
 returns g c =
     let whole = g.I.IntNumber.whole in
+    let plain = plain_query whole boolean_counts in
     IfOk-weaker c.told_of.result _ _ (λ v are.
-    subst (λ es. All (λ q. IsTold es (plain_query whole boolean_counts q)) v.items) (counted_same whole c.args.edges.now)
-    are) c.told_of.ensures
+    subst (λ es. All (λ q. IsTold es (plain q)) v.items) (counted_same whole c.args.edges.now) are) c.told_of.ensures

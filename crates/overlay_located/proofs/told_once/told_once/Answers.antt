@@ -8,8 +8,8 @@ use Rattle.overlay_located.specs.Queries.{plain_query, IsTold}
 use Rattle.overlay_located.proofs.OnceContents.{turned_uprights_long}
 use Rattle.overlay_located.proofs.told_once.told_once.Goals as goal
 
-pub told_of_once-2-requires : goal.told_of_once-2-requires
-told_of_once-2-requires g c =
+pub told_of_once-requires-2 : goal.told_of_once-requires-2
+told_of_once-requires-2 g c =
     let whole = g.I.IntNumber.whole in
     subst (λ us. All (IsLongEdge g.I.IntNumber.limit) (plain_edges whole us)) (sym c.deref.ensures.value)
     (subst (All (IsLongEdge g.I.IntNumber.limit)) (sym c.in_ok-upright.ensures)
