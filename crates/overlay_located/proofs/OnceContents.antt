@@ -1,12 +1,12 @@
 -- A builder may hold edges that count once, where they are not too many, and the upright ones, turned.
-use Rattle.std.proofs.Common.{◌≡◌, inl, inr, ℕ, ◌+◌, ◌<◌, ◌^◌, ℤ, Bool, true, false, cond, List, [], ◌∷◌, Contains}
-use Rattle.std.proofs.Common.{length, map, sum_by, refl, sym, ap, ◌∙◌, subst, arith}
+use Rattle.std.proofs.Common.{◌≡◌, inl, inr, ℕ, ◌<◌, ◌^◌, ℤ, Bool, true, false, cond, List, [], ◌∷◌, Contains, length}
+use Rattle.std.proofs.Common.{map, refl, sym, ap, ◌∙◌, subst, arith}
 use Rattle.std.specs.List.{All}
 use Rattle.std.specs.Ordering.{int_eq}
 use Rattle.std.proofs.lemmas.Bool.Decides.{Decides-int_eq}
 use Rattle.std.proofs.lemmas.List.Elements.{All-map, All-weaker, All-contains}
 use Rattle.std.proofs.lemmas.List.Sums.{sum_by-cons}
-use Rattle.overlay_geom.specs.Edges.{CountedEdge, weight}
+use Rattle.overlay_geom.specs.Edges.{weight}
 use Rattle.overlay_geom.specs.Counts.{weight_of_counts}
 use Rattle.overlay_geom.specs.Plane.{Edge}
 use Rattle.overlay_geom.specs.Resolved.{plain_edge, plain_edges, IsLongEdge}

@@ -1,14 +1,12 @@
 -- Where a point lies by edges that count once, as they and the upright ones among them were told of it.
-use Rattle.std.proofs.Common.{◌≡◌, Bool, true, false, cond, ◌||◌, ℤ, List, [], Contains, map, refl, sym, ap, ◌∙◌, subst}
+use Rattle.std.proofs.Common.{◌≡◌, Bool, true, false, cond, ◌||◌, List, [], map, refl, sym, ◌∙◌, subst}
 use Rattle.std.specs.List.{All}
-use Rattle.overlay_geom.specs.Edges.{CountedEdge}
 use Rattle.overlay_geom.specs.Plane.{Point, Edge, point_lt, in_plane, IsOff}
-use Rattle.overlay_relate.specs.Locations.{is_odd, odd_below, IsLocatedBy}
+use Rattle.overlay_relate.specs.Locations.{is_odd, IsLocatedBy}
 use Rattle.overlay_relate.specs.declared.location.PointLocation.TheVariants.{Inside, Boundary, Outside}
 use Rattle.overlay_located.specs.Once.{counted_once, turned_point, turned_uprights, Lead, TellsOf}
 use Rattle.overlay_located.specs.Queries.{Asked, sum_on}
 use Rattle.overlay_located.specs.Tells.{Tells}
-use Rattle.overlay_located.specs.declared.flank.Flank.TheVariants.{Right}
 use Rattle.overlay_located.proofs.OnceTells.{on_some_where_leads, on_some_where_upright_leads, off_where_none_leads}
 use Rattle.overlay_located.proofs.OnceTells.{odd_told}
 

@@ -1,10 +1,10 @@
 -- Where a point lies by the edges of a shape's contours, it lies in the shape.
-use Rattle.std.proofs.Common.{◌≡◌, Bool, List, [], ◌∷◌, ◌++◌, map, refl, sym, ap, ap₂, ◌∙◌, subst}
+use Rattle.std.proofs.Common.{◌≡◌, List, [], ◌∷◌, ◌++◌, refl, sym, ap, ap₂, ◌∙◌, subst}
 use Rattle.overlay_geom.specs.Plane.{Point, PlanePoint, Edge, is_strictly_below, steps_of}
 use Rattle.overlay_geom.specs.Resolved.{edges_of}
 use Rattle.overlay_relate.proofs.Parities.{differ-assoc, odd_winding}
-use Rattle.overlay_relate.specs.Locations.{differ, odd_below, is_in_contour, is_in_shape, shape_edges, IsLocated}
-use Rattle.overlay_relate.specs.Locations.{IsLocatedBy, IsLocatedIn}
+use Rattle.overlay_relate.specs.Locations.{differ, odd_below, is_in_shape, shape_edges, IsLocated, IsLocatedBy}
+use Rattle.overlay_relate.specs.Locations.{IsLocatedIn}
 use Rattle.overlay_relate.specs.declared.location.PointLocation.{PointLocation}
 
 odd_below_append : (es fs : List Edge) (p : PlanePoint) → odd_below (es ++ fs) p ≡

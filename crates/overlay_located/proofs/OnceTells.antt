@@ -1,6 +1,6 @@
 -- What edges that count once tell of a point: whether it is on one of them, and how many are below it.
-use Rattle.std.proofs.Common.{◌≡◌, ◌⊎◌, inl, inr, Bool, true, false, cond, not, ◌&&◌, ◌||◌, ℤ, pos, ◌+ℤ◌, ◌-ℤ◌, ◌*ℤ◌}
-use Rattle.std.proofs.Common.{◌<ℤ◌, ◌≤ℤ◌, int_lt, int_le, List, [], ◌∷◌, Contains, map, refl, sym, ap, ◌∙◌, subst, arith}
+use Rattle.std.proofs.Common.{◌≡◌, inl, inr, Bool, true, false, cond, not, ◌&&◌, ◌||◌, ℤ, pos, ◌+ℤ◌, ◌-ℤ◌, ◌*ℤ◌, ◌<ℤ◌}
+use Rattle.std.proofs.Common.{◌≤ℤ◌, int_lt, int_le, List, [], ◌∷◌, Contains, map, refl, sym, ap, ◌∙◌, subst, arith}
 use Rattle.std.specs.List.{All}
 use Rattle.std.specs.Ordering.{int_eq}
 use Rattle.std.proofs.lemmas.Bool.{and_parts}
@@ -8,7 +8,7 @@ use Rattle.std.proofs.lemmas.Bool.Decides.{Decides-int_eq}
 use Rattle.std.proofs.lemmas.Int.{ints, by_lt_z}
 use Rattle.std.proofs.lemmas.List.Elements.{All-contains}
 use lib.IntN.{+ℤ_idr}
-use Rattle.overlay_geom.specs.Edges.{CountedEdge, ends_of}
+use Rattle.overlay_geom.specs.Edges.{CountedEdge}
 use Rattle.overlay_geom.specs.Plane.{Point, Edge, point_lt, side, in_plane, is_strictly_below, IsBetween, IsOn, IsOff}
 use Rattle.overlay_geom.proofs.PointOrder.{IsBefore, Decides-point_lt}
 use Rattle.overlay_geom.proofs.Signs.{linear, zero_of_mul-zero, mul-zero}
@@ -19,7 +19,7 @@ use Rattle.overlay_plane.proofs.Tests.{test_from_lt, test_from_le}
 use Rattle.overlay_geom.proofs.Entries.{Contains-head, Contains-cases}
 use Rattle.overlay_relate.specs.Locations.{differ, is_odd, odd_below, IsOnSome}
 use Rattle.overlay_located.specs.Once.{counted_once, turned_point, turned, turned_if_upright, turned_uprights}
-use Rattle.overlay_located.specs.Sectors.{spans_beside, leads_from, is_below_near}
+use Rattle.overlay_located.specs.Sectors.{spans_beside}
 use Rattle.overlay_located.specs.Tells.{LeadsFrom, near_sum, Tells}
 use Rattle.overlay_located.specs.declared.flank.Flank.{Flank}
 use Rattle.overlay_located.specs.declared.flank.Flank.TheVariants.{Left, Right}

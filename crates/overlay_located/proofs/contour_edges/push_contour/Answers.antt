@@ -1,9 +1,7 @@
 -- The contour's edges are those from its first point through all and back.
-use Rattle.std.proofs.Common.{◌++◌, ap, ◌∙◌}
 use Rattle.std.proofs.lemmas.List.Elements.{All-contains}
 use Rattle.overlay_geom.specs.Points.{plain_point, plain_points, InRange}
-use Rattle.overlay_geom.specs.Resolved.{plain_edges}
-use Rattle.overlay_geom.proofs.ResolvedSteps.{edges_round, first_mapped}
+use Rattle.overlay_geom.proofs.ResolvedSteps.{first_mapped}
 use Rattle.overlay_located.proofs.contour_edges.push_contour.Goals as goal
 
 pub push_round-requires-clause-first : goal.push_round-requires-clause-first

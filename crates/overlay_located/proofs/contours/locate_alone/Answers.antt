@@ -1,9 +1,9 @@
 -- It is the first of one answer.
-use Rattle.std.proofs.Common.{[], ◌∷◌, sym, subst, arith}
+use Rattle.std.proofs.Common.{[], sym, subst, arith}
 use Rattle.std.proofs.lemmas.List.Elements.{All-nil, All-cons}
 use Rattle.overlay_geom.specs.Paths.{paths_of_shape}
 use Rattle.overlay_geom.specs.Plane.{in_plane}
-use Rattle.overlay_geom.specs.Points.{plain_point, plain_points, InRange, AllInRange}
+use Rattle.overlay_geom.specs.Points.{plain_point, InRange}
 use Rattle.overlay_relate.specs.Locations.{IsLocatedIn}
 use Rattle.overlay_located.proofs.contours.locate_alone.Goals as goal
 

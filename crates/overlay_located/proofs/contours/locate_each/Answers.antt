@@ -1,5 +1,5 @@
 -- One point more is located.
-use Rattle.std.proofs.Common.{◌≡◌, ◌+◌, [], take, sym, subst}
+use Rattle.std.proofs.Common.{◌+◌, [], ◌∷◌, ◌++◌, take, sym, subst}
 use Rattle.overlay_geom.specs.Paths.{paths_of_shape}
 use Rattle.overlay_geom.specs.Plane.{Point, in_plane}
 use Rattle.overlay_geom.specs.Points.{plain_point, plain_points, InRange}
@@ -36,7 +36,7 @@ loop-at-preserved g c =
       c.in_ok-told-2.ensures,
       subst (AnswersWhere (IsLocatedIn paths) (plain_points whole (take (c.loop-at.at + 1) points)))
           (sym c.in_ok-push.ensures.items)
-          (subst (λ ps. AnswersWhere (IsLocatedIn paths) ps _)
+          (subst (λ ps. AnswersWhere (IsLocatedIn paths) ps (c.loop-at.located.items ++ c.in_ok-location.location ∷ []))
           (sym (mapped_more (plain_point whole) points c.loop-at.at p c.loop-at-test.true c.index-points-at.is))
           (answers_more (λ (q : Point) (l : PointLocation). IsLocatedIn paths (in_plane q) l) seen (plain_point whole p)
           c.loop-at.located.items c.in_ok-location.location c.loop-at.invariant.1 c.in_ok-location.ensures)),

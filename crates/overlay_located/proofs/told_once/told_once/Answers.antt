@@ -1,5 +1,5 @@
 -- The upright edges, turned, are long too.
-use Rattle.std.proofs.Common.{◌≡◌, map, sym, subst}
+use Rattle.std.proofs.Common.{map, sym, subst}
 use Rattle.std.specs.List.{All}
 use Rattle.overlay_geom.specs.Resolved.{plain_edges, IsLongEdge}
 use Rattle.overlay_order.specs.Counts.{boolean_counts}
