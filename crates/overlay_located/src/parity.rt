@@ -80,13 +80,17 @@ fn told_at<I: IntNumber>(
 fn do_lead<I: IntNumber>(q: Query<I, ShapeCountBoolean>) -> Option<bool>
     ensures { IfSome result (Lead (plain_point I.whole q.point) (plain_query I.whole boolean_counts q).through) }
 {
-    if q.through.is_none() {
-        return Some(false);
+    let p = q.point;
+    match q.through.first {
+        Some(e) => { if leads(&e, p) { Some(true) } else { None } }
+        None => {
+            if q.through.is_none() {
+                Some(false)
+            } else {
+                None
+            }
+        }
     }
-    let Some(e) = q.through.first else {
-        return None;
-    };
-    if leads(&e, q.point) { Some(true) } else { None }
 }
 
 // Returns whether the edge is in range and leads from the point.
