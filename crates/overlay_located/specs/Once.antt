@@ -47,6 +47,11 @@ abbrev pub Lead : Point → List CountedEdge → Bool → Type 0
 Lead v fs true = (e : CountedEdge) × Contains fs e × LeadsFrom v e
 Lead v fs false = fs ≡ []
 
+-- some edge of the list leads from v, or it is told that there is none
+abbrev pub LeadFirst : Point → List CountedEdge → Bool → Bool → Type 0
+LeadFirst v fs none true = Lead v fs true
+LeadFirst v fs none false = none ≡ true
+
 -- all edges tell of v what these do, with the numbers on its flanks
 abbrev pub TellsOf : List CountedEdge → Point → Asked → Type 0
 TellsOf es v q = (q.point ≡ v) × Tells v es q.through (sum_on q)

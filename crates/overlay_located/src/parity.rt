@@ -4,10 +4,11 @@ ghost use Rattle.std.specs.Prelude.{◌≡◌, true, cond, map, All, IfSome};
 ghost use Rattle.overlay_geom.specs.Plane.{in_plane};
 ghost use Rattle.overlay_geom.specs.Points.{plain_point};
 ghost use Rattle.overlay_geom.specs.Resolved.{IsLongEdge};
-ghost use Rattle.overlay_order.specs.Content.{plain_edge};
+ghost use Rattle.overlay_order.specs.Content.{plain_edge, plain_edges};
 ghost use Rattle.overlay_order.specs.Counts.{boolean_counts};
 ghost use Rattle.overlay_relate.specs.Locations.{IsLocatedBy};
-ghost use Rattle.overlay_located.specs.Once.{counted_once, turned_point, turned_uprights, Lead, TellsOf};
+ghost use Rattle.overlay_located.specs.Few.{if_some};
+ghost use Rattle.overlay_located.specs.Once.{counted_once, turned_point, turned_uprights, Lead, LeadFirst, TellsOf};
 ghost use Rattle.overlay_located.specs.Queries.{plain_query, IsTold};
 ghost use Rattle.overlay_located.specs.Tells.{LeadsFrom};
 
@@ -80,16 +81,22 @@ fn told_at<I: IntNumber>(
 fn do_lead<I: IntNumber>(q: Query<I, ShapeCountBoolean>) -> Option<bool>
     ensures { IfSome result (Lead (plain_point I.whole q.point) (plain_query I.whole boolean_counts q).through) }
 {
-    let p = q.point;
-    match q.through.first {
+    let is_none = q.through.is_none();
+    first_leads(q.through.first, q.point, is_none)
+}
+
+// Returns true where the first edge leads from the point, and false where there is no edge at all.
+fn first_leads<I: IntNumber>(
+    first: Option<CountedEdge<I, ShapeCountBoolean>>,
+    p: IntPoint<I>,
+    is_none: bool,
+) -> Option<bool>
+    ensures { IfSome result
+        (LeadFirst (plain_point I.whole p) (plain_edges I.whole boolean_counts (if_some first)) is_none) }
+{
+    match first {
         Some(e) => { if leads(&e, p) { Some(true) } else { None } }
-        None => {
-            if q.through.is_none() {
-                Some(false)
-            } else {
-                None
-            }
-        }
+        None => { if is_none { Some(false) } else { None } }
     }
 }
 
