@@ -3,7 +3,9 @@
 use crate::figures::{Width, point};
 use crate::refusals::{Memory, Trial};
 use overlay_geom::fill_rule::FillRule;
+use overlay_geom::path::IntShape;
 use overlay_geom::point::IntPoint;
+use overlay_located::contours::locate_in_contours;
 use overlay_located::located::locate_told;
 use overlay_located::together::told_of;
 use overlay_order::count::ShapeCountBoolean;
@@ -77,6 +79,41 @@ fn check_told<I: Width>(trial: &Trial<'_, impl Abort>) -> Result<(), Fail> {
         assert!(trial.rt; location == expected);
     }
     Ok(())
+}
+
+// The squares as contours, counterclockwise.
+fn squares<I: Width>(memory: Memory<'_>) -> Result<IntShape<I, Memory<'_>>, AllocError> {
+    let mut shape = Vec::new(memory);
+    for square in 0..SQUARES {
+        let (left, right) = (4 * square, 4 * square + 2);
+        let corners = [[left, 0], [right, 0], [right, 2], [left, 2]];
+        shape.push(Vec::from_array(memory, corners.map(|at| point(at[0], at[1])))?)?;
+    }
+    Ok(shape)
+}
+
+fn check_contours<I: Width>(trial: &Trial<'_, impl Abort>) -> Result<(), Fail> {
+    let memory = trial.memory;
+    let shape = squares::<I>(memory)?;
+    let points = points_of::<I>(memory)?;
+    let found = trial.refuse_call(
+        "overlay_located::locate_in_contours",
+        || locate_in_contours(memory, &shape, &points),
+    )?;
+    for (place, location) in found.iter().enumerate() {
+        let expected = if place % 2 == 0 {
+            PointLocation::Inside
+        } else {
+            PointLocation::Outside
+        };
+        assert!(trial.rt; *location == expected);
+    }
+    Ok(())
+}
+
+#[test]
+fn points_in_contours(rt: HostRuntime) -> Result<(), Fail> {
+    at_a_width!(rt, check_contours)
 }
 
 #[test]

@@ -11,7 +11,7 @@ use std::alloc::{AllocError, Allocator, Global};
 use std::test::Fail;
 
 // Numbers that look random: each follows from the one before.
-fn next(seed: &mut u64, below: u64) -> i32 {
+pub(crate) fn next(seed: &mut u64, below: u64) -> i32 {
     *seed = seed
         .wrapping_mul(6364136223846793005)
         .wrapping_add(1442695040888963407);
@@ -19,7 +19,10 @@ fn next(seed: &mut u64, below: u64) -> i32 {
 }
 
 // Squares round the origin, 4 units apart.
-fn nested<A: Allocator + Clone>(alloc: A, count: i32) -> Result<IntShape<i32, A>, AllocError> {
+pub(crate) fn nested<A: Allocator + Clone>(
+    alloc: A,
+    count: i32,
+) -> Result<IntShape<i32, A>, AllocError> {
     let mut shape: IntShape<i32, A> = Vec::new(alloc.clone()?);
     for n in 1..count + 1 {
         let r = 4 * n;
@@ -30,7 +33,7 @@ fn nested<A: Allocator + Clone>(alloc: A, count: i32) -> Result<IntShape<i32, A>
 }
 
 // Where a point lies under EvenOdd in squares nested so: it is r units from the origin, by the greater coordinate.
-fn in_nested(count: i32, x: i32, y: i32) -> PointLocation {
+pub(crate) fn in_nested(count: i32, x: i32, y: i32) -> PointLocation {
     let r = if x.abs() < y.abs() { y.abs() } else { x.abs() };
     if r >= 4 && r % 4 == 0 && r <= 4 * count {
         Boundary

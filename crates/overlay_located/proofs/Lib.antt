@@ -8,6 +8,10 @@ pub mod LocatedPaths
 pub mod NearSectors
 pub mod NearTells
 pub mod NearTests
+pub mod OnceContents
+pub mod OnceLocated
+pub mod OnceShapes
+pub mod OnceTells
 pub mod OneLocation
 pub mod OpenQueries
 pub mod PlacedForms

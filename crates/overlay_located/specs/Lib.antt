@@ -4,6 +4,7 @@ pub mod Few
 pub mod GivenShapes
 pub mod Laws
 pub mod Located
+pub mod Once
 pub mod Queries
 pub mod Rays
 pub mod Sectors

@@ -1,6 +1,6 @@
 //! A few edges through a point.
 
-ghost use Rattle.std.specs.Prelude.{◌≡◌, ◌∷◌, [], IfSome};
+ghost use Rattle.std.specs.Prelude.{◌≡◌, ◌∷◌, [], true, IfSome};
 ghost use Rattle.overlay_located.specs.Few.{few_edges};
 
 use overlay_order::edge::CountedEdge;
@@ -29,6 +29,16 @@ impl<I: Copy, C: Copy> Few<I, C> {
             third: None,
             fourth: None,
         }
+    }
+
+    /// Returns whether there is no edge.
+    pub(crate) fn is_none(self) -> bool
+        ensures { result ≡ true → few_edges self ≡ [] }
+    {
+        self.first.is_none()
+            && self.second.is_none()
+            && self.third.is_none()
+            && self.fourth.is_none()
     }
 
     /// Returns the edges with one more, if there are fewer than four.

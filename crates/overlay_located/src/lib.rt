@@ -3,6 +3,9 @@
 
 mod blocks;
 mod chain;
+mod contour_edges;
+pub mod contours;
+mod depth;
 pub mod exact_shape;
 mod few;
 mod flank;
@@ -13,10 +16,14 @@ mod line;
 pub mod located;
 mod near;
 mod node;
+mod once;
 pub mod only_locations;
+mod parity;
 pub mod parts;
 pub mod query;
 mod seen;
 mod slab;
 pub mod together;
 mod told;
+mod told_once;
+mod uprights;

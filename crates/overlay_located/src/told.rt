@@ -156,8 +156,8 @@ fn sum_with<I: IntNumber, C: EdgeCount>(
     }
 }
 
-// Returns whether the edge is in range, as each edge of a shape is.
-fn is_held<I: IntNumber, C: EdgeCount>(e: &CountedEdge<I, C>) -> bool
+/// Returns whether the edge is in range, as each edge of a shape is.
+pub(crate) fn is_held<I: IntNumber, C: EdgeCount>(e: &CountedEdge<I, C>) -> bool
     ensures { result ≡ true → IsHeld I.limit (plain_edge I.whole C.counts e.now) }
 {
     compare_points(e.a, e.b).is_lt() && is_in_range(e.a) && is_in_range(e.b)

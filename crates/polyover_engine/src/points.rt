@@ -7,6 +7,7 @@ ghost use Rattle.polyover_text.specs.Statements.{figures_at};
 
 use crate::exit::Exit;
 use crate::subject::subject;
+use overlay_located::contours::locate_in_contours;
 use overlay_relate::containment::IntPointContainment;
 use polyover_text::input::Input;
 use polyover_text::location_text::{locations_text, truths_text};
@@ -39,6 +40,6 @@ pub(crate) fn locate_text<A: Allocator + Copy>(
         (λ exit. EndsUnanswered (figures_at input.now.figures) input.now.line Query.Locate exit) }
 {
     let shape = subject(alloc, &input.figures.contours)?;
-    let locations = shape.locate_points(alloc, &input.figures.points)?;
+    let locations = locate_in_contours(alloc, &shape, &input.figures.points)?;
     Ok(locations_text(alloc, &locations)?)
 }
