@@ -23,9 +23,7 @@ use overlay_pairs::strips::{Strips, strips_of};
 use std::alloc::{AllocError, Allocator};
 
 // Greatest number of edges that are tested block by block. Where there may be more, strips are searched.
-const MOST_BY_BLOCKS: usize = 512;
-// Greatest number of blocks whose edges are tested one by one. Where there are more, strips are searched.
-const MOST_MET: usize = 8;
+const MOST_BY_BLOCKS: usize = 256;
 
 /// Where the edges of a list meet.
 #[derive(Debug, Clone, Copy, PartialEq, Eq)]
@@ -102,39 +100,22 @@ fn crosses_none_behind<I: IntNumber, C: EdgeCount, A: Allocator>(
     ensures none { IfOk result (λ b. b ≡ true → CrossesNoneBehind (plain_edges I.whole C.counts edges.now) i) }
     ensures some { IfOk result (λ b. b ≡ false → CrossesSomeBehind (plain_edges I.whole C.counts edges.now) i) }
 {
-    if has_short_run(edges, blocks, i) {
+    if has_short_run(edges, i) {
         return Ok(crosses_none_in_run(edges, blocks, i));
     }
     find_open(near, edges, strips, &None, i)?;
     Ok(crosses_none(edges, i, near))
 }
 
-// Returns whether few edges after place i start left of the right end of the edge there, in blocks that seldom share
-// heights with it. The edges ascend.
-fn has_short_run<I: IntNumber, C: EdgeCount>(
-    edges: &[CountedEdge<I, C>],
-    blocks: &[Heights<I>],
-    i: usize,
-) -> bool
-    requires blocks { AreBlockHeights I.whole (plain_edges I.whole C.counts edges.now) blocks.now }
-    requires within { i < length edges.now }
+// Returns whether few edges after place i start left of the right end of the edge there. The edges ascend.
+fn has_short_run<I: IntNumber, C: EdgeCount>(edges: &[CountedEdge<I, C>], i: usize) -> bool
+    requires { i < length edges.now }
 {
-    let e = &edges[i];
-    let heights = heights_of(e);
     let far = i.saturating_add(MOST_BY_BLOCKS);
-    let mut met: usize = 0;
-    let mut j = i + 1;
-    while j < edges.len() && is_less(edges[j].a.x, e.b.x) {
-        let meets = overlap(heights, blocks[j / BLOCK_SIZE]);
-        if meets {
-            met = met.saturating_add(1);
-        }
-        if far < j || MOST_MET < met {
-            return false;
-        }
-        j = block_end(j, edges.len());
+    if edges.len() <= far {
+        return true;
     }
-    true
+    !is_less(edges[far].a.x, edges[i].b.x)
 }
 
 // Returns whether the edge at place i crosses no later edge. It crosses none that starts at its right end, or right of
