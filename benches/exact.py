@@ -84,7 +84,7 @@ def scribble(count, x):
 def bars(count):
     """Slanted bars that lie over one another apart, in random order, and two triangles that share a part of a side.
 
-    Some 60 edges start over each bar. Each second bar is the clip's.
+    Some 120 edges start over each bar. Each second bar is the clip's.
     """
     random, most = Random(count), max(2, count // 2)
     rows, step = list(range(most)), FAR // most
