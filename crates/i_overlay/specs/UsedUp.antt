@@ -1,5 +1,5 @@
 -- What a query answers that uses the builder up.
-use Rattle.std.specs.Prelude.{◌≡◌, ℕ, ℤ, List, [], Result, IfOk}
+use Rattle.std.specs.Prelude.{◌≡◌, ℕ, ℤ, [], Result, IfOk}
 use Rattle.overlay_extract.specs.GivenRegion.{WindsRoundGiven}
 use Rattle.overlay_extract.specs.Results.{Asked, IsResult}
 use Rattle.overlay_geom.specs.Flat.{shapes_in}

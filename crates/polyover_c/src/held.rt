@@ -9,7 +9,7 @@ ghost use Rattle.polyover_calls.specs.Holding.{SimplificationIsHeld, SlicesAreHe
 ghost use Rattle.polyover_calls.specs.Options.{options_32, options_64};
 
 use polyover_calls::arrays::{Contours32, Contours64};
-use polyover_calls::asked::OverlayAsked;
+use polyover_calls::asked::OverlayNumbers;
 use polyover_calls::clip_options::ClipOptions;
 use polyover_calls::held::{Held32, Held64};
 use polyover_calls::holding::{
@@ -34,7 +34,7 @@ pub extern "C" fn polyover_overlay_result_with<'a>(
         (contours_of clip.now.coordinates.now clip.now.ends.now))
         (arrays_at_64 held.new) result }
 {
-    let asked = OverlayAsked {
+    let asked = OverlayNumbers {
         rule,
         fill,
         options: options.numbers(),
@@ -60,7 +60,7 @@ pub extern "C" fn polyover_overlay_result_with_32<'a>(
         (contours_of clip.now.coordinates.now clip.now.ends.now))
         (arrays_at_32 held.new) result }
 {
-    let asked = OverlayAsked {
+    let asked = OverlayNumbers {
         rule,
         fill,
         options: options.numbers(),
@@ -118,7 +118,7 @@ pub extern "C" fn polyover_hierarchy_result_with<'a>(
         (contours_of clip.now.coordinates.now clip.now.ends.now))
         (arrays_at_64 held.new) result }
 {
-    let asked = OverlayAsked {
+    let asked = OverlayNumbers {
         rule,
         fill,
         options: options.numbers(),
@@ -144,7 +144,7 @@ pub extern "C" fn polyover_hierarchy_result_with_32<'a>(
         (contours_of clip.now.coordinates.now clip.now.ends.now))
         (arrays_at_32 held.new) result }
 {
-    let asked = OverlayAsked {
+    let asked = OverlayNumbers {
         rule,
         fill,
         options: options.numbers(),

@@ -10,7 +10,7 @@ ghost use Rattle.polyover_calls.specs.Statuses.{code_of};
 ghost use Rattle.polyover_calls.specs.declared.status.Status.{Status};
 
 use polyover_calls::arrays::{Contours32, Contours64};
-use polyover_calls::asked::OverlayAsked;
+use polyover_calls::asked::OverlayNumbers;
 use polyover_calls::counts::Counts;
 use polyover_calls::hierarchy::hierarchy_arrays;
 use polyover_calls::links::Link;
@@ -42,7 +42,7 @@ pub extern "C" fn polyover_hierarchy_with(
         (linked_room coordinates.new contour_ends.new shape_ends.new links.new counts.new link_count.new)
         s × (result ≡ code_of s) }
 {
-    let asked = OverlayAsked {
+    let asked = OverlayNumbers {
         rule,
         fill,
         options: options.numbers(),
@@ -86,7 +86,7 @@ pub extern "C" fn polyover_hierarchy_with_32(
         (linked_room coordinates.new contour_ends.new shape_ends.new links.new counts.new link_count.new)
         s × (result ≡ code_of s) }
 {
-    let asked = OverlayAsked {
+    let asked = OverlayNumbers {
         rule,
         fill,
         options: options.numbers(),

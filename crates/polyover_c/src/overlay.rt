@@ -10,7 +10,7 @@ ghost use Rattle.polyover_calls.specs.Written.{shape_room};
 ghost use Rattle.polyover_calls.specs.declared.status.Status.{Status};
 
 use polyover_calls::arrays::{Contours32, Contours64};
-use polyover_calls::asked::OverlayAsked;
+use polyover_calls::asked::OverlayNumbers;
 use polyover_calls::counts::Counts;
 use polyover_calls::options::{Options32, Options64};
 use polyover_calls::overlay::overlay_arrays;
@@ -39,7 +39,7 @@ pub extern "C" fn polyover_overlay_with(
         (shape_room coordinates.new contour_ends.new shape_ends.new counts.new)
         s × (result ≡ code_of s) }
 {
-    let asked = OverlayAsked {
+    let asked = OverlayNumbers {
         rule,
         fill,
         options: options.numbers(),
@@ -71,7 +71,7 @@ pub extern "C" fn polyover_overlay_with_32(
         (shape_room coordinates.new contour_ends.new shape_ends.new counts.new)
         s × (result ≡ code_of s) }
 {
-    let asked = OverlayAsked {
+    let asked = OverlayNumbers {
         rule,
         fill,
         options: options.numbers(),

@@ -7,7 +7,7 @@ ghost use Rattle.polyover_calls.specs.Options.{options_32, options_64};
 ghost use Rattle.polyover_vectors.specs.Vectors.{VectorsAreHeld};
 
 use polyover_calls::arrays::{Contours32, Contours64};
-use polyover_calls::asked::OverlayAsked;
+use polyover_calls::asked::OverlayNumbers;
 use polyover_calls::held::{Held32, Held64};
 use polyover_calls::options::{Options32, Options64};
 use polyover_vectors::held::{give, give_32};
@@ -30,7 +30,7 @@ pub extern "C" fn polyover_vectors_result_with<'a>(
         (contours_of clip.now.coordinates.now clip.now.ends.now))
         (arrays_at_64 held.new) result }
 {
-    let asked = OverlayAsked {
+    let asked = OverlayNumbers {
         rule,
         fill,
         options: options.numbers(),
@@ -57,7 +57,7 @@ pub extern "C" fn polyover_vectors_result_with_32<'a>(
         (contours_of clip.now.coordinates.now clip.now.ends.now))
         (arrays_at_32 held.new) result }
 {
-    let asked = OverlayAsked {
+    let asked = OverlayNumbers {
         rule,
         fill,
         options: options.numbers(),

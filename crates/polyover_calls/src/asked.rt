@@ -16,7 +16,7 @@ use std::alloc::Global;
 
 /// An overlay that is asked for: its rules and options by their numbers, and the contours.
 #[derive(Drop)]
-pub struct OverlayAsked<'a, I: IntNumber> {
+pub struct OverlayNumbers<'a, I: IntNumber> {
     /// The overlay rule.
     pub rule: u32,
     /// The fill rule.
@@ -45,7 +45,7 @@ pub struct AskedOverlay<I: OverlayInt> {
 #[tactic(auto, using(crate::proofs::Overlays::contours_refused, crate::proofs::Overlays::adding_refused, crate::proofs::Overlays::overlay_asked))]
 pub fn asked_overlay<I: OverlayInt>(
     alloc: Global,
-    asked: &OverlayAsked<I>,
+    asked: &OverlayNumbers<I>,
 ) -> Result<AskedOverlay<I>, Status>
     ensures { MatchResult result
         (λ a. IsAskedOverlay I.whole I.limit asked.now.rule asked.now.fill asked.now.options

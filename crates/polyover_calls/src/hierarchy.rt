@@ -6,7 +6,7 @@ ghost use Rattle.polyover_calls.specs.Hierarchies.{IsLinkedOverlay, HierarchyEnd
 ghost use Rattle.polyover_calls.specs.Linked.{AreFlatLinked, flat_linked, linked_room};
 ghost use Rattle.polyover_calls.specs.Overlays.{IsOverlayRefused};
 
-use crate::asked::{OverlayAsked, asked_overlay};
+use crate::asked::{OverlayNumbers, asked_overlay};
 use crate::counts::Counts;
 use crate::given::Contours;
 use crate::linked_answer::{LinkedAnswer, flattened_hierarchy, put_linked, widened_linked};
@@ -21,7 +21,7 @@ use std::alloc::Global;
 #[tactic(auto, using(crate::proofs::Endings::put_ends, crate::proofs::Endings::refused_ends))]
 pub fn hierarchy_arrays<I: ArrayInt>(
     alloc: Global,
-    asked: &OverlayAsked<I>,
+    asked: &OverlayNumbers<I>,
     coordinates: &mut [I],
     contour_ends: &mut [usize],
     shape_ends: &mut [usize],
@@ -55,7 +55,7 @@ pub fn hierarchy_arrays<I: ArrayInt>(
 #[tactic(auto, using(crate::proofs::Overlays::no_memory, crate::proofs::Overlays::query_refused, crate::proofs::Hierarchies::hierarchy_answered))]
 fn hierarchy_answer<I: OverlayInt>(
     alloc: Global,
-    asked: &OverlayAsked<I>,
+    asked: &OverlayNumbers<I>,
 ) -> Result<LinkedAnswer<I>, Status>
     ensures { MatchResult result
         (λ a. AreFlatLinked (IsLinkedOverlay I.whole I.limit I.Wide.width I.WideUInt.natural
@@ -79,7 +79,7 @@ fn hierarchy_answer<I: OverlayInt>(
 // The same, at 32 bits where all coordinates fit and contours of all areas are kept.
 pub(crate) fn fitted_hierarchy<I: ArrayInt>(
     alloc: Global,
-    asked: &OverlayAsked<I>,
+    asked: &OverlayNumbers<I>,
 ) -> Result<LinkedAnswer<I>, Status>
     ensures { MatchResult result
         (λ a. AreFlatLinked (IsLinkedOverlay I.whole I.limit I.Wide.width I.WideUInt.natural
@@ -102,7 +102,7 @@ pub(crate) fn fitted_hierarchy<I: ArrayInt>(
                 coordinates: &both.second,
                 ends: asked.clip.ends,
             };
-            let narrow = OverlayAsked {
+            let narrow = OverlayNumbers {
                 rule: asked.rule,
                 fill: asked.fill,
                 options: asked.options.without_minimum(),

@@ -5,7 +5,7 @@ ghost use Rattle.polyover_calls.specs.Held.{arrays_of};
 ghost use Rattle.polyover_calls.specs.Holding.{ClipsAreHeld, EdgesAreHeld, HierarchyIsHeld, OverlayIsHeld};
 ghost use Rattle.polyover_calls.specs.Holding.{SimplificationIsHeld, SlicesAreHeld};
 
-use crate::asked::OverlayAsked;
+use crate::asked::OverlayNumbers;
 use crate::clip::fitted_clip;
 use crate::clip_options::ClipOptions;
 use crate::edges::fitted_edges;
@@ -23,7 +23,7 @@ use std::alloc::Global;
 #[tactic(auto, using(crate::proofs::Endings::put_ends, crate::proofs::Endings::refused_ends))]
 pub fn overlay_held<'a, I: ArrayInt + 'a>(
     alloc: Global,
-    asked: &OverlayAsked<I>,
+    asked: &OverlayNumbers<I>,
 ) -> HeldOutcome<'a, I>
     ensures { OverlayIsHeld I.whole I.limit I.Wide.width I.WideUInt.natural
         asked.now.rule asked.now.fill asked.now.options
@@ -59,7 +59,7 @@ pub fn simplification_held<'a, I: ArrayInt + 'a>(
 #[tactic(auto, using(crate::proofs::Endings::put_ends, crate::proofs::Endings::refused_ends))]
 pub fn hierarchy_held<'a, I: ArrayInt + 'a>(
     alloc: Global,
-    asked: &OverlayAsked<I>,
+    asked: &OverlayNumbers<I>,
 ) -> HeldOutcome<'a, I>
     ensures { HierarchyIsHeld I.whole I.limit I.Wide.width I.WideUInt.natural
         asked.now.rule asked.now.fill asked.now.options

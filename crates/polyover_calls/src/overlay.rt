@@ -6,7 +6,7 @@ ghost use Rattle.polyover_calls.specs.Written.{IsFlat, flat_shapes, shape_room};
 ghost use Rattle.polyover_calls.specs.Overlays.{IsOverlay, IsOverlayRefused, OverlayEnds};
 
 use crate::answer::{Answer, flat_answer, put, widened};
-use crate::asked::{OverlayAsked, asked_overlay};
+use crate::asked::{OverlayNumbers, asked_overlay};
 use crate::counts::Counts;
 use crate::given::Contours;
 use crate::narrowed::{ArrayInt, narrowed_both};
@@ -19,7 +19,7 @@ use std::alloc::Global;
 #[tactic(auto, using(crate::proofs::Endings::put_ends, crate::proofs::Endings::refused_ends))]
 pub fn overlay_arrays<I: ArrayInt>(
     alloc: Global,
-    asked: &OverlayAsked<I>,
+    asked: &OverlayNumbers<I>,
     coordinates: &mut [I],
     contour_ends: &mut [usize],
     shape_ends: &mut [usize],
@@ -43,7 +43,7 @@ pub fn overlay_arrays<I: ArrayInt>(
 #[tactic(auto, using(crate::proofs::Overlays::no_memory, crate::proofs::Overlays::flat_refused, crate::proofs::Overlays::overlay_answered))]
 fn overlay_answer<I: OverlayInt>(
     alloc: Global,
-    asked: &OverlayAsked<I>,
+    asked: &OverlayNumbers<I>,
 ) -> Result<Answer<I>, Status>
     ensures { MatchResult result
         (λ a. IsFlat (IsOverlay I.whole I.limit I.Wide.width I.WideUInt.natural
@@ -66,7 +66,7 @@ fn overlay_answer<I: OverlayInt>(
 // The same, at 32 bits where all coordinates fit and contours of all areas are kept.
 pub(crate) fn fitted_overlay<I: ArrayInt>(
     alloc: Global,
-    asked: &OverlayAsked<I>,
+    asked: &OverlayNumbers<I>,
 ) -> Result<Answer<I>, Status>
     ensures { MatchResult result
         (λ a. IsFlat (IsOverlay I.whole I.limit I.Wide.width I.WideUInt.natural
@@ -88,7 +88,7 @@ pub(crate) fn fitted_overlay<I: ArrayInt>(
                 coordinates: &both.second,
                 ends: asked.clip.ends,
             };
-            let narrow = OverlayAsked {
+            let narrow = OverlayNumbers {
                 rule: asked.rule,
                 fill: asked.fill,
                 options: asked.options.without_minimum(),

@@ -10,7 +10,7 @@ ghost use Rattle.polyover_vectors.specs.Vectors.{AreVectors, VectorsAreHeld};
 use crate::flat::{FlatVectors, flattened};
 use crate::held::{Outcome, hold, hold_nothing};
 use overlay_geom::integer::OverlayInt;
-use polyover_calls::asked::{OverlayAsked, asked_overlay};
+use polyover_calls::asked::{OverlayNumbers, asked_overlay};
 use polyover_calls::status::Status;
 use std::alloc::Global;
 
@@ -18,7 +18,7 @@ use std::alloc::Global;
 #[tactic(auto, using(polyover_calls::proofs::Endings::put_ends, polyover_calls::proofs::Endings::refused_ends))]
 pub fn vectors_held<'a, I: OverlayInt + 'a>(
     alloc: Global,
-    asked: &OverlayAsked<I>,
+    asked: &OverlayNumbers<I>,
 ) -> Outcome<'a, I>
     ensures { VectorsAreHeld I.whole I.limit I.Wide.width I.WideUInt.natural
         asked.now.rule asked.now.fill asked.now.options
@@ -34,7 +34,10 @@ pub fn vectors_held<'a, I: OverlayInt + 'a>(
 
 // The shapes as arrays, or why there are none.
 #[tactic(auto, using(polyover_calls::proofs::Overlays::no_memory, polyover_calls::proofs::Overlays::query_refused))]
-fn vectors<I: OverlayInt>(alloc: Global, asked: &OverlayAsked<I>) -> Result<FlatVectors<I>, Status>
+fn vectors<I: OverlayInt>(
+    alloc: Global,
+    asked: &OverlayNumbers<I>,
+) -> Result<FlatVectors<I>, Status>
     ensures { MatchResult result
         (λ f. AreVectors I.whole I.limit I.Wide.width I.WideUInt.natural asked.now.rule asked.now.fill asked.now.options
         (contours_of asked.now.subject.coordinates.now asked.now.subject.ends.now)
