@@ -20,16 +20,16 @@ use Rattle.overlay_geom.specs.Plane.{Point, side, total, in_plane}
 use Rattle.overlay_geom.proofs.Signs.{linear}
 use Rattle.overlay_geom.proofs.Mapped.{read_mapped, mapped_range}
 use Rattle.overlay_plane.proofs.Tests.{test_from_lt, test_from_le, test_from_ge, lt_from_test, ge_from_test}
-use Rattle.overlay_located.specs.Sectors.{spans_beside}
+use Rattle.overlay_sectors.specs.Sectors.{spans_beside}
 use Rattle.overlay_located.specs.Tells.{PassesBy, Tells, nothing}
 use Rattle.overlay_located.specs.Slabs.{Band, IsWithin}
 use Rattle.overlay_located.specs.Chains.{IsInSpan, IsChain, IsAmong, Counted, edge_in, edges_of}
 use Rattle.overlay_located.specs.Queries.{Asked, Adds, AddsSums}
-use Rattle.overlay_located.specs.declared.flank.Flank.{Flank}
-use Rattle.overlay_located.specs.declared.flank.Flank.TheVariants.{Left, Right}
+use Rattle.overlay_sectors.specs.declared.flank.Flank.{Flank}
+use Rattle.overlay_sectors.specs.declared.flank.Flank.TheVariants.{Left, Right}
 use Rattle.overlay_located.proofs.Chains.{spans_over, fact_of_edge}
 use Rattle.overlay_located.proofs.OpenQueries.{adds_after_sums}
-use Rattle.overlay_located.proofs.NearTests.{span_left, span_right, not_level}
+use Rattle.overlay_sectors.proofs.NearTests.{span_left, span_right, not_level}
 use Rattle.overlay_located.proofs.TellsMore.{added, tells_same, tells_on, tells_as, tells_before}
 use Rattle.overlay_located.proofs.TellsMore.{tells_behind, tells_passed}
 

@@ -10,12 +10,12 @@ use Rattle.std.proofs.lemmas.List.Sorted.{All-permutation, IsPermutation-to_fron
 use Rattle.overlay_geom.specs.Edges.{CountedEdge, ends_of, subj_of}
 use Rattle.overlay_geom.specs.Plane.{Point, Edge, in_plane, side}
 use Rattle.overlay_geom.proofs.Signs.{linear}
-use Rattle.overlay_located.specs.Sectors.{spans_beside}
+use Rattle.overlay_sectors.specs.Sectors.{spans_beside}
 use Rattle.overlay_located.specs.Tells.{PassesBy, Tells, nothing}
 use Rattle.overlay_located.specs.Slabs.{Band, IsWithin, Spans, IsBeside, AreDivided}
 use Rattle.overlay_located.specs.Chains.{HasChain, Counted, edges_of}
-use Rattle.overlay_located.specs.declared.flank.Flank.{Flank}
-use Rattle.overlay_located.proofs.NearTests.{spanned}
+use Rattle.overlay_sectors.specs.declared.flank.Flank.{Flank}
+use Rattle.overlay_sectors.proofs.NearTests.{spanned}
 use Rattle.overlay_located.proofs.TellsMore.{added, tells_on, tells_as, tells_before, tells_behind}
 use Rattle.overlay_located.proofs.TellsMore.{tells_permuted, tells_passed}
 

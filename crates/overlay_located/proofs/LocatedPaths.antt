@@ -14,7 +14,8 @@ use Rattle.overlay_relate.proofs.Closures.{same_closure}
 use Rattle.overlay_relate.proofs.PathRelations.{edges_of_paths, off_paths, winds, off}
 use Rattle.overlay_relate.proofs.SteepPoints.{HasPointNear, point_near}
 use Rattle.overlay_located.specs.Laws.{ContentsLocateOfPaths}
-use Rattle.overlay_located.specs.Located.{HasNoneNear, LiesIn, LiesInPaths}
+use Rattle.overlay_sectors.specs.Located.{HasNoneNear, LiesIn}
+use Rattle.overlay_located.specs.Located.{LiesInPaths}
 
 module _ (keep : Bool) (paths : List GivenPath) (content : List CountedEdge)
     (holds : HoldsPaths (added_paths keep paths) content) (filled : ℤ → Bool) where

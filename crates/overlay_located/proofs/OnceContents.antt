@@ -17,7 +17,8 @@ use Rattle.overlay_geom.proofs.Signs.{linear}
 use Rattle.overlay_order.specs.Content.{plain_edges as plain_counted, IsHeld, IsContent}
 use Rattle.overlay_order.specs.Counts.{boolean_counts}
 use Rattle.overlay_plane.proofs.Entries.{all_of_entries, Contains-from_flat_map}
-use Rattle.overlay_located.specs.Once.{once, counted_once, turned, turned_if_upright, turned_uprights}
+use Rattle.overlay_sectors.specs.Once.{once}
+use Rattle.overlay_located.specs.Once.{counted_once, turned, turned_if_upright, turned_uprights}
 
 -- edges of the program that count once, as counted edges
 pub counted_same : {I : Type 0} (whole : I → ℤ) (es : List (IntEdge I)) →

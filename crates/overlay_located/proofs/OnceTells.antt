@@ -19,11 +19,11 @@ use Rattle.overlay_plane.proofs.Tests.{test_from_lt, test_from_le}
 use Rattle.overlay_geom.proofs.Entries.{Contains-head, Contains-cases}
 use Rattle.overlay_relate.specs.Locations.{differ, is_odd, odd_below, IsOnSome}
 use Rattle.overlay_located.specs.Once.{counted_once, turned_point, turned, turned_if_upright, turned_uprights}
-use Rattle.overlay_located.specs.Sectors.{spans_beside}
+use Rattle.overlay_sectors.specs.Sectors.{spans_beside}
 use Rattle.overlay_located.specs.Tells.{LeadsFrom, near_sum, Tells}
-use Rattle.overlay_located.specs.declared.flank.Flank.{Flank}
-use Rattle.overlay_located.specs.declared.flank.Flank.TheVariants.{Left, Right}
-use Rattle.overlay_located.proofs.NearTests.{IsSpanned, spanned, span_left, span_right, both_so}
+use Rattle.overlay_sectors.specs.declared.flank.Flank.{Flank}
+use Rattle.overlay_sectors.specs.declared.flank.Flank.TheVariants.{Left, Right}
+use Rattle.overlay_sectors.proofs.NearTests.{IsSpanned, spanned, span_left, span_right, both_so}
 
 -- ---- one edge
 

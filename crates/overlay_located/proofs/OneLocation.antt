@@ -11,7 +11,7 @@ use Rattle.overlay_relate.specs.declared.location.PointLocation.TheVariants.{Ins
 use Rattle.overlay_relate.proofs.PathRelations.{edges_of_paths, off_paths}
 use Rattle.overlay_relate.proofs.SteepPoints.{HasPointNear, point_near, less_near}
 use Rattle.overlay_located.specs.Laws.{OneLocation, OneLocationInPaths}
-use Rattle.overlay_located.specs.Located.{HasNoneNear, IsLocatedNear}
+use Rattle.overlay_sectors.specs.Located.{HasNoneNear, IsLocatedNear}
 
 module _ (off : PlanePoint → Type 0) (fills : PlanePoint → Bool) (p : PlanePoint)
     (some : (n : ℕ) → (q : PlanePoint) × off q × AreWithinPart n q p) where

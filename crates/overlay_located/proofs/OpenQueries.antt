@@ -9,8 +9,8 @@ use Rattle.overlay_geom.specs.Plane.{Point}
 use Rattle.overlay_geom.proofs.Signs.{linear}
 use Rattle.overlay_located.specs.Tells.{Tells, TellsWhere, nothing}
 use Rattle.overlay_located.specs.Queries.{Asked, sum_on, IsOpen, IsTold, Adds, AddsSums}
-use Rattle.overlay_located.specs.declared.flank.Flank.{Flank}
-use Rattle.overlay_located.specs.declared.flank.Flank.TheVariants.{Left, Right}
+use Rattle.overlay_sectors.specs.declared.flank.Flank.{Flank}
+use Rattle.overlay_sectors.specs.declared.flank.Flank.TheVariants.{Left, Right}
 use Rattle.overlay_located.proofs.TellsMore.{tells_same, tells_on, tells_as, tells_before, tells_behind}
 use Rattle.overlay_located.proofs.TellsMore.{tells_permuted}
 

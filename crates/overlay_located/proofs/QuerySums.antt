@@ -10,9 +10,9 @@ use Rattle.overlay_geom.specs.Edges.{CountedEdge, ends_of, subj_of}
 use Rattle.overlay_geom.specs.Plane.{Point, Edge, in_plane}
 use Rattle.overlay_geom.proofs.Signs.{linear}
 use Rattle.overlay_located.specs.Few.{if_some}
-use Rattle.overlay_located.specs.Sectors.{is_below_near}
+use Rattle.overlay_sectors.specs.Sectors.{is_below_near}
 use Rattle.overlay_located.specs.Tells.{near_sum}
-use Rattle.overlay_located.specs.declared.flank.Flank.{Flank}
+use Rattle.overlay_sectors.specs.declared.flank.Flank.{Flank}
 use Rattle.overlay_located.proofs.TellsMore.{near_append}
 
 -- one edge

@@ -12,10 +12,10 @@ use Rattle.overlay_geom.specs.Plane.{Point, Edge, side, in_plane}
 use Rattle.overlay_geom.proofs.Entries.{Contains-cases}
 use Rattle.overlay_geom.proofs.Signs.{linear}
 use Rattle.overlay_geom.proofs.Totals.{total-append, total-IsPermutation}
-use Rattle.overlay_located.specs.Sectors.{is_below_near, leads_from, spans_beside}
+use Rattle.overlay_sectors.specs.Sectors.{is_below_near, leads_from, spans_beside}
 use Rattle.overlay_located.specs.Tells.{PassesBy, near_sum, Tells, nothing}
-use Rattle.overlay_located.specs.declared.flank.Flank.{Flank}
-use Rattle.overlay_located.specs.declared.flank.Flank.TheVariants.{Left, Right}
+use Rattle.overlay_sectors.specs.declared.flank.Flank.{Flank}
+use Rattle.overlay_sectors.specs.declared.flank.Flank.TheVariants.{Left, Right}
 
 -- what an edge adds to the winding of a sector
 abbrev pub added : Flank → Point → (Edge → Bool) → CountedEdge → ℤ

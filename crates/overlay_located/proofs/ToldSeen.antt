@@ -9,16 +9,16 @@ use Rattle.overlay_geom.specs.Edges.{CountedEdge, ends_of}
 use Rattle.overlay_geom.specs.Plane.{Point, PlanePoint, Edge, in_plane}
 use Rattle.overlay_geom.proofs.Entries.{Contains-cases}
 use Rattle.overlay_order.specs.Content.{IsHeld}
-use Rattle.overlay_located.specs.Located.{LiesIn}
-use Rattle.overlay_located.specs.Sectors.{fills_sector, leads_from, is_low}
-use Rattle.overlay_located.specs.Seen.{location_of, has_seen, IsSeenOf, IsSeenUpTo, AddsFilling}
+use Rattle.overlay_sectors.specs.Located.{LiesIn}
+use Rattle.overlay_sectors.specs.Sectors.{fills_sector, leads_from, is_low}
+use Rattle.overlay_sectors.specs.Seen.{location_of, has_seen, IsSeenOf, IsSeenUpTo, AddsFilling}
 use Rattle.overlay_located.specs.Tells.{near_sum, Tells}
 use Rattle.overlay_located.specs.Queries.{Asked, sum_on, IsTold, SeesRay, SeesRays}
-use Rattle.overlay_located.specs.declared.flank.Flank.{Flank}
-use Rattle.overlay_located.specs.declared.flank.Flank.TheVariants.{Left, Right}
-use Rattle.overlay_located.specs.declared.seen.Seen.{Seen}
-use Rattle.overlay_located.proofs.SeenSectors.{found, still, seen_right, seen_lowest_by, located_by_seen}
-use Rattle.overlay_located.proofs.SeenSectors.{content_leads_right}
+use Rattle.overlay_sectors.specs.declared.flank.Flank.{Flank}
+use Rattle.overlay_sectors.specs.declared.flank.Flank.TheVariants.{Left, Right}
+use Rattle.overlay_sectors.specs.declared.seen.Seen.{Seen}
+use Rattle.overlay_sectors.proofs.SeenSectors.{found, still, seen_right, seen_lowest_by, located_by_seen}
+use Rattle.overlay_sectors.proofs.SeenSectors.{content_leads_right}
 
 module _ (filled : ℤ → Bool) (es : List CountedEdge) (p : PlanePoint) where
   -- no edges

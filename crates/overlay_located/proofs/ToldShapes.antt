@@ -12,7 +12,7 @@ use Rattle.overlay_builder.specs.Held.{Held}
 use Rattle.overlay_builder.specs.PathLists.{AddsAsAsked, AddsPaths, StopsAtPath, HoldsPaths, MayRefuseBuilder}
 use Rattle.overlay_relate.specs.declared.location.PointLocation.{PointLocation}
 use Rattle.overlay_located.specs.GivenShapes.{GivenShape, TellsLocation}
-use Rattle.overlay_located.specs.Located.{LiesIn}
+use Rattle.overlay_sectors.specs.Located.{LiesIn}
 use Rattle.overlay_located.proofs.LocatedPaths.{contents_locate_of_paths}
 
 pub tells_location : (s : GivenShape) (p : PlanePoint) (l : PointLocation) →

@@ -7,7 +7,8 @@ use Rattle.overlay_geom.specs.declared.fill_rule.FillRule.{FillRule}
 use Rattle.overlay_builder.specs.GivenPaths.{GivenPath, added_paths}
 use Rattle.overlay_builder.specs.PathLists.{HoldsPaths}
 use Rattle.overlay_relate.specs.declared.location.PointLocation.{PointLocation}
-use Rattle.overlay_located.specs.Located.{LiesIn, LiesInPaths}
+use Rattle.overlay_sectors.specs.Located.{LiesIn}
+use Rattle.overlay_located.specs.Located.{LiesInPaths}
 
 -- a shape: its fill rule, and the counted edges of its contours
 pub record GivenShape : Type 0 where

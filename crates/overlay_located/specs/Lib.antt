@@ -1,4 +1,3 @@
-pub mod Blocks
 pub mod Chains
 pub mod Few
 pub mod GivenShapes
@@ -6,8 +5,5 @@ pub mod Laws
 pub mod Located
 pub mod Once
 pub mod Queries
-pub mod Rays
-pub mod Sectors
-pub mod Seen
 pub mod Slabs
 pub mod Tells

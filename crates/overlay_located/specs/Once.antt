@@ -3,17 +3,11 @@ use Rattle.std.specs.Prelude.{◌≡◌, Bool, true, false, cond, pos, List, [],
 use Rattle.std.specs.Ordering.{int_eq}
 use Rattle.overlay_geom.specs.Edges.{CountedEdge}
 use Rattle.overlay_geom.specs.Plane.{Point, Edge}
-use Rattle.overlay_geom.specs.declared.edge.IntEdge.{IntEdge}
 use Rattle.overlay_order.specs.Counts.{boolean_counts}
 use Rattle.overlay_order.specs.declared.count.ShapeCountBoolean.{ShapeCountBoolean}
-use Rattle.overlay_order.specs.declared.edge.CountedEdge.{CountedEdge as HeldEdge}
 use Rattle.overlay_located.specs.Queries.{Asked, plain_query, sum_on, IsTold}
 use Rattle.overlay_located.specs.Tells.{LeadsFrom, Tells}
 use Rattle.overlay_located.specs.declared.query.Query.{Query}
-
--- an edge of the program that counts once
-abbrev pub once : {I : Type 0} → IntEdge I → HeldEdge I ShapeCountBoolean
-once e = record { a = e.a; b = e.b; count = record { subj = pos 1; clip = pos 0 } }
 
 -- an edge that counts once
 abbrev pub counted_once : Edge → CountedEdge

@@ -6,13 +6,13 @@ use Rattle.overlay_geom.specs.Plane.{Point, PlanePoint}
 use Rattle.overlay_geom.specs.Points.{plain_point}
 use Rattle.overlay_order.specs.Content.{plain_edges}
 use Rattle.overlay_located.specs.Few.{few_edges}
-use Rattle.overlay_located.specs.Sectors.{fills_sector, leads_from}
-use Rattle.overlay_located.specs.Seen.{has_seen, IsSeenOf, AddsFilling}
+use Rattle.overlay_sectors.specs.Sectors.{fills_sector, leads_from}
+use Rattle.overlay_sectors.specs.Seen.{has_seen, IsSeenOf, AddsFilling}
 use Rattle.overlay_located.specs.Tells.{Tells}
-use Rattle.overlay_located.specs.declared.flank.Flank.{Flank}
-use Rattle.overlay_located.specs.declared.flank.Flank.TheVariants.{Left, Right}
+use Rattle.overlay_sectors.specs.declared.flank.Flank.{Flank}
+use Rattle.overlay_sectors.specs.declared.flank.Flank.TheVariants.{Left, Right}
 use Rattle.overlay_located.specs.declared.query.Query.{Query}
-use Rattle.overlay_located.specs.declared.seen.Seen.{Seen}
+use Rattle.overlay_sectors.specs.declared.seen.Seen.{Seen}
 
 -- a point that is asked for: the windings left and right of it so far, and the edges that lead from it, unless it is
 -- asked for alone

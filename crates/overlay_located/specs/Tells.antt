@@ -2,8 +2,8 @@
 use Rattle.std.specs.Prelude.{◌≡◌, Bool, true, false, ℤ, pos, ◌+ℤ◌, List, Contains}
 use Rattle.overlay_geom.specs.Edges.{CountedEdge, ends_of, subj_of}
 use Rattle.overlay_geom.specs.Plane.{Point, Edge, in_plane}
-use Rattle.overlay_located.specs.Sectors.{winding_near, leads_from}
-use Rattle.overlay_located.specs.declared.flank.Flank.{Flank}
+use Rattle.overlay_sectors.specs.Sectors.{winding_near, leads_from}
+use Rattle.overlay_sectors.specs.declared.flank.Flank.{Flank}
 
 -- the edge leads from v into some flank
 abbrev pub LeadsFrom : Point → CountedEdge → Type 0

@@ -10,12 +10,12 @@ ghost use Rattle.overlay_located.specs.Tells.{TellsWhere};
 
 use crate::heights::is_under;
 use crate::line::Line;
-use crate::near::height_over;
 use crate::query::{Query, asked_alone, sum, with_sums, with_through};
 use crate::slab::{Slab, is_within};
 use overlay_geom::number::IntNumber;
 use overlay_geom::point::IntPoint;
 use overlay_order::count::EdgeCount;
+use overlay_sectors::near::height_over;
 use std::alloc::{AllocError, Allocator};
 
 /// An edge of a chain.

@@ -11,8 +11,7 @@ ghost use Rattle.overlay_located.specs.GivenShapes.{IsShapeOf, TellsLocation};
 ghost use Rattle.overlay_located.specs.Queries.{plain_query, IsTold};
 ghost use Rattle.overlay_order.specs.Counts.{boolean_counts};
 
-use crate::blocks::{BLOCK, GROUP, blocks_over};
-use crate::located::{locate, locate_told};
+use crate::located::locate_told;
 use crate::query::Query;
 use crate::together::{pays, told_of};
 use overlay_builder::boolean::passing;
@@ -27,6 +26,8 @@ use overlay_geom::resource::IntShapeResource;
 use overlay_order::count::ShapeCountBoolean;
 use overlay_relate::blocks::Block;
 use overlay_relate::location::PointLocation;
+use overlay_sectors::blocks::{BLOCK, GROUP, blocks_over};
+use overlay_sectors::located::locate;
 use std::alloc::{AllocError, Allocator};
 use std::marker::Model;
 
@@ -47,7 +48,7 @@ pub struct ExactShape<I: OverlayInt, A: Allocator> {
 impl<I: OverlayInt, A: Allocator> Model for ExactShape<I, A> {
     ghost use Rattle.overlay_plane.specs.Carried.{edges_in};
     ghost use Rattle.overlay_relate.specs.Blocks.{plain_blocks};
-    ghost use Rattle.overlay_located.specs.Blocks.{AreBlocked};
+    ghost use Rattle.overlay_sectors.specs.Blocks.{AreBlocked};
     ghost use Rattle.overlay_located.specs.GivenShapes.{GivenShape};
 
     ghost Value = { GivenShape };

@@ -6,11 +6,11 @@ ghost use Rattle.overlay_order.specs.Content.{plain_edge, plain_edges, IsHeld};
 ghost use Rattle.overlay_located.specs.Slabs.{plain_lines};
 ghost use Rattle.overlay_located.specs.Chains.{IsUnder, StartsUnder, EndsUnder};
 
-use crate::form::EdgeForm;
 use crate::line::Line;
 use overlay_geom::number::{IntNumber, WideIntNumber};
 use overlay_geom::vector::cross_at;
 use overlay_order::count::EdgeCount;
+use overlay_sectors::form::EdgeForm;
 use std::alloc::{AllocError, Allocator};
 use std::cmp::Ordering;
 

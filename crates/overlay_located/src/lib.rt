@@ -1,27 +1,21 @@
 //! Where points lie in a shape of contours as they are given: nothing is rounded.
 #![tactic(auto)]
 
-mod blocks;
 mod chain;
 mod contour_edges;
 pub mod contours;
 mod depth;
 pub mod exact_shape;
 mod few;
-mod flank;
-pub mod form;
 mod heights;
 pub mod laws;
 mod line;
 pub mod located;
-mod near;
 mod node;
-mod once;
 pub mod only_locations;
 mod parity;
 pub mod parts;
 pub mod query;
-mod seen;
 mod slab;
 pub mod together;
 mod told;

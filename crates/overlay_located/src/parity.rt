@@ -12,8 +12,6 @@ ghost use Rattle.overlay_located.specs.Once.{counted_once, turned_point, turned_
 ghost use Rattle.overlay_located.specs.Queries.{plain_query, IsTold};
 ghost use Rattle.overlay_located.specs.Tells.{LeadsFrom};
 
-use crate::flank::Flank;
-use crate::near::leads_from;
 use crate::query::Query;
 use crate::told::is_held;
 use overlay_geom::edge_pair::is_same;
@@ -23,6 +21,8 @@ use overlay_geom::point::IntPoint;
 use overlay_order::count::ShapeCountBoolean;
 use overlay_order::edge::CountedEdge;
 use overlay_relate::location::PointLocation;
+use overlay_sectors::flank::Flank;
+use overlay_sectors::near::leads_from;
 
 /// Returns where the point lies, if both queries at the place tell of it: on an edge, or else inside where an odd
 /// number of edges are below it.

@@ -4,7 +4,7 @@ ghost use Rattle.std.specs.Prelude.{◌≡◌};
 ghost use Rattle.overlay_order.specs.Content.{plain_edges, IsContent};
 ghost use Rattle.overlay_order.specs.Counts.{boolean_counts};
 ghost use Rattle.overlay_relate.specs.Blocks.{plain_blocks};
-ghost use Rattle.overlay_located.specs.Blocks.{AreBlocked};
+ghost use Rattle.overlay_sectors.specs.Blocks.{AreBlocked};
 
 use crate::exact_shape::ExactShape;
 use overlay_geom::integer::OverlayInt;

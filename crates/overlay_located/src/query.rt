@@ -8,13 +8,13 @@ ghost use Rattle.overlay_located.specs.Slabs.{plain_lines};
 ghost use Rattle.overlay_located.specs.Queries.{plain_query, IsOpen, IsTold, Adds, AddsSums};
 
 use crate::few::Few;
-use crate::flank::Flank;
 use crate::line::Line;
-use crate::near::{is_below_near, leads_from};
 use overlay_geom::number::IntNumber;
 use overlay_geom::point::IntPoint;
 use overlay_order::count::EdgeCount;
 use overlay_order::edge::CountedEdge;
+use overlay_sectors::flank::Flank;
+use overlay_sectors::near::{is_below_near, leads_from};
 use std::alloc::{AllocError, Allocator};
 
 /// A point that is asked for, and the windings left and right of it so far.

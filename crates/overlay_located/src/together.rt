@@ -6,7 +6,6 @@ ghost use Rattle.overlay_located.specs.Slabs.{plain_lines};
 ghost use Rattle.overlay_located.specs.Queries.{plain_query, IsOpen, IsTold};
 
 use crate::chain::with_chain;
-use crate::form::EdgeForm;
 use crate::heights::lines_of;
 use crate::line::Line;
 use crate::node::node_over;
@@ -15,6 +14,7 @@ use crate::slab::Slab;
 use overlay_geom::number::IntNumber;
 use overlay_geom::point::IntPoint;
 use overlay_order::count::EdgeCount;
+use overlay_sectors::form::EdgeForm;
 use std::alloc::{AllocError, Allocator};
 
 // Greatest number of points, or of edges, that are asked one by one in a half.

@@ -6,16 +6,13 @@ ghost use Rattle.overlay_geom.specs.Points.{plain_point, InRange};
 ghost use Rattle.overlay_geom.specs.Rules.{is_filled};
 ghost use Rattle.overlay_order.specs.Content.{plain_edge, plain_edges, IsContent, IsHeld};
 ghost use Rattle.overlay_located.specs.Few.{if_some};
-ghost use Rattle.overlay_located.specs.Located.{LiesIn};
-ghost use Rattle.overlay_located.specs.Rays.{plain_ray, IsRayHeld};
-ghost use Rattle.overlay_located.specs.Sectors.{is_low};
+ghost use Rattle.overlay_sectors.specs.Located.{LiesIn};
+ghost use Rattle.overlay_sectors.specs.Rays.{plain_ray, IsRayHeld};
+ghost use Rattle.overlay_sectors.specs.Sectors.{is_low};
 ghost use Rattle.overlay_located.specs.Tells.{near_sum};
 ghost use Rattle.overlay_located.specs.Queries.{plain_query, sum_on, IsTold, SeesRay, SeesRays};
 
-use crate::flank::Flank;
-use crate::near::{is_below_near, leads_from};
 use crate::query::{Query, sum};
-use crate::seen::Seen;
 use overlay_geom::edge::{IntEdge, compare_points};
 use overlay_geom::edge_pair::is_same;
 use overlay_geom::fill_rule::FillRule;
@@ -24,6 +21,9 @@ use overlay_geom::point::IntPoint;
 use overlay_order::count::EdgeCount;
 use overlay_order::edge::CountedEdge;
 use overlay_relate::location::PointLocation;
+use overlay_sectors::flank::Flank;
+use overlay_sectors::near::{is_below_near, leads_from};
+use overlay_sectors::seen::Seen;
 
 /// Returns where the point lies, if the query at the place is for this point and tells it.
 pub(crate) fn location_at<I: IntNumber, C: EdgeCount>(

@@ -7,7 +7,7 @@ use Rattle.overlay_geom.specs.Plane.{Point}
 use Rattle.overlay_geom.specs.declared.error.OverlayError.{OverlayError}
 use Rattle.overlay_geom.specs.declared.error.OverlayError.TheVariants as error
 use Rattle.overlay_geom.specs.declared.options.ShapeType.TheVariants.{Subject}
-use Rattle.overlay_located.specs.Blocks.{AreBlocked}
+use Rattle.overlay_sectors.specs.Blocks.{AreBlocked}
 use Rattle.overlay_order.specs.Content.{plain_edges, IsContent}
 use Rattle.overlay_order.specs.Counts.{boolean_counts}
 use Rattle.overlay_relate.specs.Blocks.{plain_blocks}

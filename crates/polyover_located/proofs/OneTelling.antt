@@ -15,7 +15,8 @@ use Rattle.overlay_geom.specs.declared.error.OverlayError.{OverlayError}
 use Rattle.overlay_geom.specs.declared.options.ShapeType.TheVariants.{Subject}
 use Rattle.overlay_located.proofs.OneLocation.{one_location, one_location_in_paths}
 use Rattle.overlay_located.specs.GivenShapes.{GivenShape, TellsLocation}
-use Rattle.overlay_located.specs.Located.{LiesIn, LiesInPaths}
+use Rattle.overlay_sectors.specs.Located.{LiesIn}
+use Rattle.overlay_located.specs.Located.{LiesInPaths}
 use Rattle.overlay_relate.proofs.Answered.{answers_weaker}
 use Rattle.overlay_relate.proofs.OneLocation.{one_list_of_answers}
 use Rattle.overlay_relate.specs.Answers.{AnswersEach}

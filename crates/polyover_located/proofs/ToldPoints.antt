@@ -10,7 +10,7 @@ use Rattle.overlay_geom.specs.Rules.{is_filled}
 use Rattle.overlay_geom.specs.declared.point.IntPoint.{IntPoint}
 use Rattle.overlay_located.proofs.ToldShapes.{tells_location}
 use Rattle.overlay_located.specs.GivenShapes.{GivenShape, TellsLocation}
-use Rattle.overlay_located.specs.Located.{LiesIn}
+use Rattle.overlay_sectors.specs.Located.{LiesIn}
 use Rattle.overlay_relate.proofs.Answered.{answers_none, answers_more}
 use Rattle.overlay_relate.specs.Answers.{AnswersEach}
 use Rattle.overlay_relate.specs.declared.location.PointLocation.{PointLocation}

@@ -1,7 +1,7 @@
 -- Shapes in arrays: counted edges of contours, two lists of blocks of them, and a fill rule.
 use Rattle.std.specs.Prelude.{ℕ, ◌<◌, ℤ, List, [], map}
 use Rattle.overlay_geom.specs.Edges.{CountedEdge}
-use Rattle.overlay_located.specs.Blocks.{AreBlocked}
+use Rattle.overlay_sectors.specs.Blocks.{AreBlocked}
 use Rattle.overlay_located.specs.GivenShapes.{GivenShape}
 use Rattle.overlay_order.specs.Content.{plain_edges, IsContent}
 use Rattle.overlay_order.specs.Counts.{boolean_counts}

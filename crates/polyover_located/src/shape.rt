@@ -7,10 +7,10 @@ ghost use Rattle.polyover_located.specs.Held.{edge_of_32, edge_of_64, parts_at_3
 
 use crate::prepare::{HeldShape, Preparation};
 use overlay_geom::point::IntPoint;
-use overlay_located::form::EdgeForm;
 use overlay_order::count::ShapeCountBoolean;
 use overlay_order::edge::CountedEdge;
 use overlay_relate::form::FormOf;
+use overlay_sectors::form::EdgeForm;
 use polyover_calls::prepared::{Block32, Block64};
 
 /// An edge of 64-bit coordinates, with counts.

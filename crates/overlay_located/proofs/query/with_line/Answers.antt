@@ -4,7 +4,7 @@ use Rattle.overlay_geom.specs.Edges.{subj_of}
 use Rattle.overlay_geom.specs.Points.{plain_point}
 use Rattle.overlay_order.specs.Content.{plain_edge}
 use Rattle.overlay_located.specs.Queries.{plain_query}
-use Rattle.overlay_located.specs.declared.flank.Flank.TheVariants.{Left, Right}
+use Rattle.overlay_sectors.specs.declared.flank.Flank.TheVariants.{Left, Right}
 use Rattle.overlay_located.proofs.OpenQueries.{adds_of_sums}
 use Rattle.overlay_located.proofs.TellsMore.{added, added_if, added_not, passes_both, tells_passed}
 use Rattle.overlay_located.proofs.query.with_line.Goals.{then-is_below_near, else-is_below_near}

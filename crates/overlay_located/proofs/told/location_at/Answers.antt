@@ -5,7 +5,7 @@ use Rattle.overlay_geom.specs.Plane.{in_plane}
 use Rattle.overlay_geom.specs.Points.{plain_point}
 use Rattle.overlay_geom.specs.Rules.{is_filled}
 use Rattle.overlay_geom.proofs.Orders.{point_eq-same}
-use Rattle.overlay_located.specs.Located.{LiesIn}
+use Rattle.overlay_sectors.specs.Located.{LiesIn}
 use Rattle.overlay_located.specs.Queries.{plain_query, IsTold}
 use Rattle.overlay_located.proofs.told.location_at.Goals as goal
 

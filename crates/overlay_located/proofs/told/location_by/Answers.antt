@@ -7,11 +7,11 @@ use Rattle.overlay_geom.specs.Plane.{in_plane}
 use Rattle.overlay_geom.specs.Rules.{is_filled}
 use Rattle.overlay_order.specs.Content.{plain_edge, plain_edges}
 use Rattle.overlay_located.specs.Few.{if_some}
-use Rattle.overlay_located.specs.Located.{LiesIn}
-use Rattle.overlay_located.specs.Sectors.{is_low}
+use Rattle.overlay_sectors.specs.Located.{LiesIn}
+use Rattle.overlay_sectors.specs.Sectors.{is_low}
 use Rattle.overlay_located.specs.Tells.{near_sum}
 use Rattle.overlay_located.specs.Queries.{plain_query, SeesRays}
-use Rattle.overlay_located.specs.declared.flank.Flank.TheVariants.{Left, Right}
+use Rattle.overlay_sectors.specs.declared.flank.Flank.TheVariants.{Left, Right}
 use Rattle.overlay_located.proofs.QuerySums.{mapped_parts, in_first, in_second, in_third, in_fourth}
 use Rattle.overlay_located.proofs.ToldSeen.{sees_on, located_by_told}
 use Rattle.overlay_located.proofs.told.location_by.Goals as goal

@@ -5,10 +5,10 @@ use Rattle.std.proofs.lemmas.Bool.{both_ways}
 use Rattle.overlay_geom.specs.Edges.{ends_of}
 use Rattle.overlay_geom.specs.Rules.{is_filled}
 use Rattle.overlay_order.specs.Content.{plain_edge}
-use Rattle.overlay_located.specs.Seen.{AddsFilling}
+use Rattle.overlay_sectors.specs.Seen.{AddsFilling}
 use Rattle.overlay_located.specs.Tells.{near_sum}
 use Rattle.overlay_located.specs.Queries.{plain_query, sum_on}
-use Rattle.overlay_located.specs.Sectors.{is_low}
+use Rattle.overlay_sectors.specs.Sectors.{is_low}
 use Rattle.overlay_located.proofs.ToldSeen.{told_fills}
 use Rattle.overlay_located.proofs.told.seen_on.Goals as goal
 

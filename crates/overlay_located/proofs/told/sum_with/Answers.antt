@@ -5,8 +5,8 @@ use lib.IntN.{+ℤ_idr}
 use Rattle.overlay_geom.specs.Edges.{subj_of}
 use Rattle.overlay_geom.specs.Points.{plain_point}
 use Rattle.overlay_order.specs.Content.{plain_edge}
-use Rattle.overlay_located.specs.Rays.{plain_ray}
-use Rattle.overlay_located.specs.Sectors.{is_low}
+use Rattle.overlay_sectors.specs.Rays.{plain_ray}
+use Rattle.overlay_sectors.specs.Sectors.{is_low}
 use Rattle.overlay_located.proofs.QuerySums.{sum_of_some}
 use Rattle.overlay_located.proofs.told.sum_with.Goals as goal
 

@@ -4,8 +4,8 @@ use Rattle.std.proofs.lemmas.Option.{IfSome_then}
 use Rattle.overlay_geom.specs.Points.{plain_point}
 use Rattle.overlay_order.specs.Content.{plain_edge, plain_edges}
 use Rattle.overlay_located.specs.Few.{if_some, few_edges}
-use Rattle.overlay_located.specs.Rays.{plain_ray}
-use Rattle.overlay_located.specs.Sectors.{is_low}
+use Rattle.overlay_sectors.specs.Rays.{plain_ray}
+use Rattle.overlay_sectors.specs.Sectors.{is_low}
 use Rattle.overlay_located.proofs.QuerySums.{mapped_parts, near_parts}
 use Rattle.overlay_located.proofs.told.winding_by.Goals as goal
 

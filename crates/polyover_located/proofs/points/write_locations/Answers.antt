@@ -6,7 +6,7 @@ use Rattle.overlay_geom.specs.Plane.{in_plane}
 use Rattle.overlay_geom.specs.Points.{plain_point}
 use Rattle.overlay_geom.specs.Rules.{is_filled}
 use Rattle.overlay_geom.specs.declared.point.IntPoint.{IntPoint}
-use Rattle.overlay_located.specs.Located.{LiesIn}
+use Rattle.overlay_sectors.specs.Located.{LiesIn}
 use Rattle.overlay_located.specs.Queries.{plain_query, IsTold}
 use Rattle.overlay_order.specs.Content.{plain_edges}
 use Rattle.overlay_order.specs.Counts.{boolean_counts}

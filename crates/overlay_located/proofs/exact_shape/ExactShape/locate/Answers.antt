@@ -8,8 +8,8 @@ use Rattle.overlay_plane.specs.Carried.{edges_in}
 use Rattle.overlay_order.specs.Content.{plain_edges}
 use Rattle.overlay_order.specs.Counts.{boolean_counts}
 use Rattle.overlay_relate.specs.Blocks.{plain_blocks}
-use Rattle.overlay_located.specs.Blocks.{AreBlocked}
-use Rattle.overlay_located.specs.Located.{LiesIn}
+use Rattle.overlay_sectors.specs.Blocks.{AreBlocked}
+use Rattle.overlay_sectors.specs.Located.{LiesIn}
 use Rattle.overlay_located.proofs.ToldShapes.{tells_location}
 use Rattle.overlay_located.proofs.exact_shape.ExactShape.locate.Goals as goal
 

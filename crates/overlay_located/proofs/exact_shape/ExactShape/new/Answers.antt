@@ -10,7 +10,7 @@ use Rattle.overlay_builder.specs.Held.{plain_held}
 use Rattle.overlay_builder.specs.declared.path.PathKind.TheVariants.{Thinned}
 use Rattle.overlay_builder.proofs.AddedContours.{counts_pass_once, contours_added}
 use Rattle.overlay_relate.specs.Blocks.{plain_blocks}
-use Rattle.overlay_located.specs.Blocks.{IsBlockOf}
+use Rattle.overlay_sectors.specs.Blocks.{IsBlockOf}
 use Rattle.overlay_located.proofs.ToldShapes.{paths_held, paths_refused}
 use Rattle.overlay_located.proofs.exact_shape.ExactShape.new.Goals as goal
 

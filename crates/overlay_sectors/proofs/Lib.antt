@@ -1,0 +1,11 @@
+pub mod AsideEdges
+pub mod NearSectors
+pub mod NearTells
+pub mod NearTests
+pub mod PlacedForms
+pub mod SectorPoints
+pub mod SectorsTell
+pub mod SeenSectors
+pub mod SkippedNear
+pub mod SummedNear
+pub mod TopRays
