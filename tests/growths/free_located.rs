@@ -1,4 +1,4 @@
-//! Free functions of `overlay_located`.
+//! Free functions of `overlay_sectors` and `overlay_located`.
 
 use crate::figures::{Width, point};
 use crate::refusals::{Memory, Trial};
@@ -12,6 +12,8 @@ use overlay_order::count::ShapeCountBoolean;
 use overlay_order::edge::CountedEdge;
 use overlay_relate::blocks::Block;
 use overlay_relate::location::PointLocation;
+use overlay_sectors::blocks::{BlockedEdges, blocks_over};
+use overlay_sectors::located::locate;
 use std::alloc::AllocError;
 use std::process::Abort;
 use std::test::Fail;
@@ -61,16 +63,37 @@ fn check_told<I: Width>(trial: &Trial<'_, impl Abort>) -> Result<(), Fail> {
         || told_of(memory, &edges, &points),
     )?;
     let blocks: [Block<I>; 0] = [];
+    let shape = BlockedEdges {
+        edges: &edges,
+        blocks: &blocks,
+        groups: &blocks,
+    };
     for (place, p) in points.iter().enumerate() {
-        let location = locate_told(
-            &edges,
-            &blocks,
-            &blocks,
-            FillRule::NonZero,
-            &told,
-            place,
-            *p,
-        );
+        let location = locate_told(&shape, FillRule::NonZero, &told, place, *p);
+        let expected = if place % 2 == 0 {
+            PointLocation::Inside
+        } else {
+            PointLocation::Outside
+        };
+        assert!(trial.rt; location == expected);
+    }
+    Ok(())
+}
+
+fn check_blocks<I: Width>(trial: &Trial<'_, impl Abort>) -> Result<(), Fail> {
+    let memory = trial.memory;
+    let edges = edges_of::<I>(memory)?;
+    let blocks = trial.refuse_call(
+        "overlay_sectors::blocks_over",
+        || blocks_over(memory, &edges, 4),
+    )?;
+    let shape = BlockedEdges {
+        edges: &edges,
+        blocks: &blocks,
+        groups: &blocks,
+    };
+    for (place, p) in points_of::<I>(memory)?.iter().enumerate() {
+        let location = locate(&shape, FillRule::NonZero, *p);
         let expected = if place % 2 == 0 {
             PointLocation::Inside
         } else {
@@ -109,6 +132,11 @@ fn check_contours<I: Width>(trial: &Trial<'_, impl Abort>) -> Result<(), Fail> {
         assert!(trial.rt; *location == expected);
     }
     Ok(())
+}
+
+#[test]
+fn edges_in_blocks(rt: HostRuntime) -> Result<(), Fail> {
+    at_a_width!(rt, check_blocks)
 }
 
 #[test]

@@ -93,14 +93,9 @@ fn locate_each<I: IntNumber, A: Allocator, B: Allocator + Clone>(
         if told.alone > ALONE {
             return Ok(None);
         }
-        let location = location_of(
-            alloc.clone()?,
-            contours,
-            edges,
-            &told,
-            at % TOGETHER,
-            points[at],
-        )?;
+        let p = points[at];
+        let found = parity_location(&told.all, &told.uprights, at % TOGETHER, p);
+        let location = location_of(alloc.clone()?, contours, found, p)?;
         located.push(location)?;
     }
     Ok(Some(located))
@@ -142,24 +137,21 @@ fn told_first<I: IntNumber, B: Allocator + Clone>(
     }
 }
 
-// Returns where the point lies: by what is told at the place, or asked alone.
+// Returns where the point lies: as it was found, or asked alone.
 fn location_of<I: IntNumber, A: Allocator, B: Allocator + Clone>(
     alloc: B,
     contours: &[IntContour<I, A>],
-    edges: &[IntEdge<I>],
-    told: &ToldOnce<I, B>,
-    place: usize,
+    found: Option<PointLocation>,
     p: IntPoint<I>,
 ) -> Result<PointLocation, AllocError>
     requires contours { All (AllInRange I.limit) (paths_of_shape I.whole contours.now) }
     requires resolved { All IsResolved (paths_of_shape I.whole contours.now) }
-    requires edges { plain_edges I.whole edges.now ≡ shape_edges (paths_of_shape I.whole contours.now) }
-    requires long { All (IsLongEdge I.limit) (plain_edges I.whole edges.now) }
     requires point { InRange I.limit (plain_point I.whole p) }
-    requires told { AreToldOnce I.whole (plain_edges I.whole edges.now) told.now.all.items told.now.uprights.items }
+    requires found { IfSome found
+        (IsLocatedIn (paths_of_shape I.whole contours.now) (in_plane (plain_point I.whole p))) }
     ensures { IfOk result (IsLocatedIn (paths_of_shape I.whole contours.now) (in_plane (plain_point I.whole p))) }
 {
-    match parity_location(&told.all, &told.uprights, place, p) {
+    match found {
         Some(location) => Ok(location),
         None => locate_alone(alloc, contours, p),
     }

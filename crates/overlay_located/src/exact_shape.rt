@@ -26,7 +26,7 @@ use overlay_geom::resource::IntShapeResource;
 use overlay_order::count::ShapeCountBoolean;
 use overlay_relate::blocks::Block;
 use overlay_relate::location::PointLocation;
-use overlay_sectors::blocks::{BLOCK, GROUP, blocks_over};
+use overlay_sectors::blocks::{BLOCK, BlockedEdges, GROUP, blocks_over};
 use overlay_sectors::located::locate;
 use std::alloc::{AllocError, Allocator};
 use std::marker::Model;
@@ -93,13 +93,12 @@ impl<I: OverlayInt, A: Allocator> ExactShape<I, A> {
     pub fn locate(&self, point: IntPoint<I>) -> PointLocation
         ensures { TellsLocation self.now (in_plane (plain_point I.whole point)) result }
     {
-        locate(
-            self.core.content().edges(),
-            &self.blocks,
-            &self.groups,
-            self.fill_rule,
-            point,
-        )
+        let shape = BlockedEdges {
+            edges: self.core.content().edges(),
+            blocks: &self.blocks,
+            groups: &self.groups,
+        };
+        locate(&shape, self.fill_rule, point)
     }
 
     // Returns where the point lies, by what is told at the place where that suffices.
@@ -112,15 +111,12 @@ impl<I: OverlayInt, A: Allocator> ExactShape<I, A> {
         requires { All (λ q. IsTold self.now.edges (plain_query I.whole boolean_counts q)) told.now }
         ensures { TellsLocation self.now (in_plane (plain_point I.whole point)) result }
     {
-        locate_told(
-            self.core.content().edges(),
-            &self.blocks,
-            &self.groups,
-            self.fill_rule,
-            told,
-            place,
-            point,
-        )
+        let shape = BlockedEdges {
+            edges: self.core.content().edges(),
+            blocks: &self.blocks,
+            groups: &self.groups,
+        };
+        locate_told(&shape, self.fill_rule, told, place, point)
     }
 
     // Returns where the point lies, by what is told at the place, if anything is told.

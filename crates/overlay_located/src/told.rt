@@ -55,8 +55,8 @@ fn location_by<I: IntNumber, C: EdgeCount>(
         → IfSome result (LiesIn (is_filled fill_rule) es (in_plane (plain_point I.whole q.point))) }
 {
     let few = q.through;
-    let left = winding_by(q, Flank::Left, q.left, None)?;
-    let right = winding_by(q, Flank::Right, q.right, None)?;
+    let left = winding_by(q, Flank::Left, None)?;
+    let right = winding_by(q, Flank::Right, None)?;
     let none = Seen::nothing();
     let lowest = none.with(fill_rule.fills(left));
     let seen = lowest.with(fill_rule.fills(right));
@@ -83,8 +83,8 @@ fn seen_by<I: IntNumber, C: EdgeCount>(
     let Some(e) = e else {
         return Some(seen);
     };
-    let left = seen_on(seen, fill_rule, q, &e, Flank::Left, q.left)?;
-    seen_on(left, fill_rule, q, &e, Flank::Right, q.right)
+    let left = seen_on(seen, fill_rule, q, &e, Flank::Left)?;
+    seen_on(left, fill_rule, q, &e, Flank::Right)
 }
 
 // Returns what is found with the sector next above the edge, if it leads into the flank.
@@ -94,11 +94,9 @@ fn seen_on<I: IntNumber, C: EdgeCount>(
     q: Query<I, C>,
     e: &CountedEdge<I, C>,
     flank: Flank,
-    so_far: i64,
 ) -> Option<Seen>
     requires { q.alone ≡ false }
     ensures { (es : _) → IsTold es (plain_query I.whole C.counts q)
-        → so_far ≡ sum_on (plain_query I.whole C.counts q) flank
         → IfSome result (SeesRay (is_filled fill_rule) es (in_plane (plain_point I.whole q.point)) flank
         (plain_edge I.whole C.counts e.now) seen) }
 {
@@ -109,7 +107,7 @@ fn seen_on<I: IntNumber, C: EdgeCount>(
         return Some(seen);
     }
     let ray = IntEdge { a: e.a, b: e.b };
-    let winding = winding_by(q, flank, so_far, Some(ray))?;
+    let winding = winding_by(q, flank, Some(ray))?;
     Some(seen.with(fill_rule.fills(winding)))
 }
 
@@ -117,18 +115,29 @@ fn seen_on<I: IntNumber, C: EdgeCount>(
 fn winding_by<I: IntNumber, C: EdgeCount>(
     q: Query<I, C>,
     flank: Flank,
-    so_far: i64,
     ray: Option<IntEdge<I>>,
 ) -> Option<i64>
     requires { IsRayHeld I.limit (plain_ray I.whole ray) }
-    ensures { IfSome result (λ z. z ≡ so_far +ℤ near_sum flank (plain_query I.whole C.counts q).through
-        (plain_point I.whole q.point) (is_low flank (plain_ray I.whole ray))) }
+    ensures { IfSome result (λ z. z ≡ sum_on (plain_query I.whole C.counts q) flank
+        +ℤ near_sum flank (plain_query I.whole C.counts q).through (plain_point I.whole q.point)
+        (is_low flank (plain_ray I.whole ray))) }
 {
     let few = q.through;
-    let one = sum_with(so_far, q.point, flank, ray, few.first)?;
+    let none = sum_on(q, flank);
+    let one = sum_with(none, q.point, flank, ray, few.first)?;
     let two = sum_with(one, q.point, flank, ray, few.second)?;
     let three = sum_with(two, q.point, flank, ray, few.third)?;
     sum_with(three, q.point, flank, ray, few.fourth)
+}
+
+// Returns the winding so far on the flank.
+fn sum_on<I: IntNumber, C: EdgeCount>(q: Query<I, C>, flank: Flank) -> i64
+    ensures { result ≡ sum_on (plain_query I.whole C.counts q) flank }
+{
+    match flank {
+        Flank::Left => q.left,
+        Flank::Right => q.right,
+    }
 }
 
 // Returns the sum with the count of the edge, if there is one and it is below the sector next above the ray.

@@ -16,6 +16,17 @@ use overlay_relate::blocks::Block;
 use overlay_relate::form::FormOf;
 use std::alloc::{AllocError, Allocator};
 
+/// Counted edges in some form, with blocks of them.
+#[derive(Clone, Copy)]
+pub struct BlockedEdges<'a, E, B> {
+    /// The edges.
+    pub edges: &'a [E],
+    /// Blocks of 64 of them.
+    pub blocks: &'a [B],
+    /// Blocks of 4096 of them.
+    pub groups: &'a [B],
+}
+
 /// Number of edges in a block.
 pub const BLOCK: usize = 64;
 

@@ -13,7 +13,7 @@ ghost use Rattle.overlay_sectors.specs.Rays.{plain_ray, IsRayHeld};
 ghost use Rattle.overlay_sectors.specs.Seen.{IsSeenUpTo, AddsFilling};
 ghost use Rattle.overlay_sectors.specs.Sectors.{fills_sector, leads_from};
 
-use crate::blocks::passed_from;
+use crate::blocks::{BlockedEdges, passed_from};
 use crate::flank::Flank;
 use crate::form::EdgeForm;
 use crate::near::{leads_from, winding_near};
@@ -31,49 +31,63 @@ use overlay_relate::location::PointLocation;
 /// Returns where the point lies in the shape of the edges under the fill rule. Without edges it is outside. It looks
 /// at the edges of blocks that may be below the point, and again for each edge through it. No memory is taken.
 pub fn locate<I: IntNumber, C: EdgeCount, E: EdgeForm<I, C>, B: FormOf<Block<I>>>(
-    edges: &[E],
-    blocks: &[B],
-    groups: &[B],
+    shape: &BlockedEdges<E, B>,
     fill_rule: FillRule,
     p: IntPoint<I>,
 ) -> PointLocation
-    requires content { IsContent I.limit (plain_edges I.whole C.counts (map E.meant edges.now)) }
-    requires blocked { AreBlocked (plain_edges I.whole C.counts (map E.meant edges.now))
-        (plain_blocks I.whole (map B.meant blocks.now)) (plain_blocks I.whole (map B.meant groups.now)) }
-    ensures { LiesIn (is_filled fill_rule) (plain_edges I.whole C.counts (map E.meant edges.now))
+    requires content { IsContent I.limit (plain_edges I.whole C.counts (map E.meant shape.now.edges.now)) }
+    requires blocked { AreBlocked (plain_edges I.whole C.counts (map E.meant shape.now.edges.now))
+        (plain_blocks I.whole (map B.meant shape.now.blocks.now))
+        (plain_blocks I.whole (map B.meant shape.now.groups.now)) }
+    ensures { LiesIn (is_filled fill_rule) (plain_edges I.whole C.counts (map E.meant shape.now.edges.now))
         (in_plane (plain_point I.whole p)) result }
 {
-    sectors_seen(edges, blocks, groups, fill_rule, p).location()
+    let asked = Asked {
+        shape: *shape,
+        fill_rule,
+        p,
+    };
+    sectors_seen(&asked).location()
+}
+
+// A point that is asked for, and the shape in which.
+#[derive(Clone, Copy)]
+struct Asked<'a, I, E, B> {
+    // the edges of the shape
+    shape: BlockedEdges<'a, E, B>,
+    // which windings fill it
+    fill_rule: FillRule,
+    // the point
+    p: IntPoint<I>,
 }
 
 // Returns what is found among all sectors round the point.
 fn sectors_seen<I: IntNumber, C: EdgeCount, E: EdgeForm<I, C>, B: FormOf<Block<I>>>(
-    edges: &[E],
-    blocks: &[B],
-    groups: &[B],
-    fill_rule: FillRule,
-    p: IntPoint<I>,
+    asked: &Asked<I, E, B>,
 ) -> Seen
-    requires content { IsContent I.limit (plain_edges I.whole C.counts (map E.meant edges.now)) }
-    requires blocked { AreBlocked (plain_edges I.whole C.counts (map E.meant edges.now))
-        (plain_blocks I.whole (map B.meant blocks.now)) (plain_blocks I.whole (map B.meant groups.now)) }
-    ensures { IsSeenUpTo (is_filled fill_rule) (plain_edges I.whole C.counts (map E.meant edges.now))
-        (in_plane (plain_point I.whole p)) (length edges.now) result }
+    requires content { IsContent I.limit (plain_edges I.whole C.counts (map E.meant asked.now.shape.edges.now)) }
+    requires blocked { AreBlocked (plain_edges I.whole C.counts (map E.meant asked.now.shape.edges.now))
+        (plain_blocks I.whole (map B.meant asked.now.shape.blocks.now))
+        (plain_blocks I.whole (map B.meant asked.now.shape.groups.now)) }
+    ensures { IsSeenUpTo (is_filled asked.now.fill_rule)
+        (plain_edges I.whole C.counts (map E.meant asked.now.shape.edges.now))
+        (in_plane (plain_point I.whole asked.now.p)) (length asked.now.shape.edges.now) result }
 {
-    let left = fills_sector(edges, blocks, groups, fill_rule, p, Flank::Left, None);
-    let right = fills_sector(edges, blocks, groups, fill_rule, p, Flank::Right, None);
+    let left = fills_sector(asked, Flank::Left, None);
+    let right = fills_sector(asked, Flank::Right, None);
     let none = Seen::nothing();
     let lowest = none.with(left);
     let mut seen = lowest.with(right);
+    let edges = asked.shape.edges;
     let mut at = 0;
     while at < edges.len() {
-        let next = passed_from(blocks, groups, at, p);
+        let next = passed_from(asked.shape.blocks, asked.shape.groups, at, asked.p);
         if at < next {
             at = next;
         } else {
             let e = edges[at].edge();
-            let above = seen_above(seen, edges, blocks, groups, fill_rule, p, &e, Flank::Left);
-            seen = seen_above(above, edges, blocks, groups, fill_rule, p, &e, Flank::Right);
+            let above = seen_above(seen, asked, &e, Flank::Left);
+            seen = seen_above(above, asked, &e, Flank::Right);
             at += 1;
         }
     }
@@ -83,28 +97,26 @@ fn sectors_seen<I: IntNumber, C: EdgeCount, E: EdgeForm<I, C>, B: FormOf<Block<I
 // Returns what is found with the sector next above the edge, if it leads from the point into the flank.
 fn seen_above<I: IntNumber, C: EdgeCount, E: EdgeForm<I, C>, B: FormOf<Block<I>>>(
     seen: Seen,
-    edges: &[E],
-    blocks: &[B],
-    groups: &[B],
-    fill_rule: FillRule,
-    p: IntPoint<I>,
+    asked: &Asked<I, E, B>,
     e: &CountedEdge<I, C>,
     flank: Flank,
 ) -> Seen
-    requires content { IsContent I.limit (plain_edges I.whole C.counts (map E.meant edges.now)) }
-    requires blocked { AreBlocked (plain_edges I.whole C.counts (map E.meant edges.now))
-        (plain_blocks I.whole (map B.meant blocks.now)) (plain_blocks I.whole (map B.meant groups.now)) }
+    requires content { IsContent I.limit (plain_edges I.whole C.counts (map E.meant asked.now.shape.edges.now)) }
+    requires blocked { AreBlocked (plain_edges I.whole C.counts (map E.meant asked.now.shape.edges.now))
+        (plain_blocks I.whole (map B.meant asked.now.shape.blocks.now))
+        (plain_blocks I.whole (map B.meant asked.now.shape.groups.now)) }
     requires edge { IsHeld I.limit (plain_edge I.whole C.counts e.now) }
-    ensures ray { leads_from flank (ends_of (plain_edge I.whole C.counts e.now)) (in_plane (plain_point I.whole p))
-        ≡ true → AddsFilling (fills_sector (is_filled fill_rule) flank
-        (plain_edges I.whole C.counts (map E.meant edges.now)) (in_plane (plain_point I.whole p))
-        (Some (ends_of (plain_edge I.whole C.counts e.now)))) seen result }
-    ensures other { leads_from flank (ends_of (plain_edge I.whole C.counts e.now)) (in_plane (plain_point I.whole p))
-        ≡ false → result ≡ seen }
+    ensures ray { leads_from flank (ends_of (plain_edge I.whole C.counts e.now))
+        (in_plane (plain_point I.whole asked.now.p)) ≡ true
+        → AddsFilling (fills_sector (is_filled asked.now.fill_rule) flank
+        (plain_edges I.whole C.counts (map E.meant asked.now.shape.edges.now))
+        (in_plane (plain_point I.whole asked.now.p)) (Some (ends_of (plain_edge I.whole C.counts e.now)))) seen result }
+    ensures other { leads_from flank (ends_of (plain_edge I.whole C.counts e.now))
+        (in_plane (plain_point I.whole asked.now.p)) ≡ false → result ≡ seen }
 {
-    if leads_from(e, p, flank) {
+    if leads_from(e, asked.p, flank) {
         let ray = IntEdge { a: e.a, b: e.b };
-        let is_filled = fills_sector(edges, blocks, groups, fill_rule, p, flank, Some(ray));
+        let is_filled = fills_sector(asked, flank, Some(ray));
         return seen.with(is_filled);
     }
     seen
@@ -112,20 +124,20 @@ fn seen_above<I: IntNumber, C: EdgeCount, E: EdgeForm<I, C>, B: FormOf<Block<I>>
 
 // Returns whether the sector is filled.
 fn fills_sector<I: IntNumber, C: EdgeCount, E: EdgeForm<I, C>, B: FormOf<Block<I>>>(
-    edges: &[E],
-    blocks: &[B],
-    groups: &[B],
-    fill_rule: FillRule,
-    p: IntPoint<I>,
+    asked: &Asked<I, E, B>,
     flank: Flank,
     ray: Option<IntEdge<I>>,
 ) -> bool
-    requires content { IsContent I.limit (plain_edges I.whole C.counts (map E.meant edges.now)) }
-    requires blocked { AreBlocked (plain_edges I.whole C.counts (map E.meant edges.now))
-        (plain_blocks I.whole (map B.meant blocks.now)) (plain_blocks I.whole (map B.meant groups.now)) }
+    requires content { IsContent I.limit (plain_edges I.whole C.counts (map E.meant asked.now.shape.edges.now)) }
+    requires blocked { AreBlocked (plain_edges I.whole C.counts (map E.meant asked.now.shape.edges.now))
+        (plain_blocks I.whole (map B.meant asked.now.shape.blocks.now))
+        (plain_blocks I.whole (map B.meant asked.now.shape.groups.now)) }
     requires ray { IsRayHeld I.limit (plain_ray I.whole ray) }
-    ensures { result ≡ fills_sector (is_filled fill_rule) flank (plain_edges I.whole C.counts (map E.meant edges.now))
-        (in_plane (plain_point I.whole p)) (plain_ray I.whole ray) }
+    ensures { result ≡ fills_sector (is_filled asked.now.fill_rule) flank
+        (plain_edges I.whole C.counts (map E.meant asked.now.shape.edges.now))
+        (in_plane (plain_point I.whole asked.now.p)) (plain_ray I.whole ray) }
 {
-    fill_rule.fills(winding_near(edges, blocks, groups, p, flank, ray))
+    asked
+        .fill_rule
+        .fills(winding_near(&asked.shape, asked.p, flank, ray))
 }

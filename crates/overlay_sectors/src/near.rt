@@ -14,7 +14,7 @@ ghost use Rattle.overlay_geom.specs.Resolved.{plain_edge as plain_int_edge};
 ghost use Rattle.overlay_sectors.specs.Sectors.{spans_beside, leads_from, far_end, is_low};
 ghost use Rattle.overlay_sectors.specs.Sectors.{is_under_near, is_below_near, winding_near};
 
-use crate::blocks::passed_from;
+use crate::blocks::{BlockedEdges, passed_from};
 use crate::flank::Flank;
 use crate::form::EdgeForm;
 use overlay_geom::edge::IntEdge;
@@ -30,24 +30,24 @@ use std::cmp::Ordering;
 /// Returns the winding of the subject in a sector of the flank of the point: the lowest, or that next above the edge
 /// `ray`, which leads from the point.
 pub(crate) fn winding_near<I: IntNumber, C: EdgeCount, E: EdgeForm<I, C>, B: FormOf<Block<I>>>(
-    edges: &[E],
-    blocks: &[B],
-    groups: &[B],
+    shape: &BlockedEdges<E, B>,
     p: IntPoint<I>,
     flank: Flank,
     ray: Option<IntEdge<I>>,
 ) -> i64
-    requires content { IsContent I.limit (plain_edges I.whole C.counts (map E.meant edges.now)) }
-    requires blocked { AreBlocked (plain_edges I.whole C.counts (map E.meant edges.now))
-        (plain_blocks I.whole (map B.meant blocks.now)) (plain_blocks I.whole (map B.meant groups.now)) }
+    requires content { IsContent I.limit (plain_edges I.whole C.counts (map E.meant shape.now.edges.now)) }
+    requires blocked { AreBlocked (plain_edges I.whole C.counts (map E.meant shape.now.edges.now))
+        (plain_blocks I.whole (map B.meant shape.now.blocks.now))
+        (plain_blocks I.whole (map B.meant shape.now.groups.now)) }
     requires ray { IsRayHeld I.limit (plain_ray I.whole ray) }
-    ensures { result ≡ winding_near flank subj_of (plain_edges I.whole C.counts (map E.meant edges.now))
+    ensures { result ≡ winding_near flank subj_of (plain_edges I.whole C.counts (map E.meant shape.now.edges.now))
         (in_plane (plain_point I.whole p)) (is_low flank (plain_ray I.whole ray)) }
 {
+    let edges = shape.edges;
     let mut counted = Counted { sum: 0 };
     let mut at = 0;
     while at < edges.len() {
-        let next = passed_from(blocks, groups, at, p);
+        let next = passed_from(shape.blocks, shape.groups, at, p);
         if at < next {
             at = next;
         } else {

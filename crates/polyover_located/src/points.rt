@@ -23,6 +23,7 @@ use overlay_order::count::ShapeCountBoolean;
 use overlay_relate::blocks::Block;
 use overlay_relate::form::FormOf;
 use overlay_relate::location::PointLocation;
+use overlay_sectors::blocks::BlockedEdges;
 use overlay_sectors::form::EdgeForm;
 use polyover_calls::status::Status;
 use polyover_calls::test::are_within;
@@ -85,6 +86,11 @@ fn write_locations<I: OverlayInt, E: EdgeForm<I, ShapeCountBoolean>, B: FormOf<B
         locations.new }
 {
     let rule = known_fill(shape.fill);
+    let blocked = BlockedEdges {
+        edges: shape.edges,
+        blocks: shape.blocks,
+        groups: shape.groups,
+    };
     let mut told = Vec::new(alloc);
     for at in 0..points.len() / 2 {
         let place = 2 * at;
@@ -93,15 +99,7 @@ fn write_locations<I: OverlayInt, E: EdgeForm<I, ShapeCountBoolean>, B: FormOf<B
         let y = points[next];
         let p = IntPoint { x, y };
         told = told_from(alloc, told, shape.edges, points, place);
-        let location = locate_told(
-            shape.edges,
-            shape.blocks,
-            shape.groups,
-            rule,
-            &told,
-            at % TOGETHER,
-            p,
-        );
+        let location = locate_told(&blocked, rule, &told, at % TOGETHER, p);
         locations[at] = number_of(location);
     }
 }

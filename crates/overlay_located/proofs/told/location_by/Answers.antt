@@ -1,17 +1,13 @@
 -- Both lowest sectors, and those next above the four edges, tell the location.
-use Rattle.std.proofs.Common.{◌≡◌, not, ◌||◌, ◌+ℤ◌, List, ◌++◌, sym, ap, subst, ◌∙◌, rules}
+use Rattle.std.proofs.Common.{◌≡◌, not, ◌||◌, List, ◌++◌, sym, ap, subst, ◌∙◌, rules}
 use Rattle.std.proofs.Common.{w64, to_z, of_z, to_z-of_z}
-use Rattle.std.specs.Prelude.{None}
 use Rattle.overlay_geom.specs.Edges.{CountedEdge}
 use Rattle.overlay_geom.specs.Plane.{in_plane}
 use Rattle.overlay_geom.specs.Rules.{is_filled}
 use Rattle.overlay_order.specs.Content.{plain_edge, plain_edges}
 use Rattle.overlay_located.specs.Few.{if_some}
 use Rattle.overlay_sectors.specs.Located.{LiesIn}
-use Rattle.overlay_sectors.specs.Sectors.{is_low}
-use Rattle.overlay_located.specs.Tells.{near_sum}
 use Rattle.overlay_located.specs.Queries.{plain_query, SeesRays}
-use Rattle.overlay_sectors.specs.declared.flank.Flank.TheVariants.{Left, Right}
 use Rattle.overlay_located.proofs.QuerySums.{mapped_parts, in_first, in_second, in_third, in_fourth}
 use Rattle.overlay_located.proofs.ToldSeen.{sees_on, located_by_told}
 use Rattle.overlay_located.proofs.told.location_by.Goals as goal
@@ -37,16 +33,12 @@ returns g c = λ es content told.
     let b = c.in_ok-two.two in
     let d = c.in_ok-three.three in
     let all = c.in_ok-all.all in
-    let q_left : to_z w64 (of_z w64 c.args.q.left) ≡ c.args.q.left = search (rules, to_z-of_z) in
-    let q_right : to_z w64 (of_z w64 c.args.q.right) ≡ c.args.q.right = search (rules, to_z-of_z) in
     let left : to_z w64 (of_z w64 c.in_ok-left.left) ≡ c.in_ok-left.left = search (rules, to_z-of_z) in
     let right : to_z w64 (of_z w64 c.in_ok-right.right) ≡ c.in_ok-right.right = search (rules, to_z-of_z) in
     subst (LiesIn filled es p) (sym c.location.ensures)
     (located_by_told filled es q told c.requires g.I.IntNumber.limit content.held none lowest both all
     c.in_ok-left.left c.in_ok-right.right
-    (c.in_ok-left.ensures ∙ ap (λ z. z +ℤ near_sum Left q.through q.point (is_low Left None)) q_left)
-    (c.in_ok-right.ensures ∙ ap (λ z. z +ℤ near_sum Right q.through q.point (is_low Right None)) q_right)
-    c.nothing-none.ensures
+    c.in_ok-left.ensures c.in_ok-right.ensures c.nothing-none.ensures
     (c.with-lowest.ensures.filled ∙ ap (λ t. t || none.filled) (c.fills.ensures ∙ ap filled left))
     (c.with-lowest.ensures.empty ∙ ap (λ t. not t || none.empty) (c.fills.ensures ∙ ap filled left))
     (c.with-seen.ensures.filled ∙ ap (λ t. t || lowest.filled) (c.fills-2.ensures ∙ ap filled right))

@@ -1,5 +1,5 @@
 -- The sectors next above the edge are found in both flanks.
-use Rattle.std.proofs.Common.{◌≡◌, Contains, [], map, sym, subst, rules, w64, to_z, of_z, to_z-of_z}
+use Rattle.std.proofs.Common.{Contains, [], map, sym, subst}
 use Rattle.std.specs.Prelude.{Option, Some}
 use Rattle.std.specs.List.{All}
 use Rattle.std.proofs.lemmas.List.Elements.{All-head}
@@ -22,11 +22,9 @@ returns g c = λ es told among.
     let e = plain c.in-Some.e in
     let at = subst (λ (o : Option (CountedEdge _ _)). All (Contains q.through) (map plain (if_some o))) c.in-Some.is
     among in
-    let left : to_z w64 (of_z w64 c.args.q.left) ≡ c.args.q.left = search (rules, to_z-of_z) in
-    let right : to_z w64 (of_z w64 c.args.q.right) ≡ c.args.q.right = search (rules, to_z-of_z) in
-    IfSome_then c.seen_on-2.result (c.seen_on-2.ensures es told right) (λ new sees.
+    IfSome_then c.seen_on-2.result (c.seen_on-2.ensures es told) (λ new sees.
     subst (λ (o : Option (CountedEdge _ _)). SeesRays filled es p (map plain (if_some o)) c.args.seen new)
     (sym c.in-Some.is)
     (sees_both filled es p e c.args.seen c.in_ok-left.left new
     (told_entry filled es q told c.requires e (All-head (Contains q.through) e [] at))
-    (c.in_ok-left.ensures es told left) sees))
+    (c.in_ok-left.ensures es told) sees))

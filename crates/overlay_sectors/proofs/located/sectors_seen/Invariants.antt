@@ -9,9 +9,9 @@ use Rattle.overlay_sectors.proofs.located.sectors_seen.Given as goal
 
 abbrev pub invariant-loop-at : goal.invariant-loop-at
 invariant-loop-at g l =
-    IsSeenUpTo (is_filled l.fill_rule)
-    (plain_edges g.I.IntNumber.whole g.C.EdgeCount.counts (map g.E.EdgeForm.meant l.edges))
-    (in_plane (plain_point g.I.IntNumber.whole l.p)) l.at l.seen
+    IsSeenUpTo (is_filled l.asked.fill_rule)
+    (plain_edges g.I.IntNumber.whole g.C.EdgeCount.counts (map g.E.EdgeForm.meant l.asked.shape.edges.now))
+    (in_plane (plain_point g.I.IntNumber.whole l.asked.p)) l.at l.seen
 
 abbrev pub decreases-loop-at : goal.decreases-loop-at
-decreases-loop-at g l = length l.edges - l.at
+decreases-loop-at g l = length l.asked.shape.edges.now - l.at

@@ -11,8 +11,8 @@ use Rattle.overlay_sectors.proofs.near.winding_near.Given as goal
 abbrev pub invariant-loop-at : goal.invariant-loop-at
 invariant-loop-at g l =
     l.counted.sum ≡ winding_near l.flank subj_of
-    (take l.at (plain_edges g.I.IntNumber.whole g.C.EdgeCount.counts (map g.E.EdgeForm.meant l.edges)))
+    (take l.at (plain_edges g.I.IntNumber.whole g.C.EdgeCount.counts (map g.E.EdgeForm.meant l.shape.edges.now)))
     (in_plane (plain_point g.I.IntNumber.whole l.p)) (is_low l.flank (plain_ray g.I.IntNumber.whole l.ray))
 
 abbrev pub decreases-loop-at : goal.decreases-loop-at
-decreases-loop-at g l = length l.edges - l.at
+decreases-loop-at g l = length l.shape.edges.now - l.at
