@@ -5,6 +5,8 @@ use overlay_geom::path::IntShape;
 use overlay_geom::point::{IntPoint, in_range};
 use overlay_geom::resolved::is_resolved;
 use overlay_located::contours::locate_in_contours;
+use overlay_located::resolved_contours::ResolvedContours;
+use overlay_relate::containment::IntPointContainment;
 use overlay_relate::in_shapes::locate_in_shape;
 use overlay_relate::location::PointLocation;
 use overlay_relate::location::PointLocation::{Boundary, Inside, Outside};
@@ -47,6 +49,25 @@ fn nested_squares(rt: HostRuntime) -> Result<(), Fail> {
     assert!(&rt; found.len() == points.len());
     for (p, location) in points.iter().zip(&found) {
         assert!(&rt; *location == in_nested(300, p.x, p.y));
+    }
+    Ok(())
+}
+
+// The squares as a shape of its own: a point off the edges is inside where it is located so.
+#[test]
+fn inside_nested_squares(rt: HostRuntime) -> Result<(), Fail> {
+    let alloc = rt.alloc();
+    let shape = nested(alloc, 150)?;
+    let points = points_between(alloc, 700, 650, 650)?;
+    check_given(&rt, &shape, &points);
+    let resolved = ResolvedContours { contours: &shape };
+    let found = resolved.locate_points(alloc, &points)?;
+    let truths = resolved.contains_points(alloc, &points)?;
+    assert!(&rt; found.len() == points.len() && truths.len() == points.len());
+    for (place, p) in points.iter().enumerate() {
+        let expected = in_nested(150, p.x, p.y);
+        assert!(&rt; found[place] == expected);
+        assert!(&rt; expected == Boundary || truths[place] == (expected == Inside));
     }
     Ok(())
 }

@@ -1,4 +1,4 @@
-//! Where points lie in a shape of contours as they are given: nothing is rounded.
+//! Where points lie in shapes of contours, many points together: nothing is rounded.
 #![tactic(auto)]
 
 mod chain;
@@ -16,6 +16,7 @@ pub mod only_locations;
 mod parity;
 pub mod parts;
 pub mod query;
+pub mod resolved_contours;
 mod slab;
 pub mod together;
 mod told;

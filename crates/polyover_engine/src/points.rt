@@ -7,7 +7,7 @@ ghost use Rattle.polyover_text.specs.Statements.{figures_at};
 
 use crate::exit::Exit;
 use crate::subject::subject;
-use overlay_located::contours::locate_in_contours;
+use overlay_located::resolved_contours::ResolvedContours;
 use overlay_relate::containment::IntPointContainment;
 use polyover_text::input::Input;
 use polyover_text::location_text::{locations_text, truths_text};
@@ -25,7 +25,8 @@ pub(crate) fn contains_text<A: Allocator + Copy>(
         (λ exit. EndsUnanswered (figures_at input.now.figures) input.now.line Query.Contains exit) }
 {
     let shape = subject(alloc, &input.figures.contours)?;
-    let truths = shape.contains_points(alloc, &input.figures.points)?;
+    let resolved = ResolvedContours { contours: &shape };
+    let truths = resolved.contains_points(alloc, &input.figures.points)?;
     Ok(truths_text(alloc, &truths)?)
 }
 
@@ -40,6 +41,7 @@ pub(crate) fn locate_text<A: Allocator + Copy>(
         (λ exit. EndsUnanswered (figures_at input.now.figures) input.now.line Query.Locate exit) }
 {
     let shape = subject(alloc, &input.figures.contours)?;
-    let locations = locate_in_contours(alloc, &shape, &input.figures.points)?;
+    let resolved = ResolvedContours { contours: &shape };
+    let locations = resolved.locate_points(alloc, &input.figures.points)?;
     Ok(locations_text(alloc, &locations)?)
 }

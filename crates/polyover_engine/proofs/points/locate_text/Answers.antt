@@ -1,17 +1,14 @@
 use Rattle.std.proofs.Common.{sym, subst, ap, ◌∙◌, [], ◌∷◌}
 use Rattle.std.specs.Prelude.{All}
 use Rattle.std.specs.List.{flat_map}
+use Rattle.std.proofs.lemmas.List.Elements.{All-nil, All-cons}
 use Rattle.std.proofs.lemmas.Result.{err_from_is_err_and}
 use Rattle.overlay_geom.specs.Paths.{paths_of_shape}
-use Rattle.overlay_geom.specs.Plane.{Point, in_plane}
 use Rattle.overlay_geom.specs.Points.{AllInRange}
 use Rattle.overlay_geom.specs.Resolved.{IsResolved}
 use Rattle.overlay_geom.specs.Numbers.{greatest_of_64_bits}
 use Rattle.overlay_relate.specs.Answers.{AnswersWhere}
-use Rattle.overlay_relate.specs.Locations.{IsLocatedIn, IsLocatedAmong}
-use Rattle.overlay_relate.specs.declared.location.PointLocation.{PointLocation}
-use Rattle.overlay_relate.proofs.Answered.{answers_weaker}
-use Rattle.overlay_relate.proofs.Located.{among_one}
+use Rattle.overlay_relate.specs.Locations.{IsLocatedAmong}
 use Rattle.polyover_text.specs.Points.{points_at}
 use Rattle.polyover_text.specs.Printed.{location_line}
 use Rattle.polyover_text.specs.Statements.{contours_at, figures_at}
@@ -19,18 +16,20 @@ use Rattle.polyover_engine.specs.Subjects.{HasNoSubject}
 use Rattle.polyover_engine.proofs.Located.{tells_where, nothing_located}
 use Rattle.polyover_engine.proofs.points.locate_text.Goals as goal
 
-pub locate_in_contours-requires-clause-contours : goal.locate_in_contours-requires-clause-contours
-locate_in_contours-requires-clause-contours g c =
-    subst (λ cs. All (AllInRange greatest_of_64_bits) (paths_of_shape (λ z. z) cs)) (sym c.deref-2.ensures.value)
-    c.in_ok-shape.ensures.in_range
+pub locate_points-requires-clause-self_in_range : goal.locate_points-requires-clause-self_in_range
+locate_points-requires-clause-self_in_range g c =
+    let P = All (AllInRange greatest_of_64_bits) in
+    All-cons P _ [] (subst (λ cs. P (paths_of_shape (λ z. z) cs)) (sym c.deref-2.ensures.value)
+    c.in_ok-shape.ensures.in_range) (All-nil P)
 
-pub locate_in_contours-requires-clause-resolved : goal.locate_in_contours-requires-clause-resolved
-locate_in_contours-requires-clause-resolved g c =
-    subst (λ cs. All IsResolved (paths_of_shape (λ z. z) cs)) (sym c.deref-2.ensures.value)
-    c.in_ok-shape.ensures.resolved
+pub locate_points-requires-clause-resolved : goal.locate_points-requires-clause-resolved
+locate_points-requires-clause-resolved g c =
+    let P = All IsResolved in
+    All-cons P _ [] (subst (λ cs. P (paths_of_shape (λ z. z) cs)) (sym c.deref-2.ensures.value)
+    c.in_ok-shape.ensures.resolved) (All-nil P)
 
-pub locate_in_contours-requires-clause-points : goal.locate_in_contours-requires-clause-points
-locate_in_contours-requires-clause-points g c =
+pub locate_points-requires-clause-points_in_range : goal.locate_points-requires-clause-points_in_range
+locate_points-requires-clause-points_in_range g c =
     subst (λ l. AllInRange greatest_of_64_bits (points_at l)) (sym c.deref-3.ensures.value) c.requires.points
 
 pub returns-in_err-shape : goal.returns-in_err-shape
@@ -41,16 +40,11 @@ returns-in_err-shape g c =
     c.in_err-shape.ensures))
 
 pub returns : goal.returns
-returns g c =
-    let shape = paths_of_shape (λ z. z) c.in_ok-shape.shape.items in
-    let located = subst (λ cs. AnswersWhere (IsLocatedIn (paths_of_shape (λ z. z) cs)) (points_at c.deref-3.result.now)
-    c.in_ok-locations.locations.items) c.deref-2.ensures.value c.in_ok-locations.ensures in (
-      c.in_ok-locations.locations.items,
-      tells_where (figures_at c.args.input.now.figures) _ _ _ (ap contours_at c.deref.ensures.value)
-          (ap points_at c.deref-3.ensures.value) c.in_ok-shape.ensures
-          _ (answers_weaker (λ (q : Point) (l : PointLocation). IsLocatedIn shape (in_plane q) l)
-          (λ (q : Point) (l : PointLocation). IsLocatedAmong (shape ∷ []) (in_plane q) l)
-          (λ q l at. among_one shape (in_plane q) l at) (points_at c.deref-3.result.now)
-          c.in_ok-locations.locations.items located),
-      c.in_ok-locations_text.ensures ∙ ap (flat_map location_line) c.deref-4.ensures.value,
-    )
+returns g c = (
+  c.in_ok-locations.locations.items,
+  tells_where (figures_at c.args.input.now.figures) _ _ _ (ap contours_at c.deref.ensures.value)
+      (ap points_at c.deref-3.ensures.value) c.in_ok-shape.ensures
+      _ (subst (λ cs. AnswersWhere (IsLocatedAmong (paths_of_shape (λ z. z) cs ∷ [])) (points_at c.deref-3.result.now)
+      c.in_ok-locations.locations.items) c.deref-2.ensures.value c.in_ok-locations.ensures.located),
+  c.in_ok-locations_text.ensures ∙ ap (flat_map location_line) c.deref-4.ensures.value,
+)
