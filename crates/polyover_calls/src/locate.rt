@@ -18,6 +18,7 @@ use overlay_geom::error::OverlayError;
 use overlay_geom::flat::contours::FlatContoursBuffer;
 use overlay_geom::integer::OverlayInt;
 use overlay_geom::point::IntPoint;
+use overlay_located::resolved_contours::ResolvedContours;
 use overlay_relate::containment::IntPointContainment;
 use overlay_relate::location::PointLocation;
 use std::alloc::{AllocError, Global};
@@ -100,7 +101,8 @@ fn numbers_in<I: OverlayInt>(
     ensures only { IsOkUnless result OverlayError.Memory }
 {
     let shape = shape_of(alloc, contours)?;
-    let locations = shape.locate_points(alloc, points)?;
+    let resolved = ResolvedContours { contours: &shape };
+    let locations = resolved.locate_points(alloc, points)?;
     let numbers = numbers_of(alloc, &locations)?;
     Ok(numbers)
 }

@@ -13,14 +13,16 @@ use Rattle.polyover_calls.proofs.locate.numbers_in.Goals as goal
 pub locate_points-requires-clause-self_in_range : goal.locate_points-requires-clause-self_in_range
 locate_points-requires-clause-self_in_range g c =
     let P = All (AllInRange g.I.IntNumber.limit) in
-    All-cons P (paths_of_shape g.I.IntNumber.whole c.in_ok-shape.shape.items) []
-    (subst P (sym c.in_ok-shape.ensures.shape) c.requires.in_range) (All-nil P)
+    All-cons P (paths_of_shape g.I.IntNumber.whole c.deref.result.now) []
+    (subst (λ cs. P (paths_of_shape g.I.IntNumber.whole cs)) (sym c.deref.ensures.value)
+    (subst P (sym c.in_ok-shape.ensures.shape) c.requires.in_range)) (All-nil P)
 
 pub locate_points-requires-clause-resolved : goal.locate_points-requires-clause-resolved
 locate_points-requires-clause-resolved g c =
     let P = All IsResolved in
-    All-cons P (paths_of_shape g.I.IntNumber.whole c.in_ok-shape.shape.items) []
-    (subst P (sym c.in_ok-shape.ensures.shape) c.requires.resolved) (All-nil P)
+    All-cons P (paths_of_shape g.I.IntNumber.whole c.deref.result.now) []
+    (subst (λ cs. P (paths_of_shape g.I.IntNumber.whole cs)) (sym c.deref.ensures.value)
+    (subst P (sym c.in_ok-shape.ensures.shape) c.requires.resolved)) (All-nil P)
 
 pub returns-clause-numbers : goal.returns-clause-numbers
 returns-clause-numbers g c =
@@ -29,6 +31,7 @@ returns-clause-numbers g c =
     record {
       locations = locations;
       located = subst (λ paths. AnswersWhere (IsLocatedAmong (paths ∷ [])) (plain_points whole c.args.points.now)
-          locations) c.in_ok-shape.ensures.shape c.in_ok-locations.ensures.located;
-      numbers = c.in_ok-numbers.ensures.numbers ∙ ap (map number_of) c.deref.ensures.value;
+          locations) (ap (paths_of_shape whole) c.deref.ensures.value ∙ c.in_ok-shape.ensures.shape)
+          c.in_ok-locations.ensures.located;
+      numbers = c.in_ok-numbers.ensures.numbers ∙ ap (map number_of) c.deref-2.ensures.value;
     }
