@@ -1,5 +1,6 @@
 /** Answers in lists, in typed arrays, or as geometries of GeoJSON. */
 
+import { BadInput } from "./errors.js";
 import { Flat, FlatShapes } from "./flat.js";
 import { LOCATIONS } from "./names.js";
 import { SOURCE } from "./traced.js";
@@ -25,13 +26,22 @@ function parted(items, ends) {
   return Array.from(ends, (end, number) => items.slice(number === 0 ? 0 : ends[number - 1], end));
 }
 
-/** A contour as a ring, which has its first point at its end too; BigInts as numbers. */
+/** A contour as a ring, which has its first point at its end too. */
 function ring(points) {
   return points.length === 0 ? [] : [...numbered(points), numbered(points.slice(0, 1))[0]];
 }
 
 function numbered(points) {
-  return points.map(([x, y]) => [Number(x), Number(y)]);
+  return points.map(([x, y]) => [numberOf(x), numberOf(y)]);
+}
+
+/** A coordinate as JSON has it; a BigInt that no float equals is refused. */
+function numberOf(value) {
+  const found = Number(value);
+  if (typeof value === "bigint" && BigInt(found) !== value) {
+    throw new BadInput(`GeoJSON: ${value} would be rounded: other forms of answers have BigInts`);
+  }
+  return found;
 }
 
 /** Shapes as a geometry of GeoJSON. */

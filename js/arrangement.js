@@ -2,7 +2,7 @@
 
 import { edgesIn, linksIn, shapesIn } from "./answers.js";
 import { BadInput } from "./errors.js";
-import { chosen } from "./given.js";
+import { chosen, chosenOfOthers } from "./given.js";
 
 export const FREED = "the arrangement was freed";
 const LOOK = ["rule", "clockwise", "keep", "touching", "minimumArea", "answer"];
@@ -58,7 +58,7 @@ export class Arrangement {
    * for them.
    */
   edges(options = {}) {
-    const { answer } = chosen(options, ["answer"]);
+    const { answer } = chosenOfOthers(options, ["answer"]);
     return edgesIn(this.#graph().graphEdges(this.#held.at, this.#how), answer ?? this.#how.form);
   }
 

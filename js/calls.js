@@ -6,7 +6,7 @@ import { Arrangement } from "./arrangement.js";
 import { BadInput } from "./errors.js";
 import { misfit, sideOf } from "./cells.js";
 import { isGeometry, partsOf } from "./geojson.js";
-import { EXACT, alike, askedOf, chosen, chosenAsGiven, chosenOfSteps, grouped } from "./given.js";
+import { EXACT, alike, askedOf, chosen, chosenAsGiven, chosenOfOthers, chosenOfSteps, grouped } from "./given.js";
 import { listed, pointsOf, relationAt, stepped } from "./given.js";
 import { FILLS, LIMIT, RELATIONS, RULES, SOLVERS } from "./names.js";
 import { Prepared } from "./prepared.js";
@@ -84,7 +84,7 @@ export class Polyover {
    * touch themselves in points, and a point stays where the sides change.
    */
   vectors(subject, clip = [], options = {}) {
-    const { rule, fill, answer, ...look } = chosen(options, VECTORS, this.#grid);
+    const { rule, fill, answer, ...look } = chosenOfOthers(options, VECTORS, this.#grid);
     return this.#filled({ subject, clip }, { fill, solver: look.solver }, answer, (asked, form) =>
       vectorsIn(this.#library.vectors(asked, rule, fill, look), form),
     );
@@ -151,7 +151,7 @@ export class Polyover {
    * region that its polygons cover.
    */
   locate(shape, points, options = {}) {
-    const { answer } = chosen(options, ["answer"]);
+    const { answer } = chosenOfOthers(options, ["answer"]);
     const [contours, queries] = [this.#contours("shape", shape), pointsOf(points)];
     return this.#asked([contours, queries], answer ?? queries.form, (asked, form) => {
       const found = contours.isRegion ? this.#inRegion(asked) : this.#library.locate(asked);
@@ -188,7 +188,7 @@ export class Polyover {
 
   /** The edges of the arrangement, in order: two points, and the sum of the bits of the filled sides. */
   edges(subject, clip = [], options = {}) {
-    const { fill, solver, answer } = chosen(options, FILLED);
+    const { fill, solver, answer } = chosenOfOthers(options, FILLED);
     return this.#filled({ subject, clip }, { fill, solver, isJoined: true }, answer, (asked, form) =>
       edgesIn(this.#library.edges(asked, fill, solver), form),
     );
@@ -243,14 +243,14 @@ export class Polyover {
    */
   #filled(given, how, form, answered) {
     const groups = Object.entries(given).map(([name, thing]) => {
-      const group = name === "lines" ? this.#lines(thing) : this.#contours(name, thing);
+      const group = name === "lines" ? this.#lines(thing) : this.#contours(name, thing, how.solver);
       return group.isRegion ? this.#region(group, how) : group;
     });
     return this.#asked(groups, form, answered);
   }
 
-  #contours(name, thing) {
-    return isGeometry(thing) ? this.#covered(name, partsOf("polygons", thing, name)) : grouped(name, thing);
+  #contours(name, thing, solver = SNAPPED) {
+    return isGeometry(thing) ? this.#covered(name, partsOf("polygons", thing, name), solver) : grouped(name, thing);
   }
 
   #lines(thing) {
@@ -281,29 +281,29 @@ export class Polyover {
   }
 
   /** The contours of polygons, as whole numbers: outlines run counter-clockwise and holes clockwise. */
-  #covered(name, polygons) {
-    const found = polygons.map(({ place, part }) => this.#coveredBy(place, part));
+  #covered(name, polygons, solver) {
+    const found = polygons.map(({ place, part }) => this.#coveredBy(place, part, { ...PLAIN, solver }));
     return { name, form: "geojson", isRegion: true, count: polygons.length, ...inOne(found) };
   }
 
   /** The contours of a polygon: they wind once round what its outline winds round, and none of its holes does. */
-  #coveredBy(place, [outline, ...holes]) {
-    const around = this.#wound(place, outline);
-    const wound = holes.map((hole, at) => this.#wound(`${place}, ring ${at + 2}`, hole));
+  #coveredBy(place, [outline, ...holes], look) {
+    const around = this.#wound(place, outline, look);
+    const wound = holes.map((hole, at) => this.#wound(`${place}, ring ${at + 2}`, hole, look));
     const within = wound.filter(({ coordinates }) => coordinates.length > 0);
     if (within.length === 0) {
       return around;
     }
     const groups = [inOne([around]), inOne(within)];
-    return this.#library.overlay({ groups, kind: BigInt64Array, grid: this.#grid }, DIFFERENCE, NONZERO, PLAIN);
+    return this.#library.overlay({ groups, kind: BigInt64Array, grid: this.#grid }, DIFFERENCE, NONZERO, look);
   }
 
   /** The contours that wind once round what a ring winds round. (Rings that run against each other may overlap.) */
-  #wound(place, ring) {
+  #wound(place, ring, look) {
     return this.#asked([listed(place, [ring])], "arrays", ({ groups: [group], grid }) => {
       const numbers = this.#library.withoutRepeats(group, grid);
       const groups = [{ ...group, numbers, ends: Uint32Array.of(numbers.length / 2) }];
-      return this.#library.simplify({ groups, kind: BigInt64Array }, NONZERO, PLAIN);
+      return this.#library.simplify({ groups, kind: BigInt64Array }, NONZERO, look);
     });
   }
 }

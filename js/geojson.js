@@ -9,6 +9,10 @@ const POINTS = ["Point", "MultiPoint"];
 const KINDS = [...POLYGONS, ...LINES, ...POINTS];
 const WANTED = { polygons: POLYGONS, lines: LINES, points: POINTS };
 const LEAST = { polygons: 3, lines: 2 };
+/** How many lists stand round a point. */
+const DEPTHS = { Point: 0, MultiPoint: 1, LineString: 1, MultiLineString: 2, Polygon: 2, MultiPolygon: 3 };
+/** So many collections may stand in one another. */
+const NESTED = 50;
 
 /** Whether a thing is given as a geometry, and not as a list of paths. */
 export function isGeometry(thing) {
@@ -24,30 +28,60 @@ function list(place, thing) {
 
 /** The geometries in a thing that are no collections, each with its place. */
 function* geometries(thing, place) {
-  if (!isGeometry(thing)) {
-    throw new BadInput(`${place}: ${shown(thing)} is no geometry`);
+  if (thing.type !== "FeatureCollection") {
+    yield* ofFeature(thing, place);
+    return;
   }
-  if (thing.type === "FeatureCollection") {
-    for (const [at, each] of list(`${place}: features`, thing.features).entries()) {
-      yield* geometries(each, `${place}: feature ${at + 1}`);
-    }
-  } else if (thing.type === "GeometryCollection") {
-    for (const [at, each] of list(`${place}: geometries`, thing.geometries).entries()) {
-      yield* geometries(each, `${place}, geometry ${at + 1}`);
-    }
-  } else if (thing.type !== "Feature") {
-    yield [thing, place];
-  } else if (thing.geometry !== null) {
-    yield* geometries(thing.geometry, place);
+  for (const [at, each] of list(`${place}: features`, thing.features).entries()) {
+    yield* ofFeature(each, `${place}: feature ${at + 1}`);
   }
 }
 
-/** A point of two finite numbers; what it has beyond x and y is left out. */
+/** Those of a feature, or of a geometry that stands alone. */
+function* ofFeature(thing, place) {
+  if (thing?.type !== "Feature") {
+    yield* ofGeometry(thing, place, 0);
+  } else if (thing.geometry !== null) {
+    yield* ofGeometry(thing.geometry, place, 0);
+  }
+}
+
+/** Those of a geometry, which may be a collection, in so many others. */
+function* ofGeometry(thing, place, depth) {
+  if (!isGeometry(thing)) {
+    throw new BadInput(`${place}: ${shown(thing)} is no geometry`);
+  }
+  if (thing.type !== "GeometryCollection") {
+    if (!KINDS.includes(thing.type)) {
+      throw new BadInput(`${place}: ${shown(thing.type)} is no geometry`);
+    }
+    yield [thing, place];
+    return;
+  }
+  if (depth === NESTED) {
+    throw new BadInput(`${place}: more than ${NESTED} collections in one another`);
+  }
+  for (const [at, each] of list(`${place}: geometries`, thing.geometries).entries()) {
+    yield* ofGeometry(each, `${place}, geometry ${at + 1}`, depth + 1);
+  }
+}
+
+/** A point of two finite numbers; what it has beyond x and y is left out, if it is finite numbers too. */
 function pointAt(place, point) {
-  if (!Array.isArray(point) || point.length < 2 || !Number.isFinite(point[0]) || !Number.isFinite(point[1])) {
+  // (this asks of places too where a list has no item)
+  if (!Array.isArray(point) || point.length < 2 || point.findIndex((value) => !Number.isFinite(value)) >= 0) {
     throw new BadInput(`${place}: ${shown(point)} is no point of two finite numbers`);
   }
   return [point[0], point[1]];
+}
+
+/** That coordinates of a geometry that is passed over are points in as many lists; an empty point has none. */
+function checkNested(place, coordinates, depth) {
+  if (depth > 0) {
+    list(place, coordinates).forEach((each) => checkNested(place, each, depth - 1));
+  } else if (!Array.isArray(coordinates) || coordinates.length > 0) {
+    pointAt(place, coordinates);
+  }
 }
 
 /** Whether two points are equal in all their members. */
@@ -76,10 +110,8 @@ export function partsOf(kind, thing, name) {
   let isFound = false;
   let passed;
   for (const [geometry, place] of geometries(thing, name)) {
-    if (!KINDS.includes(geometry.type)) {
-      throw new BadInput(`${place}: ${shown(geometry.type)} is no geometry`);
-    }
     if (!WANTED[kind].includes(geometry.type)) {
+      checkNested(`${place}: coordinates`, geometry.coordinates, DEPTHS[geometry.type]);
       passed ??= `${place}: ${geometry.type} in the place of ${WANTED[kind].join(" or ")}`;
       continue;
     }

@@ -24,6 +24,12 @@ function placeIn(names, what) {
 }
 
 const ANSWERS = ["lists", "arrays", "geojson"];
+
+/** The value of an option that is one of some forms of answers, or not given. */
+function formIn(forms) {
+  return (value) => (value === undefined ? value : forms[placeIn(forms, "answer")(value)]);
+}
+
 const OPTIONS = {
   rule: ["union", placeIn(RULES, "rule")],
   fill: ["nonzero", placeIn(FILLS, "fill rule")],
@@ -34,21 +40,28 @@ const OPTIONS = {
   minimumArea: [0, areaOf],
   invert: [false, truth("invert")],
   boundary: [false, truth("boundary")],
-  answer: [undefined, (value) => (value === undefined ? value : ANSWERS[placeIn(ANSWERS, "answer")(value)])],
+  answer: [undefined, formIn(ANSWERS)],
 };
+/** The options of calls whose answers are no shapes or paths, which GeoJSON has. */
+const OF_OTHERS = { ...OPTIONS, answer: [undefined, formIn(["lists", "arrays"])] };
 
 /** The number of the solver "exact", which relations and prepared shapes have: it makes no arrangement. */
 export const EXACT = SOLVERS.length;
 const AS_GIVEN = { ...OPTIONS, solver: ["exact", placeIn([...SOLVERS, "exact"], "solver")] };
 
 const RULE_OF_EDGES = (value) => (value === undefined ? ALL_EDGES : placeIn(RULES, "rule")(value));
-const OF_STEPS = { ...OPTIONS, rule: [undefined, RULE_OF_EDGES], closed: [true, truth("closed")] };
+const OF_STEPS = { ...OF_OTHERS, rule: [undefined, RULE_OF_EDGES], closed: [true, truth("closed")] };
 
 /** The options of a call, each of which has one of these names, with the defaults of those not given. */
 export function chosen(options, names, grid, table = OPTIONS) {
   checkNames(options, names);
   const values = names.map((name) => [name, options[name] === undefined ? table[name][0] : options[name]]);
   return Object.fromEntries(values.map(([name, value]) => [name, table[name][1](value, grid)]));
+}
+
+/** The options of a call whose answer is no shapes or paths, but edges, steps or words of points. */
+export function chosenOfOthers(options, names, grid) {
+  return chosen(options, names, grid, OF_OTHERS);
 }
 
 /** The options of a call that tells of contours as they are given, if no other solver is asked for. */

@@ -43,8 +43,10 @@ export type Fill = "evenodd" | "nonzero" | "positive" | "negative";
 export type Solver = "snapped" | "rounds";
 /** How relations are told, and points located: in the contours as they are given, or an arrangement by a solver. */
 export type RelationSolver = "exact" | Solver;
+/** The form of an answer that is no shapes or paths; that of the first group, or lists, where none is named. */
+export type PlainForm = "lists" | "arrays";
 /** The form of an answer; that of the first group where none is named. */
-export type Form = "lists" | "arrays" | "geojson";
+export type Form = PlainForm | "geojson";
 export type Location = "outside" | "inside" | "boundary";
 /** Of which module the library is made; "unknown" where it does not tell. */
 export type Built = "proved" | "unproved" | "unknown";
@@ -168,17 +170,14 @@ export interface LinesAs<N extends Coordinate> {
 export interface EdgesAs<N extends Coordinate> {
   lists: Edge<N>[];
   arrays: FlatEdges;
-  geojson: Edge<N>[];
 }
 export interface VectorsAs<N extends Coordinate> {
   lists: Vectors<N>;
   arrays: FlatVectors;
-  geojson: Vectors<N>;
 }
 export interface TracedAs<N extends Coordinate> {
   lists: TracedEdge<N>[];
   arrays: FlatTraced;
-  geojson: TracedEdge<N>[];
 }
 export interface LinksAs {
   lists: Link[];
@@ -190,14 +189,14 @@ export interface LocationsAs {
   lists: Location[];
   /** A number for each point: its place in `LOCATIONS`. */
   arrays: Uint8Array;
-  geojson: Location[];
 }
 export interface TruthsAs {
   lists: boolean[];
   /** A number for each point: 1 is true. */
   arrays: Uint8Array;
-  geojson: boolean[];
 }
+/** The form of edges of what was given. */
+export type PlainFormOf<P> = P extends Flat ? "arrays" : "lists";
 /** The form of locations of points. */
 export type FormOfPoints<P> = P extends Numbers ? "arrays" : "lists";
 
@@ -248,7 +247,7 @@ export class Polyover {
     options?: OverlayOptions & AnswerOptions<F>,
   ): { shapes: ShapesAs<NumberOf<P> | NumberOf<Q>>[F]; links: LinksAs[F] };
   /** The shapes round the same region, each contour by its steps, with the sum of the filled sides of each. */
-  vectors<P extends Paths, Q extends Paths = [], F extends Form = FormOf<P>>(
+  vectors<P extends Paths, Q extends Paths = [], F extends PlainForm = PlainFormOf<P>>(
     subject: P,
     clip?: Q,
     options?: VectorsOptions & AnswerOptions<F>,
@@ -288,7 +287,7 @@ export class Polyover {
    * Where each point lies in contours, which are joined by exclusive or, or in the region that a geometry covers.
    * NotResolved comes where a contour that is given in lists or arrays meets itself.
    */
-  locate<P extends Points, F extends Form = FormOfPoints<P>>(
+  locate<P extends Points, F extends PlainForm = FormOfPoints<P>>(
     shape: Paths,
     points: P,
     options?: AnswerOptions<F>,
@@ -302,13 +301,13 @@ export class Polyover {
     options?: FillOptions,
   ): Arrangement<NumberOf<P> | NumberOf<Q>, FormOf<P>>;
   /** The edges of the arrangement, in order. */
-  edges<P extends Paths, Q extends Paths = [], F extends Form = FormOf<P>>(
+  edges<P extends Paths, Q extends Paths = [], F extends PlainForm = PlainFormOf<P>>(
     subject: P,
     clip?: Q,
     options?: FillOptions & AnswerOptions<F>,
   ): EdgesAs<NumberOf<P> | NumberOf<Q>>[F];
   /** The edges of the arrangement, all or by a rule, each with the given steps on which it lies. */
-  trace<P extends ListedPaths, Q extends ListedPaths = [], F extends Form = FormOf<P>>(
+  trace<P extends ListedPaths, Q extends ListedPaths = [], F extends PlainForm = PlainFormOf<P>>(
     subject: P,
     clip?: Q,
     options?: TraceOptions & AnswerOptions<F>,
@@ -321,9 +320,12 @@ export class Polyover {
 export class Prepared {
   private constructor();
   /** Where each point lies. */
-  locate<P extends Points, F extends Form = FormOfPoints<P>>(points: P, options?: AnswerOptions<F>): LocationsAs[F];
+  locate<P extends Points, F extends PlainForm = FormOfPoints<P>>(
+    points: P,
+    options?: AnswerOptions<F>,
+  ): LocationsAs[F];
   /** Whether each point lies inside; on the boundary it does not. */
-  contains<P extends Points, F extends Form = FormOfPoints<P>>(points: P, options?: AnswerOptions<F>): TruthsAs[F];
+  contains<P extends Points, F extends PlainForm = FormOfPoints<P>>(points: P, options?: AnswerOptions<F>): TruthsAs[F];
   /** Gives its memory back, which else happens some time after nothing refers to it: it is not to be asked any more. */
   free(): void;
 }
@@ -338,7 +340,7 @@ export class Arrangement<N extends Coordinate, G extends Form> {
     options?: ArrangedOptions & AnswerOptions<F>,
   ): { shapes: ShapesAs<N>[F]; links: LinksAs[F] };
   /** The edges, in order. No polygons of a geometry are joined for them. */
-  edges<F extends Form = G>(options?: AnswerOptions<F>): EdgesAs<N>[F];
+  edges<F extends PlainForm = G extends "arrays" ? "arrays" : "lists">(options?: AnswerOptions<F>): EdgesAs<N>[F];
   /** Gives its memory back, which else happens some time after nothing refers to it: it is not to be asked any more. */
   free(): void;
 }
@@ -350,7 +352,9 @@ export class RemoteArrangement<N extends Coordinate, G extends Form> {
   hierarchy<F extends Form = G>(
     options?: ArrangedOptions & AnswerOptions<F>,
   ): Promise<{ shapes: ShapesAs<N>[F]; links: LinksAs[F] }>;
-  edges<F extends Form = G>(options?: AnswerOptions<F>): Promise<EdgesAs<N>[F]>;
+  edges<F extends PlainForm = G extends "arrays" ? "arrays" : "lists">(
+    options?: AnswerOptions<F>,
+  ): Promise<EdgesAs<N>[F]>;
   /** Gives its memory back: it is not to be asked any more. */
   free(): void;
 }
@@ -358,11 +362,11 @@ export class RemoteArrangement<N extends Coordinate, G extends Form> {
 /** A prepared shape in a worker: each call answers a promise of what `Prepared`'s answers. */
 export class RemotePrepared {
   private constructor();
-  locate<P extends Points, F extends Form = FormOfPoints<P>>(
+  locate<P extends Points, F extends PlainForm = FormOfPoints<P>>(
     points: P,
     options?: AnswerOptions<F>,
   ): Promise<LocationsAs[F]>;
-  contains<P extends Points, F extends Form = FormOfPoints<P>>(
+  contains<P extends Points, F extends PlainForm = FormOfPoints<P>>(
     points: P,
     options?: AnswerOptions<F>,
   ): Promise<TruthsAs[F]>;
@@ -387,7 +391,7 @@ export class RemotePolyover {
     clip?: Q,
     options?: OverlayOptions & AnswerOptions<F>,
   ): Promise<{ shapes: ShapesAs<NumberOf<P> | NumberOf<Q>>[F]; links: LinksAs[F] }>;
-  vectors<P extends Paths, Q extends Paths = [], F extends Form = FormOf<P>>(
+  vectors<P extends Paths, Q extends Paths = [], F extends PlainForm = PlainFormOf<P>>(
     subject: P,
     clip?: Q,
     options?: VectorsOptions & AnswerOptions<F>,
@@ -414,7 +418,7 @@ export class RemotePolyover {
     height: Coordinate,
     options?: FillOptions & AnswerOptions<F>,
   ): Promise<ShapesAs<NumberOf<P>>[F]>;
-  locate<P extends Points, F extends Form = FormOfPoints<P>>(
+  locate<P extends Points, F extends PlainForm = FormOfPoints<P>>(
     shape: Paths,
     points: P,
     options?: AnswerOptions<F>,
@@ -425,12 +429,12 @@ export class RemotePolyover {
     clip?: Q,
     options?: FillOptions,
   ): Promise<RemoteArrangement<NumberOf<P> | NumberOf<Q>, FormOf<P>>>;
-  edges<P extends Paths, Q extends Paths = [], F extends Form = FormOf<P>>(
+  edges<P extends Paths, Q extends Paths = [], F extends PlainForm = PlainFormOf<P>>(
     subject: P,
     clip?: Q,
     options?: FillOptions & AnswerOptions<F>,
   ): Promise<EdgesAs<NumberOf<P> | NumberOf<Q>>[F]>;
-  trace<P extends ListedPaths, Q extends ListedPaths = [], F extends Form = FormOf<P>>(
+  trace<P extends ListedPaths, Q extends ListedPaths = [], F extends PlainForm = PlainFormOf<P>>(
     subject: P,
     clip?: Q,
     options?: TraceOptions & AnswerOptions<F>,

@@ -2,7 +2,7 @@
 
 import { locationsIn } from "./answers.js";
 import { BadInput } from "./errors.js";
-import { alike, askedOf, chosen, pointsOf } from "./given.js";
+import { alike, askedOf, chosenOfOthers, pointsOf } from "./given.js";
 import { LOCATIONS } from "./names.js";
 
 export const FREED = "the prepared shape was freed";
@@ -59,7 +59,7 @@ export class Prepared {
   }
 
   #located(points, options, answered) {
-    const { answer } = chosen(options, ["answer"]);
+    const { answer } = chosenOfOthers(options, ["answer"]);
     const held = this.#held;
     if (!held.shape) {
       throw new BadInput(FREED);

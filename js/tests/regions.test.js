@@ -33,6 +33,20 @@ const SQUARES = [polygon(box(0)), polygon(box(2))];
 const POINTS = [[3, 3], [1, 1], [3, 4], [2, 4], [6, 5], [5, 1]];
 const PLACES = [IN, IN, IN, ON, ON, OUT];
 
+test("a polygon that crosses itself is split by the solver that is asked", () => {
+  // (two steps cross at (1/3, 0), in the pixel of (0, 0). The first step passes through that, and meets none of the two
+  // there: snap rounding leads it through (0, 0), rounds leave it straight from (-1, 0) on)
+  const ring = [[-4, -1], [8, 3], [10, 3], [10, 0], [-10, 0], [-10, -5], [12, -5], [12, 2], [7, 2], [-3, -1]];
+  for (const [solver, start] of [["rounds", [-1, 0]], ["snapped", [0, 0]]]) {
+    for (const shape of [polygon(ring), features(polygon(ring))]) {
+      const [from] = polyover.edges(shape, [], { solver }).find(([, [x, y]]) => x === 8 && y === 3);
+      assert.deepEqual(from, start);
+      const found = polyover.overlay(shape, [], { rule: "subject", solver, answer: "lists" });
+      assert.deepEqual(found, polyover.overlay([ring], [], { rule: "subject", solver }));
+    }
+  }
+});
+
 /** The area that shapes cover. */
 function area(shapes) {
   return shapes.flat().reduce((sum, contour) => sum + doubleArea(contour), 0) / 2;

@@ -49,6 +49,7 @@ export async function asked(): Promise<unknown[]> {
   const shared: Shapes = both.overlay({ rule: "intersect", keep: true });
   const linked: { shapes: FlatShapes; links: Uint32Array } = both.hierarchy({ answer: "arrays" });
   const between: Edge[] = both.edges();
+  const within: Edge[] = polyover.edges(geometry);
   const halves: Shapes = polyover.slice([square], [square], { clockwise: true, minimumArea: 3 });
   both.free();
   const remote: RemotePolyover = await load({ worker: true });
@@ -84,6 +85,10 @@ export async function asked(): Promise<unknown[]> {
   polyover.trace(geometry);
   // @ts-expect-error: and contours with filled sides may touch themselves always
   polyover.vectors([square], [], { touching: true });
+  // @ts-expect-error: GeoJSON has no edges
+  polyover.edges([square], [], { answer: "geojson" });
+  // @ts-expect-error: nor words of points
+  prepared.contains([[1, 1]], { answer: "geojson" });
   // @ts-expect-error: contours are lists of points, in a list
   polyover.overlay(square);
   // @ts-expect-error: a module is no number
@@ -96,7 +101,7 @@ export async function asked(): Promise<unknown[]> {
   return [
     ...[asked, inside, truths, answered, lists, named, other, found, relations, places, numbers, edges, parts, is],
     ...[traced, on, flatly, vectors, filled, farVectors, farTraced],
-    ...[exact, arranged, shared, linked, between, halves, farShapes],
+    ...[exact, arranged, shared, linked, between, within, halves, farShapes],
     ...[tiles, later, big, built, kind, bytes, there, multiPolygon(lists)],
   ];
 }

@@ -203,12 +203,103 @@ test("wrong geometries", () => {
     [{ type: "MultiPolygon", coordinates: [BOX.coordinates, 3] }, "subject, 2: 3 in the place of a list"],
     [{ type: "FeatureCollection" }, "features: undefined"],
     [{ type: "FeatureCollection", features: [{ type: "Feature", geometry: 3 }] }, "feature 1: 3 is no geometry"],
+    [{ type: "FeatureCollection", features: [3] }, "subject: feature 1: 3 is no geometry"],
+    [{ type: "FeatureCollection", features: [null] }, "subject: feature 1: null is no geometry"],
+    [{ type: "Feature" }, "subject: undefined is no geometry"],
   ];
   for (const [thing, told] of words) {
     refused(() => polyover.overlay(thing), told);
   }
   refused(() => polyover.clip([SQUARE], BOX), "lines: Polygon in the place of LineString or MultiLineString");
   refused(() => polyover.overlay({ ...BOX, coordinates: [[[0, 0], [0.5, 1], [1, 0]]] }), "0.5 is no whole number");
+});
+
+test("features stand in no features and no geometries", () => {
+  const feature = { type: "Feature", properties: {}, geometry: BOX };
+  const all = { type: "FeatureCollection", features: [feature] };
+  for (const inner of [feature, all]) {
+    const told = `"${inner.type}" is no geometry`;
+    refused(() => polyover.overlay({ ...feature, geometry: inner }), `subject: ${told}`);
+    const second = { ...all, features: [feature, { ...feature, geometry: inner }] };
+    refused(() => polyover.overlay(second), `feature 2: ${told}`);
+    const several = { type: "GeometryCollection", geometries: [BOX, inner] };
+    refused(() => polyover.overlay(several), `subject, geometry 2: ${told}`);
+    refused(() => polyover.overlay({ ...feature, geometry: several }), `subject, geometry 2: ${told}`);
+  }
+  const nested = { ...all, features: [all] };
+  refused(() => polyover.overlay(nested), 'subject: feature 1: "FeatureCollection" is no geometry');
+  let deep = BOX;
+  for (let times = 0; times < 50; times++) {
+    deep = { type: "GeometryCollection", geometries: [deep] };
+  }
+  assert.equal(polyover.overlay(deep).coordinates.length, 1);
+  deep = { type: "GeometryCollection", geometries: [deep] };
+  refused(() => polyover.overlay(deep), "more than 50 collections in one another");
+});
+
+test("members of points beyond x and y are finite numbers too", () => {
+  for (const third of ["5", null, NaN, Infinity, true, 5n, [5]]) {
+    const [first, second, ...rest] = BOX.coordinates[0];
+    const high = { ...BOX, coordinates: [[first, [...second, third], ...rest]] };
+    refused(() => polyover.overlay(high), "subject, ring 1, point 2: [4,0,");
+    refused(() => polyover.locate([SQUARE], { type: "Point", coordinates: [1, 1, third] }), "points: [1,1,");
+    const line = { type: "LineString", coordinates: [[0, 0], [4, 4, third]] };
+    refused(() => polyover.clip([SQUARE], line), "point 2: [4,4,");
+  }
+  const high = { ...BOX, coordinates: [BOX.coordinates[0].map((point) => [...point, 7, 8])] };
+  assert.deepEqual(polyover.overlay(high), polyover.overlay(BOX));
+});
+
+test("geometries that are passed over are whole", () => {
+  const beside = (geometry) => ({ type: "GeometryCollection", geometries: [BOX, geometry] });
+  for (const [type, coordinates, told] of [
+    ["LineString", 5, "subject, geometry 2: coordinates: 5 in the place of a list"],
+    ["LineString", [[0, 0], [1]], "subject, geometry 2: coordinates: [1] is no point"],
+    ["LineString", [0, 0], "subject, geometry 2: coordinates: 0 is no point"],
+    ["MultiLineString", [[0, 0]], "coordinates: 0 is no point"],
+    ["Point", [0, NaN], "coordinates: [0,NaN] is no point"],
+    ["Point", undefined, "coordinates: undefined is no point"],
+    ["MultiPoint", [0, 0], "coordinates: 0 is no point"],
+  ]) {
+    refused(() => polyover.overlay(beside({ type, coordinates })), told);
+  }
+  const lines = { type: "GeometryCollection", geometries: [{ type: "Polygon", coordinates: [[0, 0]] }] };
+  refused(() => polyover.clip([SQUARE], lines), "lines, geometry 1: coordinates: 0 is no point");
+  const good = [["Point", []], ["LineString", []], ["MultiPoint", [[0, 0]]], ["Point", [0, 0, 1]]];
+  for (const [type, coordinates] of good) {
+    assert.deepEqual(polyover.overlay(beside({ type, coordinates })), polyover.overlay(BOX));
+  }
+});
+
+test("answers that GeoJSON has not", () => {
+  const told = 'unknown answer "geojson": one of lists, arrays';
+  const answer = "geojson";
+  const [both, prepared] = [polyover.arrangement([SQUARE]), polyover.prepare([SQUARE])];
+  for (const call of [
+    () => polyover.edges([SQUARE], [], { answer }),
+    () => polyover.vectors([SQUARE], [], { answer }),
+    () => polyover.trace([SQUARE], [], { answer }),
+    () => polyover.locate([SQUARE], [[1, 1]], { answer }),
+    () => prepared.locate([[1, 1]], { answer }),
+    () => prepared.contains([[1, 1]], { answer }),
+    () => both.edges({ answer }),
+  ]) {
+    refused(call, told);
+  }
+  const first = [[0, 0], [0, 4], 2];
+  for (const edges of [polyover.edges(BOX), polyover.arrangement(BOX).edges()]) {
+    assert.deepEqual(edges[0], first);
+  }
+  assert.deepEqual(polyover.locate(BOX, { type: "Point", coordinates: [1, 1] }), ["inside"]);
+});
+
+test("BigInts that floats do not have are not rounded for GeoJSON", () => {
+  const [low, far] = [2n ** 53n, 2n ** 53n + 1n];
+  const box = (end) => [[[0n, 0n], [end, 0n], [end, 4n], [0n, 4n]]];
+  assert.equal(polyover.overlay(box(low), [], { answer: "geojson" }).coordinates[0][0][1][0], 0);
+  refused(() => polyover.overlay(box(far), [], { answer: "geojson" }), "GeoJSON: 9007199254740993 would be rounded");
+  refused(() => polyover.clip(box(far), [[[0n, 1n], [far, 1n]]], { answer: "geojson" }), "9007199254740993 would be");
+  assert.equal(polyover.overlay(box(far))[0][0][2][0], far);
 });
 
 test("a contour that meets itself is told by its number", () => {
