@@ -144,12 +144,27 @@ function pathPlace(name, number) {
   return name === "points" ? name : `${name}: ${kindOf(name)} ${number + 1}`;
 }
 
+// (iterators that were gone over, and give nothing more)
+const used = new WeakSet();
+
+/** The items of a thing that can be gone over; an iterator that was gone over before is refused. */
+function itemsOf(name, things, what) {
+  if (typeof things !== "object" || things === null || typeof things[Symbol.iterator] !== "function") {
+    throw new BadInput(`${name}: ${shown(things)} in the place of a list of ${what}`);
+  }
+  if (used.has(things)) {
+    throw new BadInput(`${name}: an iterator that was gone over before in the place of a list of ${what}`);
+  }
+  if (things[Symbol.iterator]() === things) {
+    used.add(things);
+  }
+  // (a list without some of its items has them then: undefined)
+  return [...things];
+}
+
 /** Lists of points as a group. */
 export function listed(name, paths) {
-  if (typeof paths !== "object" || paths === null || typeof paths[Symbol.iterator] !== "function") {
-    throw new BadInput(`${name}: ${shown(paths)} in the place of a list of ${kindOf(name)}s`);
-  }
-  const all = [...paths];
+  const all = itemsOf(name, paths, `${kindOf(name)}s`);
   const ends = new Uint32Array(all.length);
   let count = 0;
   all.forEach((path, number) => {
@@ -197,10 +212,7 @@ export function pointsOf(points) {
     }
     return { name: "points", form: "arrays", numbers: points, ends: new Uint32Array([points.length / 2]) };
   }
-  if (typeof points !== "object" || points === null || typeof points[Symbol.iterator] !== "function") {
-    throw new BadInput(`points: ${shown(points)} in the place of a list of points`);
-  }
-  return listed("points", [[...points]]);
+  return listed("points", [itemsOf("points", points, "points")]);
 }
 
 // ---- the kind of coordinates

@@ -35,6 +35,7 @@ export function askedOf(/** @type {{run: string, solver?: string | null, fill?: 
   const asked = askedIn(question.run.split(" "));
   asked.solver = /** @type {any} */ (oneOf(SOLVERS, question.solver ?? "snapped", "solver"));
   if (asked.command === "relate" && question.solver) asked.of = "arrangement";
+  if (question.solver && !isOption(asked, "solver")) throw new BadText("solver is no option here");
   if (question.fill) asked.fill = oneOf(asked.command === "locate" ? FILLS : [], question.fill, "fill rule");
   return asked;
 }
@@ -75,10 +76,17 @@ export function drawingOfHash(/** @type {string} */ hash) {
   if (twice !== undefined) throw new BadText(`${twice} comes twice`);
   const run = words.get("run");
   if (run === null) throw new BadText("it has no command: it may be cut short");
-  const lines = KINDS.flatMap((kind) => words.getAll(kind).map((numbers) => `${kind} ${numbers}`));
-  const { figures } = drawingIn(lines.join("\n"));
+  const figures = figuresIn(words);
   const asked = askedOf({ run, solver: words.get("solver"), fill: words.get("fill") });
   return { figures, asked, digits: digitsIn(words.get("digits") ?? "0") };
+}
+
+/** The figures of a hash, each of which is one line of the program. */
+function figuresIn(/** @type {URLSearchParams} */ words) {
+  const lines = KINDS.flatMap((kind) => words.getAll(kind).map((numbers) => `${kind} ${numbers}`));
+  const broken = lines.findIndex((line) => /[\r\n]/.test(line));
+  if (broken >= 0) throw new BadText(`line ${broken + 1}: it has a line break`);
+  return drawingIn(lines.join("\n")).figures;
 }
 
 /** The number of digits behind the point, from 0 to 15. */

@@ -36,6 +36,20 @@ test("what is no list of contours", () => {
   refused(() => polyover.locate([SQUARE], new Float64Array(3)), "odd count");
 });
 
+test("an iterator is gone over once", () => {
+  const square = () => [SQUARE].values();
+  const told = "an iterator that was gone over before in the place of a list of";
+  const one = square();
+  refused(() => polyover.overlay(one, one), `clip: ${told} contours`);
+  refused(() => polyover.scaled(10).simplify(one), `subject: ${told} contours`);
+  const points = [[1, 1]].values();
+  assert.deepEqual(polyover.locate(square(), points), ["inside"]);
+  refused(() => polyover.locate(square(), points), `points: ${told} points`);
+  const again = { [Symbol.iterator]: square };
+  assert.deepEqual(polyover.overlay(again, again), polyover.overlay([SQUARE]));
+  refused(() => polyover.overlay([SQUARE, , SQUARE]), "subject: contour 2: undefined in the place of a list of points");
+});
+
 test("what is no point", () => {
   for (const point of [[], [1], [1, 2, 3], "11", null, { x: 1, y: 2 }]) {
     refused(() => polyover.overlay([], withPoint(point)), "clip: contour 2, point 3:");

@@ -230,6 +230,11 @@ class Files(unittest.TestCase):
             ("#run=edges+NonZero&digits=16", "16 is no number of digits"),
             ("#run=edges+NonZero&solver=exact", "exact is no solver here"),
             ("#run=edges+NonZero&fill=positive", "positive is no fill rule here"),
+            ("#run=locate&solver=rounds", "solver is no option here"),
+            ("#subject=0+0+4+0+4+4%0Aclip+0+0+1+0+1+1&run=edges+NonZero", "line 1: it has a line break"),
+            ("#clip=0+0+4+0+4+4&line=0+0+1+1%0D%0A&run=edges+NonZero", "line 2: it has a line break"),
+            ("#point=1+1%0Arun+locate&run=locate", "line 1: it has a line break"),
+            ("#run=edges+NonZero%0Asubject+0+0", "an unknown fill rule"),
         ):
             with self.subTest(link):
                 self.page.open(DRAWN)

@@ -4,6 +4,7 @@ from __future__ import annotations
 
 import warnings
 from contextlib import contextmanager
+from itertools import chain
 from typing import Any, Iterable, Iterator
 
 from . import leaving, streams, tables, wkb, wkt
@@ -18,7 +19,7 @@ from .parts import Feature
 from .picture import Picture
 from .sequences import RECORD
 from .systems import DEGREES, words_for
-from .writing import collection_text, feature_text
+from .writing import ROUNDED, WHOLE, WRITERS, collection_text, feature_text
 
 
 def say(text: object) -> None:
@@ -60,6 +61,15 @@ def bounds(geometries: Iterable[dict[str, Any] | None]) -> list[float] | None:
     return list(box_of(points)) if points else None
 
 
+def tell_rounded(geometry: dict[str, Any] | None, digits: int) -> None:
+    """Says where lines or polygons of an answer have coordinates that more than one whole number of units is given
+    as. (Those of points are given as they were.)"""
+    if geometry and geometry["type"] in WRITERS:
+        numbers = list(chain.from_iterable(points_in(geometry["coordinates"])))
+        if numbers and max(max(numbers), -min(numbers)) >= WHOLE / 10.0**digits:
+            warnings.warn(ROUNDED, PolyoverWarning, stacklevel=2)
+
+
 def points_in(coordinates: Any) -> list[Any]:
     """The points in lists of lists."""
     if coordinates and not isinstance(coordinates[0], (list, tuple)):
@@ -72,6 +82,7 @@ def line_of(form: Format, feature: dict[str, Any], digits: int, system: int, pla
     try:
         if form in SEQUENCES:
             return f"{RECORD * (form is RECORDS)}{feature_text(feature, digits)}\n"
+        tell_rounded(feature["geometry"], digits)
         written = wkt.written if form is WKT else wkb.written
         return written(feature["geometry"], system)
     except BadInput as fault:
@@ -109,6 +120,8 @@ def leave(given: Any, features: Iterable[dict[str, Any]], picture: Picture, file
     if form.is_table:
         tables.check_target(given, form)
         table = tables.Table(given, form, list(features), file)
+        for each in table.features:
+            tell_rounded(each["geometry"], given.digits)
         with held(), tables.made(table) as found:
             leaving.leave([*found, *pictures_of(given, picture)])
         return

@@ -2,7 +2,6 @@
 
 from __future__ import annotations
 
-from operator import index
 from typing import Any, Literal, NamedTuple, overload
 
 from . import by_library, by_program
@@ -11,12 +10,15 @@ from .flat import Flat, FlatFloats, FlatShapes, whole_path
 from .geojson import is_geometry, points_of
 from .plain import LISTS
 from .shapes import Paths, Shapes
-from .text import FILLS, LOCATIONS, RULES, SNAPPED, SOLVERS, Fill, Rule, Solver, coordinate, items_of, known
+from .text import FILLS, LOCATIONS, RULES, SNAPPED, SOLVERS, Fill, Rule, Solver, coordinate, items_of, known, truth
+from .text import whole
 from .told import Told, counted
 
 AREA_LIMIT = 2**127 - 1
 # (types whose items have no order, or are no numbers that were written so)
 UNFIT = (set, frozenset, dict, bytes, bytearray, str)
+# (kinds of NumPy's times, which lists have as whole numbers)
+TIMES = ("m", "M")
 NO_OPTIONS = (
     "no library whose slices have a direction and a minimum area, and the program has neither: "
     "the library of this version is in a release's wheel, or scripts/build or make -C c builds it"
@@ -36,14 +38,15 @@ class Look(NamedTuple):
 
 def look_of(ogc: bool, clockwise: bool, keep: bool, minimum_area: Any, solver: Solver) -> Look:
     """How an answer looks by these options."""
-    return Look(bool(ogc), bool(clockwise), bool(keep), area_of(minimum_area), solver_of(solver))
+    turns, keeps = truth("clockwise", clockwise), truth("keep", keep)
+    return Look(truth("ogc", ogc), turns, keeps, area_of(minimum_area), solver_of(solver))
 
 
 def area_of(minimum_area: Any) -> int:
     """The smallest area that is kept."""
     try:
-        area = index(minimum_area)
-    except TypeError:
+        area = whole(minimum_area)
+    except BadInput:
         raise BadInput(f"the minimum area {minimum_area!r} is no whole number") from None
     if not 0 <= area <= AREA_LIMIT:
         raise BadInput(f"the minimum area {minimum_area} is not from 0 to {AREA_LIMIT}")
@@ -160,10 +163,19 @@ def iterated(place: str, things: Any, what: str) -> list[Any]:
             raise BadType(f"{place}: {type(things).__name__} in the place of {what}")
         if not hasattr(things, "__iter__"):
             raise BadInput(f"{place}: {things!r} in the place of {what}")
+        check_unused(place, things, what)
+        if getattr(getattr(things, "dtype", None), "kind", "") in TIMES:
+            raise BadType(f"{place}: an array of times in the place of {what}")
         # (arrays of numbers are numbers of Python sooner than one by one)
         found = things.tolist() if hasattr(things, "tolist") else None
         things = found if isinstance(found, list) else list(things)
     return things  # type: ignore[no-any-return]
+
+
+def check_unused(place: str, things: Any, what: str) -> None:
+    """That a generator has not been gone over before: it would give nothing."""
+    if getattr(things, "gi_frame", things) is None:
+        raise BadInput(f"{place}: a generator that was gone over before in the place of {what}")
 
 
 def checked_point(place: str, point: Any, told: Told | None) -> Any:
@@ -207,7 +219,7 @@ def check_coordinates(name: str, number: int, path: Any) -> None:
             for value in point:
                 coordinate(value)
         except BadInput as fault:
-            raise BadInput(f"{place_of(name, number)}, point {at}: {fault}") from None
+            raise type(fault)(f"{place_of(name, number)}, point {at}: {fault}") from None
 
 
 # ---- the calls
@@ -304,7 +316,7 @@ def clip(
     fill, shape, lines = known(FILLS, fill, "fill rule"), listed("shape", shape), listed("lines", lines)
     solver = solver_of(solver)
     with placed(shape=shape, lines=lines):
-        given = shape, lines, fill, invert, boundary, solver
+        given = shape, lines, fill, truth("invert", invert), truth("boundary", boundary), solver
         if not arrays:
             return Paths(asked("clip").clip(*given))
         is_there = by_library.can("clip")
@@ -327,7 +339,7 @@ def slice(  # pylint: disable=redefined-builtin
     fill, shape, lines = known(FILLS, fill, "fill rule"), listed("shape", shape), listed("lines", lines)
     solver, area = solver_of(solver), area_of(minimum_area)
     with placed(shape=shape, lines=lines):
-        if not clockwise and not area:
+        if not truth("clockwise", clockwise) and not area:
             return shapes_of("slice", arrays, shape, lines, fill, solver)
         if not by_library.can("slice_custom"):
             raise LibraryMissing(NO_OPTIONS)

@@ -53,9 +53,9 @@ def checked_point(place: Place, number: int, point: object) -> Point:
 
 
 def check_nested(place: Place, coordinates: object, depth: int) -> None:
-    """That coordinates that are passed over are points in as many lists."""
+    """That coordinates that are passed over are points in as many lists; an empty point has none."""
     if depth == 0:
-        if coordinates:
+        if not isinstance(coordinates, (list, tuple)) or coordinates:
             checked_point(place, 1, coordinates)
         return
     for each in listed(place, coordinates, "coordinates"):

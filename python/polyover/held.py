@@ -13,9 +13,20 @@ from .structs import BYTES, COORDINATES, ITEM_SIZES, SIZES, SOURCE, Contours, Ed
 from .structs import PreparedShape, Traced
 
 
-class HeldShape:
+class Kept:
+    """What an object of the module holds in memory of the library."""
+
+    OWNER = ""
+
+    def __reduce__(self) -> Any:
+        told = f"{self.OWNER} is in memory of the library, and can't be pickled or copied deeply"
+        raise TypeError(f"{told}: keep its contours and its fill rule, and make it anew of these")
+
+
+class HeldShape(Kept):
     """A prepared shape, where the library has it: its memory is freed once nothing refers to this."""
 
+    OWNER = "Prepared"
     TYPE: type[PreparedShape] = PreparedShape
     MADE, ASKED, FREED = "polyover_prepare", "polyover_prepared_locate", "polyover_prepared_free"
 
@@ -41,8 +52,10 @@ class HeldExactly(HeldShape):
     MADE, ASKED, FREED = "polyover_prepare_exact", "polyover_exact_locate", "polyover_exact_free"
 
 
-class HeldGraph:
+class HeldGraph(Kept):
     """A graph, where the library has it: its memory is freed once nothing refers to this."""
+
+    OWNER = "Arrangement"
 
     def __init__(self, asked: Library, fill: int, solver: int, both: tuple[Contours, Contours]) -> None:
         self.asked, self.graph = asked, Graph()

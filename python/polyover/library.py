@@ -16,6 +16,7 @@ from . import program
 from .errors import BadInput, LibraryMissing
 from .flat import Flat, row_of, whole_path
 from .functions import FRAMED, FREES, FUNCTIONS
+from .numbers import is_of_truths
 from .statuses import OUT_OF_RANGE, check
 from .structs import BYTES, COORDINATES, ITEM_SIZES, SIZES, Contours, Result
 from .text import coordinate
@@ -111,6 +112,8 @@ class Library:
     def numbers(self, given: list[Any]) -> Any:
         """An array of coordinates, which are whole numbers."""
         try:
+            if any(map(is_of_truths, set(map(type, given)))):
+                raise TypeError
             return array(COORDINATES, pack(f"{len(given)}q", *given))
         except (StructError, TypeError):
             # (of bad ones this names the first)

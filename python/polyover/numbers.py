@@ -9,13 +9,27 @@ from typing import Any, Iterable
 
 from .errors import BadInput
 
+# (NumPy's has another name by its version)
+TRUTHS = ("bool", "bool_")
+
+
+def is_of_truths(kind: Any) -> bool:
+    """Whether a type is that of True and False, or NumPy's: Python takes these as numbers."""
+    return kind.__name__ in TRUTHS
+
+
+def is_truth(value: Any) -> bool:
+    """Whether a value is of such a type."""
+    return is_of_truths(type(value))
+
 
 def ratio_of(value: Any) -> tuple[int, int]:
-    """A finite number as a ratio of whole numbers, the second one above 0. Raises TypeError of a text."""
+    """A finite number as a ratio of whole numbers, the second one above 0. Raises TypeError of a truth or a text."""
+    kind: Any = type(value)
+    if kind is not float and kind is not int and (is_of_truths(kind) or issubclass(kind, str)):
+        raise TypeError
     if isinstance(value, (int, float)):
         return value.as_integer_ratio()
-    if isinstance(value, str):
-        raise TypeError
     if hasattr(value, "__index__"):
         return index(value), 1
     if hasattr(value, "as_integer_ratio"):
@@ -45,7 +59,7 @@ def is_finite(value: Any) -> bool:
     kind = type(value)
     if kind is int or kind is float:
         return kind is int or bool(value - value == 0)
-    if kind is bool or not (hasattr(value, "as_integer_ratio") or hasattr(value, "__index__")):
+    if not (hasattr(value, "as_integer_ratio") or hasattr(value, "__index__")):
         return False
     try:
         ratio_of(value)

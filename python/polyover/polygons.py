@@ -12,6 +12,7 @@ from typing import Any, Sequence
 from . import calls
 from .contour import Row, WholePath, box_of, double_area, in_range, is_flat, surplus_of, visits_once, without_repeats
 from .flat import flat_rows
+from .text import Solver
 from .told import Told, counted
 from .windings import wind_below_0
 
@@ -38,23 +39,23 @@ Polygon = list[Ring]
 Contour = tuple[WholePath, "list[Any] | None"]
 
 
-def contours_of_each(polygons: Sequence[Polygon], told: Told) -> list[list[Contour]]:
+def contours_of_each(polygons: Sequence[Polygon], told: Told, solver: Solver) -> list[list[Contour]]:
     """The contours of each polygon by whole points, each with its points as they were given, where it is a ring that
-    was.
+    was. The solver splits edges that cross.
 
     What collapses at this scale is left out, and counted in `told`, and so are rings that cross themselves."""
     cleaned = [without_flat(rings, told) for rings in polygons]
     left = [rings for rings in cleaned if rings]
     mark_simple([ring for rings in left for ring in rings], told)
     bad = polygons_with_bad_holes(left)
-    found = (contours_of_one(rings, number in bad) for number, rings in enumerate(left))
+    found = (contours_of_one(rings, number in bad, solver) for number, rings in enumerate(left))
     return [next(found) if rings else [] for rings in cleaned]
 
 
-def contours_of_one(rings: Polygon, has_bad_holes: bool) -> list[Contour]:
+def contours_of_one(rings: Polygon, has_bad_holes: bool, solver: Solver) -> list[Contour]:
     """The contours of a polygon whose rings have an inside."""
     if has_bad_holes or not all(ring.is_simple for ring in rings):
-        return [(contour, None) for contour in overlaid(rings)]
+        return [(contour, None) for contour in overlaid(rings, solver)]
     return [taken(ring, at == 0) for at, ring in enumerate(rings)]
 
 
@@ -149,20 +150,21 @@ def has_bad_holes(rows: Sequence[Row]) -> bool:
 # ---- polygons of any kind
 
 
-def covered(ring: Ring) -> list[WholePath]:
+def covered(ring: Ring, solver: Solver) -> list[WholePath]:
     """The contours of what a ring winds round."""
     if ring.is_simple:
         return [taken(ring, True)[0]]
     contours, window = in_range([ring.whole])
-    return window.back([contour for shape in calls.overlay(contours) for contour in shape])
+    return window.back([contour for shape in calls.overlay(contours, solver=solver) for contour in shape])
 
 
-def overlaid(rings: Polygon) -> list[WholePath]:
+def overlaid(rings: Polygon, solver: Solver) -> list[WholePath]:
     """The contours of what the outline of a polygon covers, and none of its holes does."""
-    outline, holes = covered(rings[0]), [contour for ring in rings[1:] for contour in covered(ring)]
+    outline = covered(rings[0], solver)
+    holes = [contour for ring in rings[1:] for contour in covered(ring, solver)]
     if not holes:
         return outline
     contours, window = in_range([*outline, *holes])
-    shapes = calls.overlay(contours[: len(outline)], contours[len(outline) :], "difference")
+    shapes = calls.overlay(contours[: len(outline)], contours[len(outline) :], "difference", solver=solver)
     return window.back([contour for shape in shapes for contour in shape])
 

@@ -2,7 +2,7 @@
 
 from __future__ import annotations
 
-from dataclasses import dataclass
+from dataclasses import dataclass, replace
 from itertools import accumulate, chain, islice
 from typing import Any, Callable, Iterable, Sequence
 
@@ -15,7 +15,7 @@ from .geojson import parts_of
 from .numbers import over_one_bottom
 from .parts import LINES, POLYGONS, Part, PlainLine, PlainPolygon
 from .polygons import Contour, Ring, are_resolved_rows, contours_of_each, has_bad_holes
-from .text import LIMIT
+from .text import LIMIT, SNAPPED, Solver
 from .told import Told, counted
 from .turning import directed_all
 
@@ -25,7 +25,8 @@ Whole = Callable[[Sequence[Any]], WholePath]
 
 @dataclass
 class Polygons:
-    """Polygons that were read; their contours are told at a scale. `source` names their file.
+    """Polygons that were read; their contours are told at a scale. `source` names their file, `solver` how edges of
+    those that cross themselves are split.
 
     If they are raw, each ring is a contour that runs as it is, for any fill rule. `told` counts what is to be said
     where others have a part in it; else it is said at once."""
@@ -34,6 +35,7 @@ class Polygons:
     source: str = ""
     is_raw: bool = False
     told: Told | None = None
+    solver: Solver = SNAPPED
 
     def contours(self, whole: Whole, has_range: bool = True) -> list[Contour]:
         """Their contours for the fill rule nonzero, by whole points and as they were given. Where there is a range a
@@ -55,7 +57,7 @@ class Polygons:
         if self.is_raw:
             return [[(ring.whole, ring.given) for ring in rings] for rings in polygons]
         told = Told(self.source) if self.told is None else self.told
-        contours = contours_of_each(polygons, told)
+        contours = contours_of_each(polygons, told, self.solver)
         if self.told is None:
             told.say()
         return contours
@@ -79,7 +81,7 @@ class Polygons:
         if found is None:
             return None
         found = [[] if len(its) > 1 and has_bad_holes(its) else its for its in found]
-        others = Polygons([part for part, its in zip(self.parts, found) if not its], self.source, False, self.told)
+        others = replace(self, parts=[part for part, its in zip(self.parts, found) if not its])
         rest = iter(others.contours_of_each(scaled.whole_path) if others.parts else ())
         return [its or [row_of(whole) for whole, _ in next(rest)] for its in found]
 
@@ -156,9 +158,9 @@ def check_range(source: str, paths: Iterable[tuple[object, WholePath]]) -> None:
             raise BadInput(f"{start}, point {at}: {point} at this scale is out of range: at most {LIMIT} from 0")
 
 
-def polygons_in(thing: object, *, skip_invalid: bool = False) -> Polygons:
+def polygons_in(thing: object, *, skip_invalid: bool = False, solver: Solver = SNAPPED) -> Polygons:
     """The polygons of a geometry."""
-    return Polygons(parts_of(thing, POLYGONS, skip_invalid))
+    return Polygons(parts_of(thing, POLYGONS, skip_invalid), solver=solver)
 
 
 def lines_in(thing: object, *, skip_invalid: bool = False) -> Lines:

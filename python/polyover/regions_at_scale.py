@@ -39,7 +39,7 @@ class RegionsAtScale(Scale):
             plain = quick.region(given, self.axes, is_joined or fill == "evenodd")
             if plain is not None:
                 return plain
-        group = taken(name, given)
+        group = taken(name, given, solver)
         contours = self.whole(group, name)
         if not isinstance(group, Polygons) or group.is_raw:
             return contours
@@ -92,12 +92,13 @@ def covers(group: Group) -> bool:
     return not group.is_raw if isinstance(group, Polygons) else is_of_geometry(group)
 
 
-def taken(name: str, group: Group) -> Group:
-    """What was given for a group of paths: polygons or lines that are read, or lists of points of two numbers."""
+def taken(name: str, group: Group, solver: Solver = SNAPPED) -> Group:
+    """What was given for a group of paths: polygons or lines that are read, or lists of points of two numbers. The
+    solver splits edges of a polygon that crosses itself."""
     if isinstance(group, (Polygons, Lines, FlatFloats)):
         return group
     if is_of_geometry(group):
-        return lines_in(group) if name == "lines" else polygons_in(group)
+        return lines_in(group) if name == "lines" else polygons_in(group, solver=solver)
     told = Told()
     paths = calls.listed(name, group, told)
     told.say()

@@ -5,7 +5,7 @@ from __future__ import annotations
 
 from typing import Any, Iterable
 
-from .calls import overlay
+from .calls import check_unused, overlay
 from .geojson import is_geometry
 from .progress import faults_of
 from .relations import relate_one
@@ -86,6 +86,7 @@ def union_all(
 
 def listed_groups(groups: Any) -> list[Any]:
     """The groups to be joined; a geometry is one of them."""
+    check_unused("groups", groups, "a list of groups")
     return [groups] if is_geometry(groups) else list(groups)
 
 

@@ -15,7 +15,7 @@ from .columns import row_of_points, whole_points
 from .contour import Row, WholePath, WholePoint, points_in, row_of
 from .errors import BadInput, BadType
 from .flat import Flat, FlatFloats, FlatShapes, copied, parted
-from .numbers import fraction_of
+from .numbers import fraction_of, is_truth
 from .reading import Lines, Polygons
 from .shapes import Paths, Shapes
 from .text import items_of
@@ -25,6 +25,11 @@ Group = Any
 # (floats have fewer: scales beyond take all memory)
 MOST_DIGITS = 1000
 S = TypeVar("S", bound="Scale")
+
+
+def has_truth(point: Any) -> bool:
+    """Whether a member of a point is a truth."""
+    return isinstance(point, (list, tuple)) and any(map(is_truth, point))
 
 
 class Scale:
@@ -60,6 +65,8 @@ class Scale:
     def of_digits(cls: type[S], digits: int, origin: Sequence[Any] = (0, 0)) -> S:
         """Returns the scale with `digits` digits behind the decimal point, a whole number from -1000 to 1000."""
         try:
+            if is_truth(digits):
+                raise TypeError
             power = index(digits)
         except TypeError:
             raise BadInput(f"{digits!r} is no whole number of digits") from None
@@ -78,7 +85,8 @@ class Scale:
             x, y = point
             return self.axes[0].whole(x), self.axes[1].whole(y)
         except (TypeError, ValueError, OverflowError):
-            raise BadInput(f"{point!r} is no point of two finite numbers") from None
+            told = f"{point!r} is no point of two finite numbers"
+            raise (BadType if has_truth(point) else BadInput)(told) from None
 
     def whole_path(self, path: Sequence[Any]) -> WholePath:
         """A path with whole points."""
@@ -119,7 +127,7 @@ class Scale:
                 try:
                     self.whole_point(point)
                 except BadInput as fault:
-                    raise BadInput(f"{calls.place_of(name, number)}, point {at}: {fault}") from None
+                    raise type(fault)(f"{calls.place_of(name, number)}, point {at}: {fault}") from None
 
     def point(self, whole: WholePoint) -> tuple[float, float]:
         """The point of floats at a whole one."""

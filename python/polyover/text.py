@@ -5,7 +5,8 @@ from __future__ import annotations
 from operator import index
 from typing import Any, Collection, Iterable, Literal, TypeVar
 
-from .errors import BadInput
+from .errors import BadInput, BadType
+from .numbers import is_truth
 
 Points = Iterable[Any]
 # the words that the calls take
@@ -49,10 +50,19 @@ def known(words: Collection[str], name: Word, what: str) -> Word:
 
 def whole(value: Any) -> int:
     """A whole number."""
+    if is_truth(value):
+        raise BadType(f"{value!r} is no number, but a truth")
     try:
         return index(value)
     except TypeError:
         raise BadInput(f"{value!r} is no whole number: Scaled takes floats") from None
+
+
+def truth(name: str, value: Any) -> bool:
+    """The value of an option that is true or false: a truth, 1 or 0. (A text as "no" would be true.)"""
+    if is_truth(value) or type(value) is int and value in (0, 1):
+        return bool(value)
+    raise BadInput(f"{name}: {value!r} is neither true nor false")
 
 
 def coordinate(value: Any) -> int:

@@ -6,7 +6,7 @@ from typing import Any, Literal, NamedTuple
 
 from . import by_library, calls
 from .errors import LibraryMissing
-from .text import FILLS, RULES, SNAPPED, Fill, Rule, Solver, known
+from .text import FILLS, RULES, SNAPPED, Fill, Rule, Solver, known, truth
 
 MISSING = (
     "no library that traces edges, and the program does not: "
@@ -49,11 +49,11 @@ def trace(
     call: without the library there is LibraryMissing."""
     fill, solver = known(FILLS, fill, "fill rule"), calls.solver_of(solver)
     rule = None if rule is None else known(RULES, rule, "rule")
-    subject, clip = calls.listed(SUBJECT, subject), calls.listed(CLIP, clip)
+    subject, clip, is_closed = calls.listed(SUBJECT, subject), calls.listed(CLIP, clip), truth("closed", closed)
     if not by_library.can("trace"):
         raise LibraryMissing(MISSING)
     with calls.placed(subject=subject, clip=clip):
-        edges, steps = by_library.trace(subject, clip, rule, fill, solver, bool(closed))
+        edges, steps = by_library.trace(subject, clip, rule, fill, solver, is_closed)
     return [TracedEdge(a, b, bits, [source_of(steps, *it) for it in sources]) for a, b, bits, sources in edges]
 
 

@@ -16,6 +16,11 @@ END = "the end"
 EMPTY = "EMPTY"
 
 
+def number_in(word: str) -> Any:
+    """The number of a word: a whole one exactly, another one as a float."""
+    return float(word) if any(sign in word for sign in ".eE") else int(word)
+
+
 class Words:
     """The words of a text, which are taken one by one."""
 
@@ -56,7 +61,7 @@ class Words:
         self.demand(")")
         return found
 
-    def point(self) -> list[float]:
+    def point(self) -> list[Any]:
         """The numbers of a point: two, or three with a height."""
         start = self.at
         while self.next()[0] in "+-.0123456789":
@@ -66,9 +71,9 @@ class Words:
             raise BadInput(f"no WKT: {self.next()} in the place of a number")
         if len(numbers) not in (2, 3):
             raise BadInput(f"no WKT: {len(numbers)} numbers: a point has x and y, and may have a height")
-        return [float(number) for number in numbers]
+        return list(map(number_in, numbers))
 
-    def loose_point(self) -> list[float]:
+    def loose_point(self) -> list[Any]:
         """A point of several, in parentheses or not."""
         if self.next() != "(":
             return self.point()

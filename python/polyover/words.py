@@ -10,8 +10,9 @@ from .contour import Row
 from .parts import Feature
 from .progress import faults_of
 from .reading import Polygons
+from .relations import splitting
 from .scaled import Scaled
-from .text import Fill
+from .text import Fill, Solver
 
 # (features that are asked together: of more the numbers leave the processor's cache)
 AT_ONCE = 100
@@ -22,6 +23,11 @@ def fill_of(given: Any) -> Fill:
     return given.fill or "nonzero"
 
 
+def solver_of(given: Any) -> Solver:
+    """The solver that splits edges: the one that is named, if it is one. (Of relations it need not be.)"""
+    return splitting(getattr(given, "solver", None))
+
+
 def look_of(given: Any, scaled: Scaled) -> dict[str, Any]:
     """The smallest area that is kept, as a number of squares at the scale, and how edges are split."""
     return {"minimum_area": scaled.area(given.min_area), "solver": given.solver}
@@ -30,10 +36,11 @@ def look_of(given: Any, scaled: Scaled) -> dict[str, Any]:
 def polygons_of(given: Any, file: File, parts: Sequence[Any] | None = None) -> Polygons:
     """The polygons of a file, or some of them, by GeoJSON's reading or as rings that run as they are. What is to be
     said of some is counted with the file."""
-    is_raw = given.fill is not None
+    is_raw, solver = given.fill is not None, solver_of(given)
     if parts is None:
-        return Polygons([part for each in file.features for part in each.parts], file.name, is_raw)
-    return Polygons(list(parts), file.name, is_raw, file.told)
+        parts = [part for each in file.features for part in each.parts]
+        return Polygons(parts, file.name, is_raw, solver=solver)
+    return Polygons(list(parts), file.name, is_raw, file.told, solver)
 
 
 def groups_of(file: File) -> Iterator[list[Feature]]:

@@ -112,6 +112,27 @@ class RegionsOfTheProgram(Regions):
         ask_program_alone(self)
 
 
+@with_library
+class Solvers(unittest.TestCase):
+    """Polygons that cross themselves, and the solver."""
+
+    def test_a_polygon_that_crosses_itself_is_split_by_the_solver_that_is_asked(self):
+        # (two steps cross at (1/3, 0), in the pixel of (0, 0). The first step passes through that, and meets none of
+        # the two there: snap rounding leads it through (0, 0), rounds leave it straight from (-1, 0) on)
+        ring = [(-4, -1), (8, 3), (10, 3), (10, 0), (-10, 0), (-10, -5), (12, -5), (12, 2), (7, 2), (-3, -1)]
+        polygon, scaled = {"type": "Polygon", "coordinates": [[*ring, ring[0]]]}, polyover.Scaled(1)
+        straight, bent = ((-1, 0), (8, 3)), ((0, 0), (8, 3))
+        for solver, edge, other in (("rounds", straight, bent), ("snapped", bent, straight)):
+            how = {"solver": solver}
+            for edges in (scaled.edges(polygon, **how), scaled.edges([], polygon, **how)):
+                found = [(a, b) for a, b, _ in edges]
+                self.assertIn(edge, found)
+                self.assertNotIn(other, found)
+            shapes = scaled.overlay(polygon, (), "subject", **how)
+            self.assertEqual(shapes, polyover.overlay([ring], (), "subject", **how))
+            self.assertEqual(scaled.arrangement(polygon, **how).overlay("subject"), shapes)
+
+
 class Points(unittest.TestCase):
     """Points may be a geometry."""
 

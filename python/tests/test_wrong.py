@@ -82,6 +82,25 @@ class Wrong(unittest.TestCase):
         with self.assertRaisesRegex(TypeError, "^points: set in the place of a list of points$"):
             polyover.locate([SQUARE], {(1, 1)})
 
+    def test_generators_are_gone_over_once(self):
+        told = "a generator that was gone over before in the place of a list of"
+        for owner in (polyover, polyover.Scaled(1)):
+            contours = (each for each in [SQUARE])
+            with self.assertRaisesRegex(polyover.BadInput, f"^clip: {told} contours$"):
+                owner.overlay(contours, contours)
+            points = (each for each in SQUARE)
+            with self.assertRaisesRegex(polyover.BadInput, f"^clip: contour 1: {told} points$"):
+                owner.overlay([points], [points])
+            groups = (each for each in [[SQUARE]])
+            self.assertEqual(owner.union_all(groups), owner.overlay([SQUARE]))
+            with self.assertRaisesRegex(polyover.BadInput, f"^groups: {told} groups$"):
+                owner.union_all(groups)
+            queries = (each for each in [(1, 1)])
+            self.assertEqual(owner.locate([SQUARE], queries), ["inside"])
+            with self.assertRaisesRegex(polyover.BadInput, f"^points: {told} points$"):
+                owner.locate([SQUARE], queries)
+            self.assertEqual(owner.overlay((each for each in ()), ()), [])
+
     def test_minimum_area(self):
         for area in (-1, 2**127, 0.5):
             with self.assertRaises(polyover.BadInput):
