@@ -14,8 +14,8 @@ from .errors import BadInput
 from .parts import POINTS, POLYGONS, Feature, Part
 from .scaled import Scaled
 from .systems import DEGREES
-from .text import SNAPPED
 from .told import Told, counted
+from .words import solver_of
 
 HALF, TURN = 180, 360
 BEYOND = "more than 180 degrees, and coordinates are planar: --antimeridian cut cuts at 180"
@@ -144,7 +144,7 @@ def watch_over(given: Any, kinds: Sequence[str], system: str | None, told: Told)
         if system is not None and system not in DEGREES:
             raise BadInput(f"{told.source}: its system of coordinates is {system}; --antimeridian cut takes longitudes"
                            " and latitudes")
-        cutter = Cutter(Scaled.of_digits(given.digits), getattr(given, "solver", SNAPPED))
+        cutter = Cutter(Scaled.of_digits(given.digits), solver_of(given))
         return lambda feature: cutter.feature(feature, is_of_rings)
 
     def watched(feature: Feature) -> Feature:

@@ -161,13 +161,16 @@ def iterated(place: str, things: Any, what: str) -> list[Any]:
     if not isinstance(things, (list, tuple)):
         if isinstance(things, UNFIT):
             raise BadType(f"{place}: {type(things).__name__} in the place of {what}")
-        if not hasattr(things, "__iter__"):
+        if not hasattr(things, "__iter__") or getattr(things, "ndim", 1) == 0:
             raise BadInput(f"{place}: {things!r} in the place of {what}")
         check_unused(place, things, what)
         if getattr(getattr(things, "dtype", None), "kind", "") in TIMES:
             raise BadType(f"{place}: an array of times in the place of {what}")
         # (arrays of numbers are numbers of Python sooner than one by one)
-        found = things.tolist() if hasattr(things, "tolist") else None
+        try:
+            found = things.tolist() if hasattr(things, "tolist") else None
+        except NotImplementedError as fault:
+            raise BadInput(f"{place}: {fault}") from None
         things = found if isinstance(found, list) else list(things)
     return things  # type: ignore[no-any-return]
 

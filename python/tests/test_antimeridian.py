@@ -52,6 +52,13 @@ class Told(unittest.TestCase):
         said = ran("clip", collection(feature("Polygon", [square(0, 0, 1, 1)])), collection(line))[2]
         self.assertIn("b.geojson: 1 line spans more than 180 degrees", said)
 
+    def test_relations_are_told_of_what_is_cut(self):
+        area = collection(feature("Polygon", [FIJI]))
+        for words in ((), ("--solver", "exact"), ("--solver", "rounds")):
+            inner = collection(feature("Polygon", [square(175, -1, 179, 1)]))
+            _, found, said, _ = ran("relate", area, inner, words=["--antimeridian", "cut", *words])
+            self.assertEqual((found["covers"], found["within"], found["disjoint"], said), (True, False, False, ""))
+
     def test_other_systems(self):
         for code, is_told in (("urn:ogc:def:crs:EPSG::3857", False), ("EPSG:4326", True), ("EPSG:32633", False),
                               ("urn:ogc:def:crs:OGC:1.3:CRS84", True)):

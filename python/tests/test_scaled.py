@@ -34,7 +34,7 @@ class ScaledFloats(unittest.TestCase):
         for start, scale in product(starts, scales):
             scaled = polyover.Scaled(scale, (start, 0))
             values = [chance.uniform(-1000, 1000) for _ in range(20)] + [chance.randint(-9, 9) / 2 for _ in range(20)]
-            for value in [*values, 5e-324, -1e300, 7, Fraction(5, 3), Decimal("0.5"), True]:
+            for value in [*values, 5e-324, -1e300, 7, Fraction(5, 3), Decimal("0.5")]:
                 whole = round((Fraction(value) - Fraction(start)) * Fraction(scale))
                 self.assertEqual(scaled.whole_point((value, 0))[0], whole)
             for whole in (0, 1, -1, 3, LIMIT, -LIMIT, *(chance.randint(-(10**12), 10**12) for _ in range(20))):

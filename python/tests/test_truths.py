@@ -61,6 +61,18 @@ class Truths(unittest.TestCase):
                     place = f"^subject: contour {len(given)}: an array of times in the place of a list of points$"
                     self.refused(place, owner.overlay, given)
 
+    @unittest.skipIf(numpy is None, "no python3 here has NumPy (Debian's python3-numpy)")
+    def test_arrays_that_are_no_lists(self):
+        for owner in (polyover, polyover.Scaled(1)):
+            for given, told in (
+                (numpy.array(5), "^subject: array.5. in the place of a list of contours$"),
+                ([numpy.array(5)], "^subject: contour 1: array.5. in the place of a list of points$"),
+                ([memoryview(numpy.array(SQUARE, ">i8"))], "^subject: contour 1: memoryview: .*format"),
+            ):
+                with self.assertRaisesRegex(polyover.BadInput, told):
+                    owner.overlay(given)
+            self.assertEqual(owner.overlay([numpy.array(SQUARE, ">i8")]), [[CORNER]])
+
     def test_geometries(self):
         for truth in TRUTHS:
             ring = [(0, 0), (4, truth), (4, 4), (0, 0)]
