@@ -41,7 +41,7 @@ location_of-requires-clause-found g c =
     (subst (λ qs. All (λ q. IsTold (map counted_once es) (plain_query whole boolean_counts q)) qs)
     (sym c.deref.ensures.value) c.in_ok-told-2.ensures.all)
     (subst (λ qs. All (λ q. IsTold (map counted_once (turned_uprights es)) (plain_query whole boolean_counts q)) qs)
-    (sym c.deref-2.ensures.value) c.in_ok-told-2.ensures.uprights))
+    (sym c.deref-in-loop-at.ensures.value) c.in_ok-told-2.ensures.uprights))
     (λ l at. located_in_shape (paths_of_shape whole c.args.contours.now) es c.requires.edges p l at)
 
 pub loop-at-preserved : goal.loop-at-preserved
