@@ -242,8 +242,19 @@ export function alike(groups, kind, grid) {
       return numbers.length === 0 ? { ...group, numbers: new Int32Array(0) } : group;
     }
     const isTurned = numbers instanceof Int32Array || (grid && !group.isRegion && numbers instanceof BigInt64Array);
-    return isTurned ? { ...group, numbers: Float64Array.from(numbers, Number) } : group;
+    return isTurned ? { ...group, numbers: floatsOf(group) } : group;
   });
+}
+
+/** The numbers of a group as floats, which must be these. */
+function floatsOf({ name, numbers }) {
+  const found = Float64Array.from(numbers, Number);
+  const isOther = (value, at) => typeof value === "bigint" && value !== BigInt(found[at]);
+  const at = numbers.findIndex(isOther);
+  if (at >= 0) {
+    throw new Misplaced(name, at, numbers[at]);
+  }
+  return found;
 }
 
 /** What an answer is of groups, in a form, or in that of the first; a fault of a number names its place. */
@@ -287,6 +298,9 @@ function placed(fault, groups, grid) {
 function wrongOf(value, numbers, grid) {
   if (typeof value === "number" && !Number.isFinite(value)) {
     return `${value} is no finite number`;
+  }
+  if (grid && typeof value === "bigint" && value >= -LIMIT && value <= LIMIT) {
+    return `${value} is no float, which scaled() takes`;
   }
   if (grid) {
     return `${value} at this scale is out of range: at most ${LIMIT} from 0`;

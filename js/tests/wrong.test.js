@@ -80,6 +80,17 @@ test("what is no whole number in the range", () => {
   assert.equal(polyover.overlay([[[-most, -most], [most, -most], [most, most], [-most, most]]]).length, 1);
 });
 
+test("BigInts that are no floats are not rounded at a scale", () => {
+  const calls = polyover.scaled(1);
+  const [even, odd] = [2n ** 53n, 2n ** 53n + 1n];
+  const told = "9007199254740993 is no float, which scaled() takes";
+  refused(() => calls.overlay(withPoint([odd, 1n])), `subject: contour 2, point 3: ${told}`);
+  const array = new BigInt64Array([0n, 0n, 4n, 0n, odd, 4n]);
+  refused(() => calls.relate([SQUARE], new Flat(array, [3])), `clip: contour 1, point 3: ${told}`);
+  refused(() => calls.prepare([SQUARE]).locate([[0n, odd]]), `points, point 1: ${told}`);
+  assert.deepEqual(calls.simplify([[[0n, 0n], [even, 0n], [even, 4n]]])[0][0][1], [2 ** 53, 0]);
+});
+
 test("arrays that do not fit any more", () => {
   const [coordinates, ends] = [new Int32Array([0, 0, 4, 0, 4, 4, 0, 4]), new Uint32Array([2, 4])];
   const flat = new Flat(coordinates, ends);
