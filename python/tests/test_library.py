@@ -217,7 +217,7 @@ class Compared(unittest.TestCase):
             def __index__(self):
                 return 7
 
-        square = [(0, False), (Seven(), 0), (Seven(), Seven()), [0, Seven()]]
+        square = [(0, 0), (Seven(), 0), (Seven(), Seven()), [0, Seven()]]
         given = [square, iter(OTHER), ()], [[]], "union", "nonzero", PLAIN
         self.assertEqual(by_library.overlay(*given), [[[(0, 7), (0, 0), (7, 0), (7, 7)]]])
 
