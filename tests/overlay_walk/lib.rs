@@ -2,6 +2,7 @@
 
 mod bound;
 mod counted;
+mod fans;
 mod groups;
 mod kept;
 mod no_steps;

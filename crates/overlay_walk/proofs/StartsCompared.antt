@@ -71,7 +71,7 @@ module _ (limit : ℕ) (ss : List Step) (behind : Step) (long : All (IsLong limi
   }
 
   -- a place of a step has the step at it
-  same_step : (k : ℕ) → k < length ss → get_or ss k behind ≡ step_at ss k
+  pub same_step : (k : ℕ) → k < length ss → get_or ss k behind ≡ step_at ss k
   same_step k within = get_or_default ss k behind no_step within
 
   -- sorted places are in the order of the starts

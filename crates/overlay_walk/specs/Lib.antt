@@ -5,6 +5,7 @@ pub mod KeptResults
 pub mod Nearest
 pub mod Places
 pub mod PointsOnce
+pub mod Rounds
 pub mod Selection
 pub mod Steps
 pub mod WalkEdges

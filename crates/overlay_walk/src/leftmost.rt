@@ -85,8 +85,11 @@ fn keep_below<A: Allocator>(numbers: &mut Vec<usize, A>, limit: usize)
     numbers.retain(|k| *k < limit);
 }
 
-// Adds all places below `count` to the list, which is empty.
-fn push_places<A: Allocator>(places: &mut Vec<usize, A>, count: usize) -> Result<(), AllocError>
+/// Adds all places below `count` to the list, which is empty.
+pub(crate) fn push_places<A: Allocator>(
+    places: &mut Vec<usize, A>,
+    count: usize,
+) -> Result<(), AllocError>
     requires { places.old.items ≡ [] }
     ensures ok { OnOk result (HasPlaces count places.new.items) }
 {

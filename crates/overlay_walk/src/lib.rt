@@ -19,6 +19,8 @@ pub mod onward;
 mod open_places;
 pub mod open_steps;
 pub mod points_once;
+mod round_order;
+mod rounds;
 pub mod selected_steps;
 pub mod selected_walks;
 pub mod step;

@@ -93,7 +93,7 @@ impl<I: IntNumber> Ray<I> {
 
     /// Compares directions: `Greater` where the ray, on its way from p, comes to q within a half turn, `Less` where
     /// later. It is `Equal` where the node, p and q are collinear.
-    fn turn(self, p: IntPoint<I>, q: IntPoint<I>) -> Ordering
+    pub(crate) fn turn(self, p: IntPoint<I>, q: IntPoint<I>) -> Ordering
         requires node { InRange I.limit (plain_point I.whole self.node) }
         requires p { InRange I.limit (plain_point I.whole p) }
         requires q { InRange I.limit (plain_point I.whole q) }

@@ -12,8 +12,8 @@ ghost use Rattle.overlay_walk.specs.Steps.{IsByFrom, IsLong};
 
 use crate::hand::Hand;
 use crate::leftmost::{first_open, places_top_first};
-use crate::next::place_of_next;
 use crate::onward::{noted, onward_places};
+use crate::rounds::{Rounds, place_by_rounds, rounds_of};
 use crate::step::Step;
 use overlay_geom::edge_pair::is_same;
 use overlay_geom::flat::copied;
@@ -39,6 +39,8 @@ pub struct OpenSteps<I: IntNumber, A: Allocator> {
     onward: Vec<u32, A>,
     // that place for the step to be walked on from
     near: usize,
+    // the order of the steps round their nodes, where many leave one
+    rounds: Rounds<A>,
 }
 
 impl<I: IntNumber, A: Allocator> Model for OpenSteps<I, A> {
@@ -51,7 +53,8 @@ impl<I: IntNumber, A: Allocator> Model for OpenSteps<I, A> {
 
     ghost view = { λ o. unmarked o.steps.items o.taken.items };
 
-    ghost invariant = { λ o. AreKept I.whole I.limit o.steps.items o.taken.items o.places.items o.passed };
+    ghost invariant = { λ o. AreKept I.whole I.limit o.steps.items o.taken.items o.places.items o.passed
+        o.rounds };
 }
 
 impl<I: IntNumber, A: Allocator> OpenSteps<I, A> {
@@ -92,7 +95,8 @@ impl<I: IntNumber, A: Allocator> OpenSteps<I, A> {
             ≡ without (plain_steps I.whole self.old) (plain_step I.whole result ∷ []) }
         ensures fewer { All (Contains self.old) self.new }
     {
-        match place_of_next(&self.steps, &self.taken, self.near, step, hand) {
+        let near = self.near;
+        match place_by_rounds(&self.steps, &self.taken, &mut self.rounds, near, step, hand) {
             Some(place) => {
                 self.taken[place] = true;
                 self.near = noted(&self.onward, place);
@@ -112,6 +116,7 @@ impl<I: IntNumber, A: Allocator + Clone> OpenSteps<I, A> {
         sort_steps(&mut steps)?;
         let places = places_top_first(steps.allocator().clone()?, &steps)?;
         let onward = onward_places(steps.allocator().clone()?, &steps, &places)?;
+        let rounds = rounds_of(steps.allocator().clone()?, &steps)?;
         let mut taken = Vec::new(steps.allocator().clone()?);
         taken.resize(steps.len(), false)?;
         Ok(OpenSteps {
@@ -121,6 +126,7 @@ impl<I: IntNumber, A: Allocator + Clone> OpenSteps<I, A> {
             passed: 0,
             onward,
             near: 0,
+            rounds,
         })
     }
 

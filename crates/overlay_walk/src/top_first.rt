@@ -32,7 +32,7 @@ pub(crate) fn sort_top_first<I: IntNumber, A: Allocator>(
     let [first, ..] = steps else {
         return Ok(());
     };
-    let starts = StartsTopFirst {
+    let starts = PlacedSteps {
         steps,
         behind: *first,
     };
@@ -46,16 +46,18 @@ pub(crate) fn sort_top_first<I: IntNumber, A: Allocator>(
     Ok(())
 }
 
-// Steps whose places are compared, and the step that stands for places behind all.
+/// Steps whose places are compared, and the step that stands for places behind all.
 #[derive(Drop)]
-struct StartsTopFirst<'a, I: IntNumber> {
-    steps: &'a [Step<I>],
-    behind: Step<I>,
-    ghost steps_are_long: { All (IsLong I.limit) (plain_steps I.whole steps.now) },
-    ghost behind_is_long: { IsLong I.limit (plain_step I.whole behind) },
+pub(crate) struct PlacedSteps<'a, I: IntNumber> {
+    /// The steps.
+    pub(crate) steps: &'a [Step<I>],
+    /// The step for places behind all.
+    pub(crate) behind: Step<I>,
+    pub(crate) ghost steps_are_long: { All (IsLong I.limit) (plain_steps I.whole steps.now) },
+    pub(crate) ghost behind_is_long: { IsLong I.limit (plain_step I.whole behind) },
 }
 
-impl<'a, I: IntNumber> StartsTopFirst<'a, I> {
+impl<'a, I: IntNumber> PlacedSteps<'a, I> {
     // Compares the starts of the edges of the steps at two places: `Less` exactly where the first comes before the
     // second.
     fn compare(&self, j: usize, k: usize) -> Ordering
@@ -92,8 +94,8 @@ impl<'a, I: IntNumber> StartsTopFirst<'a, I> {
         true
     }
 
-    // Returns the step at a place.
-    fn step_at(&self, place: usize) -> Step<I>
+    /// Returns the step at a place.
+    pub(crate) fn step_at(&self, place: usize) -> Step<I>
         ensures is { plain_step I.whole result
             ≡ slice_index_or (plain_steps I.whole self.now.steps.now) place (plain_step I.whole self.now.behind) }
         ensures long { IsLong I.limit (plain_step I.whole result) }

@@ -9,6 +9,7 @@ use Rattle.overlay_walk.specs.declared.step.Step.{Step as StepTaken}
 use Rattle.overlay_walk.proofs.NextTaken.{some_is_found, found_left, found_next, others_left}
 use Rattle.overlay_walk.proofs.OpenPlaces.{unmarked-fewer}
 use Rattle.overlay_walk.proofs.StartPlaces.{passed_still}
+use Rattle.overlay_walk.proofs.TakenAhead.{rounds_still}
 use Rattle.overlay_walk.proofs.open_steps.OpenSteps.take_next.Goals as goal
 
 -- the place is one of the steps
@@ -17,33 +18,37 @@ place_within : {I : Type 0} (whole : I → ℤ) (steps : List (StepTaken I)) (ma
     → IsNextPlace (plain_steps whole steps) marks hand s (Some m) → m < length steps
 place_within whole steps marks hand s m next = omega (arith, next.below, length-map steps (plain_step whole))
 
-pub place_of_next-requires-clause-marks : goal.place_of_next-requires-clause-marks
-place_of_next-requires-clause-marks g c = ap length c.deref-2.ensures.value ∙ c.self.invariant.marked
+pub place_by_rounds-requires-clause-marks : goal.place_by_rounds-requires-clause-marks
+place_by_rounds-requires-clause-marks g c = ap length c.deref-2.ensures.value ∙ c.self.invariant.marked
     ∙ sym (ap length c.deref.ensures.value)
 
-pub place_of_next-requires-clause-by_start : goal.place_of_next-requires-clause-by_start
-place_of_next-requires-clause-by_start g c =
+pub place_by_rounds-requires-clause-by_start : goal.place_by_rounds-requires-clause-by_start
+place_by_rounds-requires-clause-by_start g c =
     subst (λ (ss : List (StepTaken g.row.I.Denot)). IsByFrom (plain_steps g.I.IntNumber.whole ss))
     (sym c.deref.ensures.value) c.self.invariant.leaving
 
-pub place_of_next-requires-clause-long : goal.place_of_next-requires-clause-long
-place_of_next-requires-clause-long g c =
+pub place_by_rounds-requires-clause-long : goal.place_by_rounds-requires-clause-long
+place_by_rounds-requires-clause-long g c =
     subst (λ (ss : List (StepTaken g.row.I.Denot)). All (IsLong g.I.IntNumber.limit)
     (plain_steps g.I.IntNumber.whole ss)) (sym c.deref.ensures.value)
     c.self.invariant.long
+
+pub place_by_rounds-requires-clause-rounds : goal.place_by_rounds-requires-clause-rounds
+place_by_rounds-requires-clause-rounds g c =
+    rw (c.deref.ensures.value, c.deref-2.ensures.value) (c.self.invariant.turning)
 
 pub index_mut-requires : goal.index_mut-requires
 index_mut-requires g c =
     let within = place_within g.I.IntNumber.whole c.self.inside.steps.items c.self.inside.taken.items
     (plain_hand c.args.hand) (plain_step g.I.IntNumber.whole c.args.step)
-    c.in-Some.place (rw (c.deref.ensures.value, c.deref-2.ensures.value) at c.in-Some.ensures) in
+    c.in-Some.place (rw (c.deref.ensures.value, c.deref-2.ensures.value) at c.in-Some.ensures.next) in
     omega (arith, within, c.self.invariant.marked)
 
 pub index-requires : goal.index-requires
 index-requires g c =
     let within = place_within g.I.IntNumber.whole c.self.inside.steps.items c.self.inside.taken.items
     (plain_hand c.args.hand) (plain_step g.I.IntNumber.whole c.args.step)
-    c.in-Some.place (rw (c.deref.ensures.value, c.deref-2.ensures.value) at c.in-Some.ensures) in
+    c.in-Some.place (rw (c.deref.ensures.value, c.deref-2.ensures.value) at c.in-Some.ensures.next) in
     omega (arith, within, c.self.inside.steps.ok.0)
 
 pub invariant_of-self : goal.invariant_of-self
@@ -55,13 +60,15 @@ invariant_of-self g c =
       starting = c.self.invariant.starting;
       passing = passed_still c.self.inside.taken.items c.self.inside.places.items c.self.inside.passed c.in-Some.place
           c.self.invariant.passing;
+      turning = rounds_still (plain_steps g.I.IntNumber.whole c.self.inside.steps.items) c.self.inside.taken.items _
+          c.in-Some.place (rw (c.deref.ensures.value, c.deref-2.ensures.value) at c.in-Some.ensures.rounds);
     }
 
 pub unreachable-requires : goal.unreachable-requires
 unreachable-requires g c =
     some_is_found g.I.IntNumber.whole c.self.inside.steps.items c.self.inside.taken.items c.self.invariant.marked
     (plain_hand c.args.hand) (plain_step g.I.IntNumber.whole c.args.step)
-    (rw c.self.view_is c.requires.goes_on) (rw (c.deref.ensures.value, c.deref-2.ensures.value) at c.in-None.ensures)
+    (rw c.self.view_is c.requires.goes_on) (rw (c.deref.ensures.value, c.deref-2.ensures.value) at c.in-None.ensures.next)
 
 pub returns-clause-among : goal.returns-clause-among
 returns-clause-among g c =
@@ -69,7 +76,7 @@ returns-clause-among g c =
     (found_left g.I.IntNumber.whole c.self.inside.steps.items c.self.inside.taken.items c.self.invariant.marked
     (plain_hand c.args.hand) (plain_step g.I.IntNumber.whole c.args.step)
     c.in-Some.place c.index.result.now c.index.ensures
-    (rw (c.deref.ensures.value, c.deref-2.ensures.value) at c.in-Some.ensures))
+    (rw (c.deref.ensures.value, c.deref-2.ensures.value) at c.in-Some.ensures.next))
 
 pub returns-clause-next : goal.returns-clause-next
 returns-clause-next g c =
@@ -77,7 +84,7 @@ returns-clause-next g c =
     (found_next g.I.IntNumber.whole c.self.inside.steps.items c.self.inside.taken.items c.self.invariant.marked
     (plain_hand c.args.hand) (plain_step g.I.IntNumber.whole c.args.step)
     c.in-Some.place c.index.result.now c.index.ensures
-    (rw (c.deref.ensures.value, c.deref-2.ensures.value) at c.in-Some.ensures))
+    (rw (c.deref.ensures.value, c.deref-2.ensures.value) at c.in-Some.ensures.next))
 
 pub returns-clause-left : goal.returns-clause-left
 returns-clause-left g c =
@@ -85,7 +92,7 @@ returns-clause-left g c =
     (others_left g.I.IntNumber.whole c.self.inside.steps.items c.self.inside.taken.items c.self.invariant.marked
     (plain_hand c.args.hand) (plain_step g.I.IntNumber.whole c.args.step)
     c.in-Some.place c.index.result.now c.index.ensures
-    (rw (c.deref.ensures.value, c.deref-2.ensures.value) at c.in-Some.ensures)
+    (rw (c.deref.ensures.value, c.deref-2.ensures.value) at c.in-Some.ensures.next)
     (rw c.self.view_is c.requires.once))
 
 pub returns-clause-fewer : goal.returns-clause-fewer

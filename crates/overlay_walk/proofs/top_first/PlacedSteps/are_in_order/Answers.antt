@@ -6,7 +6,7 @@ use Rattle.overlay_geom.specs.Plane.{edge_of}
 use Rattle.overlay_geom.specs.Resolved.{plain_edge}
 use Rattle.overlay_walk.specs.Places.{comes_top_first}
 use Rattle.overlay_walk.specs.Steps.{plain_step, plain_steps}
-use Rattle.overlay_walk.proofs.top_first.StartsTopFirst.are_in_order.Goals as goal
+use Rattle.overlay_walk.proofs.top_first.PlacedSteps.are_in_order.Goals as goal
 
 pub loop-i-preserved : goal.loop-i-preserved
 loop-i-preserved g c =

@@ -2,7 +2,7 @@
 use Rattle.std.proofs.Common.{subst}
 use Rattle.overlay_geom.proofs.Mapped.{All-mapped_at}
 use Rattle.overlay_walk.specs.Steps.{plain_step, IsLong}
-use Rattle.overlay_walk.proofs.top_first.StartsTopFirst.step_at.Goals as goal
+use Rattle.overlay_walk.proofs.top_first.PlacedSteps.step_at.Goals as goal
 
 pub returns-then-place-self-clause-long : goal.returns-then-place-self-clause-long
 returns-then-place-self-clause-long g c =

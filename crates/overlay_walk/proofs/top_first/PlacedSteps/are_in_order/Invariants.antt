@@ -5,7 +5,7 @@ use Rattle.overlay_geom.specs.Plane.{edge_of}
 use Rattle.overlay_geom.specs.Resolved.{plain_edge, IsLongEdge}
 use Rattle.overlay_walk.specs.Steps.{plain_step, plain_steps}
 use Rattle.overlay_walk.proofs.StartsCompared.{place_before}
-use Rattle.overlay_walk.proofs.top_first.StartsTopFirst.are_in_order.Given as goal
+use Rattle.overlay_walk.proofs.top_first.PlacedSteps.are_in_order.Given as goal
 
 abbrev pub invariant-loop-i : goal.invariant-loop-i
 invariant-loop-i g l =
