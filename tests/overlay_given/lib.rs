@@ -3,3 +3,4 @@
 mod asked;
 mod contacts;
 mod interiors;
+mod kinds;

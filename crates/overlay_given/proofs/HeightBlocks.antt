@@ -1,6 +1,6 @@
 -- Heights of edges and of blocks of neighbours. Edges do not cross whose heights do not overlap.
 use Rattle.std.proofs.Common.{◌≡◌, ◌⊎◌, ⊎_elim, false, ◌&&◌, ℕ, ◌+◌, ◌*◌, ◌<◌, ◌≤◌, ℤ, ◌≤ℤ◌, int_lt, List, []}
-use Rattle.std.proofs.Common.{◌∷◌, ◌++◌, length, get_or, sym, ◌∙◌, subst, arith}
+use Rattle.std.proofs.Common.{◌∷◌, ◌++◌, length, get_or, refl, sym, ◌∙◌, subst, arith}
 use Rattle.std.proofs.lemmas.Bool.{false≢true, and_cases}
 use Rattle.std.proofs.lemmas.Int.{by_lt_z}
 use Rattle.std.proofs.lemmas.List.{get_or_push, length-append}
@@ -13,7 +13,9 @@ use Rattle.overlay_geom.proofs.Signs.{linear}
 use Rattle.overlay_pairs.specs.Places.{IsAt}
 use Rattle.overlay_pairs.proofs.Entries.{one_entry}
 use Rattle.overlay_given.specs.Crossing.{cross}
-use Rattle.overlay_given.specs.Heights.{LiesBetween, LieInBlocks, AreBlockHeights}
+use Rattle.overlay_given.specs.Heights.{LiesBetween, AreApartFrom, LieAtPlaces, AreEdgeHeights, LieInBlocks}
+use Rattle.overlay_given.specs.Heights.{AreBlockHeights}
+use Rattle.overlay_given.specs.Uncrossed.{CrossesNoneOf}
 use Rattle.overlay_given.specs.declared.heights.Heights.{Heights}
 use Rattle.overlay_given.proofs.ApartEdges.{below_uncrossed, cross_back}
 
@@ -60,6 +62,66 @@ lie_more es from k e low high l h least greatest at_e so_far own a b c d m f pas
     (between_wider (ends_of e) l h least greatest b d own))
     (λ (before : m < k). between_wider (ends_of f) low high least greatest a c (so_far m f past before at_f))
     (eq-or-lt_of_le (let le : m ≤ k = omega (arith, less) in le))
+
+-- with one more that does not overlap with the range h
+pub apart_more : {I : Type 0} (whole : I → ℤ) (h : Heights I) (hs : List (Heights I)) (from k : ℕ) →
+    ((d : Heights I) → (int_lt (whole (get_or hs k d).low) (whole h.high)
+    && int_lt (whole h.low) (whole (get_or hs k d).high)) ≡ false) →
+    AreApartFrom whole h hs from k → AreApartFrom whole h hs from (k + 1)
+apart_more whole h hs from k apart so_far m d past less = ⊎_elim
+    (λ (same : m ≡ k). subst (λ (n : ℕ). (int_lt (whole (get_or hs n d).low) (whole h.high)
+    && int_lt (whole h.low) (whole (get_or hs n d).high)) ≡ false) (sym same) (apart d))
+    (λ (before : m < k). so_far m d past before)
+    (eq-or-lt_of_le (let le : m ≤ k = omega (arith, less) in le))
+
+module _ {I : Type 0} (whole : I → ℤ) (es : List CountedEdge) where
+  -- the heights of the edges before place k
+  pub record AreHeightsTo (k : ℕ) (hs : List (Heights I)) : Type 0 where
+    pub count : length hs ≡ k
+    pub lie : LieAtPlaces whole es hs
+
+  pub heights_none : AreHeightsTo 0 []
+  heights_none = record { count = refl; lie = λ k d f inside at_f. absurd (omega (arith, inside)) }
+
+  -- with those of one edge more
+  pub heights_more : (k : ℕ) (hs : List (Heights I)) (h : Heights I) (e : CountedEdge) → IsAt es k e →
+      LiesBetween (ends_of e) (whole h.low) (whole h.high) → AreHeightsTo k hs → AreHeightsTo (k + 1) (hs ++ h ∷ [])
+  heights_more k hs h e at_e own so_far =
+      let more = length-append hs (h ∷ []) in
+      let count = so_far.count in
+      record { count = omega (arith, more, count); lie = lie }
+    where
+      lie : LieAtPlaces whole es (hs ++ h ∷ [])
+      lie j d f inside at_f = ⊎_elim here before
+          (eq-or-lt_of_le (let more = length-append hs (h ∷ []) in
+          let le : j ≤ length hs = omega (arith, inside, more) in le))
+        where
+          here : j ≡ length hs → LiesBetween (ends_of f) (whole (get_or (hs ++ h ∷ []) j d).low)
+              (whole (get_or (hs ++ h ∷ []) j d).high)
+          here same = subst (λ (u : Heights I). LiesBetween (ends_of f) (whole u.low) (whole u.high))
+              (sym (get_or_push hs h d j (sym same)))
+              (subst (λ (g : CountedEdge). LiesBetween (ends_of g) (whole h.low) (whole h.high))
+              (one_entry es k e f at_e (subst (λ n. IsAt es n f) (same ∙ so_far.count) at_f)) own)
+
+          before : j < length hs → LiesBetween (ends_of f) (whole (get_or (hs ++ h ∷ []) j d).low)
+              (whole (get_or (hs ++ h ∷ []) j d).high)
+          before lt = subst (λ (u : Heights I). LiesBetween (ends_of f) (whole u.low) (whole u.high))
+              (sym (get_or-append hs (h ∷ []) d j lt)) (so_far.lie j d f lt at_f)
+
+  -- those of all edges
+  pub all_heights : (k : ℕ) (hs : List (Heights I)) → k ≡ length es → AreHeightsTo k hs → AreEdgeHeights whole es hs
+  all_heights k hs all so_far = record { count = so_far.count ∙ all; lie = so_far.lie }
+
+-- edges whose heights are apart from those of e do not cross it
+pub apart_uncrossed : {I : Type 0} (whole : I → ℤ) (es : List CountedEdge) (e : CountedEdge) (own : Heights I)
+    (hs : List (Heights I)) (from to : ℕ) → LiesBetween (ends_of e) (whole own.low) (whole own.high) →
+    AreEdgeHeights whole es hs → AreApartFrom whole own hs from to → CrossesNoneOf es e from to
+apart_uncrossed whole es e own hs from to of_e heights apart k f past less at_f =
+    let inside = at_f.0 in
+    let count = heights.count in
+    uncrossed_apart (ends_of e) (ends_of f) (whole own.low) (whole own.high) (whole (get_or hs k own).low)
+    (whole (get_or hs k own).high) of_e (heights.lie k own f (omega (arith, inside, count)) at_f)
+    (apart k own past less)
 
 -- blocks with one more behind them
 pub blocks_more : {I : Type 0} (whole : I → ℤ) (es : List CountedEdge) (blocks : List (Heights I)) (h : Heights I)

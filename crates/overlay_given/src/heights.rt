@@ -1,10 +1,10 @@
 //! The heights of edges, and of blocks of neighbours in a list.
 
-ghost use Rattle.std.specs.Prelude.{◌≡◌, ◌&&◌, ◌+◌, ◌*◌, ◌/◌, ◌<◌, ◌≤◌, ◌≤ℤ◌, int_lt, length, IfOk};
+ghost use Rattle.std.specs.Prelude.{◌≡◌, ◌&&◌, ◌+◌, ◌*◌, ◌/◌, ◌<◌, ◌≤◌, ◌≤ℤ◌, int_lt, true, false, length, IfOk};
 ghost use Rattle.overlay_geom.specs.Edges.{ends_of};
 ghost use Rattle.overlay_order.specs.Content.{plain_edge, plain_edges};
 ghost use Rattle.overlay_pairs.specs.Places.{IsAt};
-ghost use Rattle.overlay_given.specs.Heights.{LiesBetween, AreBlockHeights};
+ghost use Rattle.overlay_given.specs.Heights.{LiesBetween, AreApartFrom, AreEdgeHeights, AreBlockHeights};
 
 use overlay_geom::number::IntNumber;
 use overlay_order::count::EdgeCount;
@@ -46,6 +46,41 @@ pub(crate) fn overlap<I: IntNumber>(s: Heights<I>, t: Heights<I>) -> bool
     ensures { result ≡ (int_lt (I.whole t.low) (I.whole s.high) && int_lt (I.whole s.low) (I.whole t.high)) }
 {
     is_less(t.low, s.high) && is_less(s.low, t.high)
+}
+
+/// Returns whether none of the heights from the place `from` up to `to` overlap with `own`. The loop has no branches: so
+/// several heights are tested at once.
+pub(crate) fn are_apart<I: IntNumber>(
+    own: Heights<I>,
+    heights: &[Heights<I>],
+    from: usize,
+    to: usize,
+) -> bool
+    requires { to ≤ length heights.now }
+    ensures { result ≡ true → AreApartFrom I.whole own heights.now from to }
+{
+    let mut overlaps = false;
+    for k in from..to {
+        let meets = overlap(own, heights[k]);
+        overlaps |= meets;
+    }
+    !overlaps
+}
+
+/// Returns the heights of each edge.
+pub(crate) fn edge_heights<I: IntNumber, C: EdgeCount, A: Allocator>(
+    alloc: A,
+    edges: &[CountedEdge<I, C>],
+) -> Result<Vec<Heights<I>, A>, AllocError>
+    ensures ok { IfOk result (λ heights.
+        AreEdgeHeights I.whole (plain_edges I.whole C.counts edges.now) heights.items) }
+{
+    let mut heights = Vec::with_capacity(alloc, edges.len())?;
+    for k in 0..edges.len() {
+        let of_k = heights_of(&edges[k]);
+        heights.push(of_k)?;
+    }
+    Ok(heights)
 }
 
 /// Returns the heights of each block of neighbours. A block begins at each multiple of its size.

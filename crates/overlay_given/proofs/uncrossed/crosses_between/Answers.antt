@@ -9,7 +9,6 @@ pub returns : goal.returns
 returns g c =
     let whole = g.I.IntNumber.whole in
     let plain = plain_edge whole g.C.EdgeCount.counts in
-    let of_f = c.heights_of-of_f.result in
-    sym (uncrossed_apart (ends_of (plain c.args.e.now)) (ends_of (plain c.args.f.now)) (whole c.args.heights.low)
-    (whole c.args.heights.high) (whole of_f.low) (whole of_f.high) c.requires.heights c.heights_of-of_f.ensures
+    sym (uncrossed_apart (ends_of (plain c.args.e.now)) (ends_of (plain c.args.f.now)) (whole c.args.own.low)
+    (whole c.args.own.high) (whole c.args.others.low) (whole c.args.others.high) c.requires.own c.requires.others
     (sym c.overlap-meets.ensures ∙ c.if-meets.false))

@@ -13,8 +13,8 @@ use Rattle.overlay_given.proofs.uncrossed.crosses_none_in_run.Goals as goal
 pub loop-j-init : goal.loop-j-init
 loop-j-init g c = (omega arith, λ k e f past less at_e at_f. absurd (omega (arith, past, less)))
 
-pub crosses_in_block-requires-clause-one : goal.crosses_in_block-requires-clause-one
-crosses_in_block-requires-clause-one g c =
+pub uncrossed_end-requires-clause-one : goal.uncrossed_end-requires-clause-one
+uncrossed_end-requires-clause-one g c =
     All-mapped_at (IsHeld g.I.IntNumber.limit) (plain_edge g.I.IntNumber.whole g.C.EdgeCount.counts) c.args.edges.now
     c.args.i c.index-edges-i.result c.requires.within c.index-edges-i.is c.requires.held
 
@@ -23,18 +23,18 @@ loop-j-preserved g c =
     let plain = plain_edge g.I.IntNumber.whole g.C.EdgeCount.counts in
     let es = plain_edges g.I.IntNumber.whole g.C.EdgeCount.counts c.args.edges.now in
     let past = c.loop-j.invariant.0 in
-    let behind = c.block_end-end.ensures.behind in (
-      omega (arith, past, behind),
-      crosses_none_further es c.args.i c.loop-j.j c.block_end-end.result (plain c.index-edges-i.result)
+    let further = (c.in-Some.ensures).further in (
+      omega (arith, past, further),
+      crosses_none_further es c.args.i c.loop-j.j c.in-Some.end (plain c.index-edges-i.result)
           (placed_in_mapped plain c.args.edges.now c.args.i c.index-edges-i.result c.requires.within
           c.index-edges-i.is)
-          c.loop-j.invariant.1 (c.crosses_in_block.ensures.none c.if-crosses_in_block.false),
+          c.loop-j.invariant.1 (c.in-Some.ensures).none,
     )
 
-pub returns-then-crosses_in_block-clause-some : goal.returns-then-crosses_in_block-clause-some
-returns-then-crosses_in_block-clause-some g c = λ is.
+pub returns-in_default-clause-some : goal.returns-in_default-clause-some
+returns-in_default-clause-some g c = λ is.
     let plain = plain_edge g.I.IntNumber.whole g.C.EdgeCount.counts in
-    let some = c.crosses_in_block.ensures.some c.if-crosses_in_block.true in
+    let some = c.uncrossed_end.ensures.some c.in_default.is in
     let past = c.loop-j.invariant.0 in
     let from = some.2 in (
       some.0,

@@ -1,47 +1,40 @@
--- The heights of the block do not overlap with the edge's, or the edges of the block are tested one by one.
-use Rattle.std.proofs.Common.{◌/◌, sym, subst, ◌∙◌, arith}
+-- The heights do not overlap with the edge's, or the edges are tested one by one.
+use Rattle.std.proofs.Common.{sym, subst, ◌∙◌, arith}
 use Rattle.std.proofs.lemmas.List.{length-map}
-use Rattle.std.proofs.Math.Nat.{div-add-mod}
 use Rattle.overlay_geom.specs.Edges.{ends_of}
 use Rattle.overlay_geom.proofs.Mapped.{All-mapped_at}
 use Rattle.overlay_order.specs.Content.{plain_edge, plain_edges, IsHeld}
 use Rattle.overlay_pairs.proofs.Entries.{placed_in_mapped}
 use Rattle.overlay_given.specs.Heights.{LiesBetween}
 use Rattle.overlay_given.specs.declared.heights.Heights.{Heights}
-use Rattle.overlay_given.proofs.HeightBlocks.{uncrossed_apart}
+use Rattle.overlay_given.proofs.HeightBlocks.{apart_uncrossed}
 use Rattle.overlay_given.proofs.UncrossedEdges.{crosses_none_more}
-use Rattle.overlay_given.proofs.uncrossed.crosses_in_block.Goals as goal
+use Rattle.overlay_given.proofs.uncrossed.crosses_some_of.Goals as goal
 
-pub bounds-blocks-from : goal.bounds-blocks-from
-bounds-blocks-from g c =
+pub are_apart-requires : goal.are_apart-requires
+are_apart-requires g c =
     let l = length-map c.args.edges.now (plain_edge g.I.IntNumber.whole g.C.EdgeCount.counts) in
-    let ordered = c.requires.ordered in
     let within = c.requires.within in
-    let enough = c.requires.blocks.enough in
-    let whole = div-add-mod c.args.from 8 in
-    omega (arith, l, ordered, within, enough, whole)
+    let count = c.requires.heights.count in
+    omega (arith, l, within, count)
 
-pub returns-then-not-meets-clause-none : goal.returns-then-not-meets-clause-none
-returns-then-not-meets-clause-none g c = λ is k f past less at_f.
-    let whole = g.I.IntNumber.whole in
-    let plain = plain_edge whole g.C.EdgeCount.counts in
-    let block = c.index-blocks-from.result in
-    let l = length-map c.args.edges.now plain in
-    let ordered = c.requires.ordered in
-    let within = c.requires.within in
-    let enough = c.requires.blocks.enough in
-    let up_to = c.requires.block in
-    let parts = div-add-mod c.args.from 8 in
-    uncrossed_apart (ends_of (plain c.args.e.now)) (ends_of f) (whole c.args.heights.low) (whole c.args.heights.high)
-    (whole block.low) (whole block.high) c.requires.heights
-    (subst (λ (h : Heights g.row.I.Denot). LiesBetween (ends_of f) (whole h.low) (whole h.high))
-    (sym c.index-blocks-from.is)
-    (c.requires.blocks.lie (c.args.from / 8) k block f (omega (arith, l, ordered, within, enough, parts))
-    (omega (arith, past, parts)) (omega (arith, less, up_to)) at_f))
-    (sym c.overlap-meets.ensures ∙ c.if-not-meets.true)
+pub returns-then-are_apart-clause-none : goal.returns-then-are_apart-clause-none
+returns-then-are_apart-clause-none g c = λ is.
+    let plain = plain_edge g.I.IntNumber.whole g.C.EdgeCount.counts in
+    let es = plain_edges g.I.IntNumber.whole g.C.EdgeCount.counts c.args.edges.now in
+    apart_uncrossed g.I.IntNumber.whole es (plain c.args.e.now) c.args.own c.args.heights.now c.args.from c.args.to
+    c.requires.own c.requires.heights (c.are_apart.ensures c.if-are_apart.true)
 
 pub loop-k-init : goal.loop-k-init
 loop-k-init g c = (omega arith, λ k f past less at_f. absurd (omega (arith, past, less)))
+
+pub bounds-heights-k : goal.bounds-heights-k
+bounds-heights-k g c =
+    let l = length-map c.args.edges.now (plain_edge g.I.IntNumber.whole g.C.EdgeCount.counts) in
+    let less = c.loop-k-test.true in
+    let within = c.requires.within in
+    let count = c.requires.heights.count in
+    omega (arith, l, less, within, count)
 
 pub crosses_between-requires-clause-other : goal.crosses_between-requires-clause-other
 crosses_between-requires-clause-other g c =
@@ -49,6 +42,21 @@ crosses_between-requires-clause-other g c =
     let within = c.requires.within in
     All-mapped_at (IsHeld g.I.IntNumber.limit) (plain_edge g.I.IntNumber.whole g.C.EdgeCount.counts) c.args.edges.now
     c.loop-k.k c.index-edges-k.result (omega (arith, less, within)) c.index-edges-k.is c.requires.held
+
+pub crosses_between-requires-clause-others : goal.crosses_between-requires-clause-others
+crosses_between-requires-clause-others g c =
+    let whole = g.I.IntNumber.whole in
+    let plain = plain_edge whole g.C.EdgeCount.counts in
+    let edges = c.args.edges.now in
+    let f = c.index-edges-k.result in
+    let l = length-map edges plain in
+    let less = c.loop-k-test.true in
+    let within = c.requires.within in
+    let count = c.requires.heights.count in
+    subst (λ (h : Heights g.row.I.Denot). LiesBetween (ends_of (plain f)) (whole h.low) (whole h.high))
+    (sym c.index-heights-k.is)
+    (c.requires.heights.lie c.loop-k.k c.index-heights-k.result (plain f) (omega (arith, l, less, within, count))
+    (placed_in_mapped plain edges c.loop-k.k f (omega (arith, less, within)) c.index-edges-k.is))
 
 pub loop-k-preserved : goal.loop-k-preserved
 loop-k-preserved g c =

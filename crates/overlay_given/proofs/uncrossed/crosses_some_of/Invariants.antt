@@ -2,7 +2,7 @@
 use Rattle.std.proofs.Common.{◌≤◌}
 use Rattle.overlay_order.specs.Content.{plain_edge, plain_edges}
 use Rattle.overlay_given.specs.Uncrossed.{CrossesNoneOf}
-use Rattle.overlay_given.proofs.uncrossed.crosses_in_block.Given as goal
+use Rattle.overlay_given.proofs.uncrossed.crosses_some_of.Given as goal
 
 abbrev pub invariant-loop-k : goal.invariant-loop-k
 invariant-loop-k g l =
