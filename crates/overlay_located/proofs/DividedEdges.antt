@@ -1,6 +1,6 @@
 -- Edges divided by a slab: one edge more, and the chain of those that span it.
-use Rattle.std.proofs.Common.{◌≡◌, ⊎_elim, false, cond, ℤ, pos, ◌&&◌, ◌||◌, ◌<ℤ◌, int_lt, List, [], ◌∷◌, ◌++◌}
-use Rattle.std.proofs.Common.{append_assoc, append-nil, refl, sym, ap, ◌∙◌, subst}
+use Rattle.std.proofs.Common.{◌≡◌, ⊎_elim, false, cond, pos, ◌&&◌, ◌||◌, ◌<ℤ◌, int_lt, List, [], ◌∷◌, ◌++◌}
+use Rattle.std.proofs.Common.{append_assoc, append-nil, refl, sym, ap, subst}
 use Rattle.std.specs.List.{All}
 use Rattle.std.specs.List.Sorted.{IsPermutation}
 use Rattle.std.specs.Ordering.{int_eq}
@@ -8,10 +8,10 @@ use Rattle.std.proofs.lemmas.Bool.{false_from_ne_true}
 use Rattle.std.proofs.lemmas.List.Elements.{All-push}
 use Rattle.std.proofs.lemmas.List.Sorted.{All-permutation, IsPermutation-to_front}
 use Rattle.overlay_geom.specs.Edges.{CountedEdge, ends_of, subj_of}
-use Rattle.overlay_geom.specs.Plane.{Point, Edge, in_plane, side}
+use Rattle.overlay_geom.specs.Plane.{Point, in_plane, side}
 use Rattle.overlay_geom.proofs.Signs.{linear}
 use Rattle.overlay_sectors.specs.Sectors.{spans_beside}
-use Rattle.overlay_located.specs.Tells.{PassesBy, Tells, nothing}
+use Rattle.overlay_located.specs.Tells.{Tells, nothing}
 use Rattle.overlay_located.specs.Slabs.{Band, IsWithin, Spans, IsBeside, AreDivided}
 use Rattle.overlay_located.specs.Chains.{HasChain, Counted, edges_of}
 use Rattle.overlay_sectors.specs.declared.flank.Flank.{Flank}

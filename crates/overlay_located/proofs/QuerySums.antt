@@ -1,5 +1,5 @@
 -- Windings by the few edges that lead from a query's point: a sum for each.
-use Rattle.std.proofs.Common.{◌≡◌, Bool, cond, ℕ, ◌<◌, ℤ, pos, ◌+ℤ◌, List, [], ◌∷◌, ◌++◌, map, length, get_or}
+use Rattle.std.proofs.Common.{◌≡◌, Bool, cond, ℤ, pos, ◌+ℤ◌, List, [], ◌∷◌, ◌++◌, map, get_or}
 use Rattle.std.proofs.Common.{Contains, append_assoc, sym, ap, ◌∙◌, subst}
 use Rattle.std.specs.Prelude.{Option, Some, None}
 use Rattle.std.specs.List.{All}

@@ -3,16 +3,15 @@ use Rattle.std.proofs.Common.{◌≡◌, ⊎_elim, Bool, true, false, not, ◌||
 use Rattle.std.proofs.Common.{◌++◌, Contains, refl, sym, ap, ◌∙◌, subst, arith}
 use Rattle.std.specs.Prelude.{Option, Some, None}
 use Rattle.std.specs.List.{All}
-use Rattle.std.proofs.lemmas.Bool.{both_ways}
 use Rattle.std.proofs.lemmas.List.Elements.{Contains-append_cases}
 use Rattle.overlay_geom.specs.Edges.{CountedEdge, ends_of}
-use Rattle.overlay_geom.specs.Plane.{Point, PlanePoint, Edge, in_plane}
+use Rattle.overlay_geom.specs.Plane.{PlanePoint, Edge, in_plane}
 use Rattle.overlay_geom.proofs.Entries.{Contains-cases}
 use Rattle.overlay_order.specs.Content.{IsHeld}
 use Rattle.overlay_sectors.specs.Located.{LiesIn}
 use Rattle.overlay_sectors.specs.Sectors.{fills_sector, leads_from, is_low}
-use Rattle.overlay_sectors.specs.Seen.{location_of, has_seen, IsSeenOf, IsSeenUpTo, AddsFilling}
-use Rattle.overlay_located.specs.Tells.{near_sum, Tells}
+use Rattle.overlay_sectors.specs.Seen.{location_of, has_seen, IsSeenOf, IsSeenUpTo}
+use Rattle.overlay_located.specs.Tells.{near_sum}
 use Rattle.overlay_located.specs.Queries.{Asked, sum_on, IsTold, SeesRay, SeesRays}
 use Rattle.overlay_sectors.specs.declared.flank.Flank.{Flank}
 use Rattle.overlay_sectors.specs.declared.flank.Flank.TheVariants.{Left, Right}

@@ -1,6 +1,5 @@
 -- The spanning edges are sorted, and a chain takes some of them.
 use Rattle.std.proofs.Common.{◌++◌, List, All, sym, ap, subst}
-use Rattle.std.specs.List.Sorted.{IsPermutation}
 use Rattle.std.proofs.lemmas.List.Sorted.{IsPermutation-map}
 use Rattle.overlay_geom.specs.Edges.{CountedEdge}
 use Rattle.overlay_located.specs.Slabs.{plain_line, plain_lines, plain_slab, Spans}

@@ -1,6 +1,6 @@
 -- The sectors next above the edge are found in both flanks.
 use Rattle.std.proofs.Common.{Contains, [], map, sym, subst}
-use Rattle.std.specs.Prelude.{Option, Some}
+use Rattle.std.specs.Prelude.{Option}
 use Rattle.std.specs.List.{All}
 use Rattle.std.proofs.lemmas.List.Elements.{All-head}
 use Rattle.std.proofs.lemmas.Option.{IfSome_then}

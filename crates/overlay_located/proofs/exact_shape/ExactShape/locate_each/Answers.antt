@@ -1,5 +1,5 @@
 -- One point more is told.
-use Rattle.std.proofs.Common.{length, arith}
+use Rattle.std.proofs.Common.{arith}
 use Rattle.std.proofs.lemmas.List.{length-map}
 use Rattle.overlay_geom.specs.Plane.{in_plane}
 use Rattle.overlay_geom.specs.Points.{plain_point, plain_points}

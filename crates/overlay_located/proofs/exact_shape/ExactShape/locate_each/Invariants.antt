@@ -1,5 +1,5 @@
 -- The points so far are told.
-use Rattle.std.proofs.Common.{◌≡◌, ℕ, ◌<◌, length, get_or}
+use Rattle.std.proofs.Common.{ℕ, ◌<◌, get_or}
 use Rattle.overlay_geom.specs.Plane.{Point, in_plane}
 use Rattle.overlay_geom.specs.Points.{plain_points}
 use Rattle.overlay_relate.specs.declared.location.PointLocation.{PointLocation}
