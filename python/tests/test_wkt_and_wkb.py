@@ -3,7 +3,8 @@
 import json
 import unittest
 
-from polyover import BadInput, wkb, wkt
+from polyover import BadInput, Scaled, wkb, wkt
+from polyover.writing import ROUNDED
 
 from .features import collection, feature, in_folder, square, told
 
@@ -202,6 +203,28 @@ class Files(unittest.TestCase):
             self.assertEqual((status, said), (0, f"polyover: {self.out.name}: {what}: left out once (the first:"
                                                  " feature 2 of the answer)\n"))
             self.out.unlink()
+
+
+class Whole(unittest.TestCase):
+    """Whole numbers that floats do not have: 2^53 + 1, and more."""
+
+    NEAR, FAR = 2**53 + 1, 2**53 + 5
+    AREA = f"POLYGON (({NEAR} 0, {FAR} 0, {FAR} 4, {NEAR} 4, {NEAR} 0))"
+
+    def test_read_exactly(self):
+        polygon, point = wkt.geometry_in(self.AREA)[1], wkt.geometry_in(f"POINT ({self.NEAR} 1 2.5e1)")[1]
+        self.assertEqual(polygon["coordinates"][0][:2], [[self.NEAR, 0], [self.FAR, 0]])
+        self.assertEqual(point["coordinates"], [self.NEAR, 1, 25.0])
+        self.assertEqual(Scaled(1).locate(polygon, [(self.NEAR, 1), (self.NEAR + 1, 1), (self.NEAR - 1, 1)]),
+                         ["boundary", "inside", "outside"])
+
+    def test_answers_that_are_rounded_say_so(self):
+        folder = in_folder(self)
+        area = folder / "a.wkt"
+        area.write_text(self.AREA)
+        for name in ("b.wkt", "b.wkb", "b.geojson"):
+            words = ["simplify", area, "--digits", "0", "--out", folder / name]
+            self.assertEqual(told(*words, *["--drop"] * (name != "b.geojson")), (0, f"polyover: {ROUNDED}\n"), name)
 
 
 if __name__ == "__main__":
