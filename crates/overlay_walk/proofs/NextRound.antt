@@ -30,14 +30,15 @@ way_back_long limit s long = record {
 
 module _ (limit : ℕ) (hand : Hand) (ss : List Step) (marks : List Bool) (round : List ℕ) (s : Step)
     (long : All (IsLong limit) ss) (long_s : IsLong limit s) (placed : ArePlacesRound hand ss round) where
-  v : Point
+  -- the node, and the start of the step that ends there
+  abbrev pub v : Point
   v = s.to
 
-  u : Point
+  abbrev u : Point
   u = s.from
 
   -- the step at the place that has an index
-  step : ℕ → Step
+  abbrev step : ℕ → Step
   step i = step_at ss (get_or round i 0)
 
   -- it is one of the steps, so it is long

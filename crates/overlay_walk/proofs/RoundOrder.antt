@@ -120,7 +120,7 @@ module _ (hand : Hand) (v r : Point) (start : ¬ (r ≡ v)) where
           other_ways = λ one. both_ways (is_met_before hand v r u p)
               (none_met_before hand v u p long_u (one_way_exchanged v p u one) r) up;
         } in
-        let all = record {
+        let all : AllApart v q u p = record {
           one = apart_exchanged v u q (uq first);
           two = apart_exchanged v p u pu;
           three = apart_exchanged v q p (qp first);
@@ -140,7 +140,7 @@ module _ (hand : Hand) (v r : Point) (start : ¬ (r ≡ v)) where
           other_ways = λ one. both_ways (is_met_before hand v r p u) (none_met_before hand v p u long_p one r)
               (met_transitive hand v r p q u start pq qu);
         } in
-        let all = record {
+        let all : AllApart v p q u = record {
           one = apart_exchanged v q p (qp first);
           two = apart_exchanged v u q (uq first);
           three = apart_exchanged v p u pu;

@@ -46,7 +46,7 @@ module _ (marks : List Bool) (round : List ℕ) where
       (λ back. here j (omega arith)) (cases_lt index j)) (cases_lt j index)
     where
       still : (j : ℕ) → ¬ (j ≡ index) → AreTaken marks round j (get_or (set ahead index at) j 0)
-      still j apart = subst (AreTaken marks round j) (sym (get_or-set_other ahead at index j 0 apart)) (noted j)
+      still j apart = subst (AreTaken marks round j) (sym (get_or-set_other ahead index j at 0 apart)) (noted j)
 
       other : (j : ℕ) → j < index → AreTaken marks round j (get_or (set ahead index at) j 0)
       other j less = still j (λ same. absurd (omega arith))

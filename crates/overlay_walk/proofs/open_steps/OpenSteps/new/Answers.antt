@@ -25,7 +25,7 @@ rounds_of-requires g c =
     let kept = IsPermutation-map (plain_step whole) c.args.steps.items c.sort_steps.new.steps.items
     c.sort_steps.ensures.permutation in
     subst (λ (ss : List (StepTaken g.row.I.Denot)). All (IsLong g.I.IntNumber.limit) (plain_steps whole ss))
-    (sym c.deref-3.ensures.value)
+    (sym c.deref-4.ensures.value)
     (All-permutation (IsLong g.I.IntNumber.limit) _ _ kept c.requires)
 
 pub invariant_of-result : goal.invariant_of-result
@@ -41,7 +41,7 @@ invariant_of-result g c =
           c.in_ok-places.places.items) c.deref.ensures.value
           c.in_ok-places.ensures.ok;
       passing = none_passed c.resize.new.self.items c.in_ok-places.places.items;
-      turning = rw c.deref-3.ensures.value at c.in_ok-rounds.ensures.ok c.resize.new.self.items;
+      turning = rw c.deref-4.ensures.value at c.in_ok-rounds.ensures.ok c.resize.new.self.items;
     }
 
 pub returns : goal.returns
