@@ -1,6 +1,6 @@
 -- Groups that visit no point twice: each is its one walk by either hand.
 use Rattle.std.proofs.Common.{◌≡◌, ⊎_elim, ◌+◌, false, not, List, [], ◌∷◌, Contains}
-use Rattle.std.proofs.Common.{refl, sym, ap, ◌∙◌, subst, arith}
+use Rattle.std.proofs.Common.{sym, ap, ◌∙◌, subst, arith}
 use Rattle.std.proofs.lemmas.Bool.{both_ways}
 use Rattle.std.proofs.lemmas.List.Elements.{All-contains}
 use Rattle.overlay_geom.specs.Plane.{Step, points_of, point_eq}

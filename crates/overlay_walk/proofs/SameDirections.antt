@@ -1,5 +1,5 @@
 -- Points in one direction from a node are met alike by a ray that turns there.
-use Rattle.std.proofs.Common.{◌≡◌, ℕ, false, ◌&&◌, ◌||◌, ◌==◌, nat_lt, ℤ, pos, ◌*ℤ◌, ◌<ℤ◌, ◌≤ℤ◌, int_lt, sym, ap, ap₂}
+use Rattle.std.proofs.Common.{◌≡◌, false, ◌&&◌, ◌||◌, ◌==◌, nat_lt, ℤ, pos, ◌*ℤ◌, ◌<ℤ◌, ◌≤ℤ◌, int_lt, sym, ap, ap₂}
 use Rattle.std.proofs.Common.{◌∙◌}
 use lib.IntN.{*ℤ_comm}
 use Rattle.overlay_geom.specs.Plane.{Point, cross_at}

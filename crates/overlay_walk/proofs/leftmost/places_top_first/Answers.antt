@@ -1,5 +1,5 @@
 -- The places of all steps are sorted.
-use Rattle.std.proofs.Common.{length, sym, subst}
+use Rattle.std.proofs.Common.{sym, subst}
 use Rattle.std.proofs.lemmas.List.{length-map}
 use Rattle.overlay_walk.specs.Places.{HasPlaces}
 use Rattle.overlay_walk.specs.Steps.{plain_step, plain_steps}

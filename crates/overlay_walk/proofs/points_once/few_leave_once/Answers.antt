@@ -1,5 +1,5 @@
 -- Each pair tells.
-use Rattle.std.proofs.Common.{◌<◌, false, length, refl, sym, ◌∙◌, arith}
+use Rattle.std.proofs.Common.{◌<◌, length, refl, sym, ◌∙◌, arith}
 use Rattle.std.proofs.lemmas.Bool.{both_ways, false≢true}
 use Rattle.std.proofs.lemmas.List.{length-map, get_or-map}
 use Rattle.overlay_geom.specs.Plane.{Step, point_eq}

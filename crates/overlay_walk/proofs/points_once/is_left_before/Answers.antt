@@ -1,5 +1,5 @@
 -- The next step leaves another point.
-use Rattle.std.proofs.Common.{◌≡◌, false, get_or, sym, ◌∙◌, below_more, arith}
+use Rattle.std.proofs.Common.{◌≡◌, false, sym, ◌∙◌, below_more, arith}
 use Rattle.std.proofs.lemmas.List.{get_or-map}
 use Rattle.overlay_geom.specs.Plane.{point_eq}
 use Rattle.overlay_plane.specs.Turn.{no_step}

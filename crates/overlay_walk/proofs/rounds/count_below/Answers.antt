@@ -2,7 +2,6 @@
 use Rattle.std.proofs.Common.{get_or, rules}
 use Rattle.std.proofs.lemmas.List.Sorted.{IsPartitionPoint-from_clause}
 use Rattle.overlay_geom.specs.Plane.{point_lt}
-use Rattle.overlay_geom.specs.Points.{plain_point}
 use Rattle.overlay_walk.specs.Steps.{plain_hand, plain_step, plain_steps}
 use Rattle.overlay_walk.proofs.PartsRound.{below-parted}
 use Rattle.overlay_walk.proofs.rounds.count_below.Goals as goal
