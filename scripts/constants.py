@@ -41,7 +41,7 @@ class Stated:
 
 
 STATED = [
-    Stated(r"\b(\d+)\s+rounds\b(?!\s+would)", r"const ROUNDS: u32 = (\d+);", "crates/*/src/rounds.rt"),
+    Stated(r"\b(\d+)\s+rounds\b(?!\s+would)", r"const ROUNDS: u32 = (\d+);", "crates/overlay_arrange/src/rounds.rt"),
     Stated(r"\b2\^(3\d)\b", r"const WEIGHT_LIMIT: u32 = 1 << (\d+);", "crates/overlay_arrange/src/content.rt"),
     Stated(r"\b(\d+) \(`i16`\)", r"IntNumber for i16 .*?limit = \{ (\d+) \};", COORDINATES),
     Stated(r"\b(1073741\d{3})\b", r"IntNumber for i32 .*?limit = \{ (\d+) \};", COORDINATES),

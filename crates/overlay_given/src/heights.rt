@@ -48,7 +48,7 @@ pub(crate) fn overlap<I: IntNumber>(s: Heights<I>, t: Heights<I>) -> bool
     is_less(t.low, s.high) && is_less(s.low, t.high)
 }
 
-/// Returns whether none of the heights from the place `from` up to `to` overlap with `own`. The loop has no branches: so
+/// Returns whether none of the heights from the place `from` up to `to` overlap with `own`. The loop has no branches:
 /// several heights are tested at once.
 pub(crate) fn are_apart<I: IntNumber>(
     own: Heights<I>,

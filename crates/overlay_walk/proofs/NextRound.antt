@@ -1,5 +1,5 @@
--- The first open place behind the way back, in the order of the steps round their nodes, is that of the next step; where
--- none follows at the node, the first open place there is.
+-- The first open place behind the way back, in the order of the steps round their nodes, is that of the next step;
+-- where none follows at the node, the first open place there is.
 use Rattle.std.proofs.Common.{◌≡◌, ⊎_elim, ℕ, ◌<◌, ◌≤◌, Bool, true, false, List, length, get_or, All, sym, ◌∙◌, subst}
 use Rattle.std.proofs.Common.{arith}
 use Rattle.std.specs.Prelude.{Option, Some, None}

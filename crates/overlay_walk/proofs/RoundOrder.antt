@@ -1,5 +1,5 @@
--- Points in the order in which a ray meets them that turns from any start: behind another start they are met in the same
--- order, and those up to there come after.
+-- Points in the order in which a ray meets them that turns from any start: behind another start they are met in the
+-- same order, and those up to there come after.
 use Rattle.std.proofs.Common.{◌≡◌, false, sym, ◌∙◌}
 use Rattle.std.proofs.lemmas.Bool.{both_ways, false_from_ne_true}
 use Rattle.overlay_geom.specs.Plane.{Point}
@@ -8,7 +8,8 @@ use Rattle.overlay_plane.specs.Rays.{Apart}
 use Rattle.overlay_plane.specs.Turn.{Hand, is_met_before, IsMetBefore}
 use Rattle.overlay_plane.proofs.CyclicOrder.{AllApart, all_apart_shifted, met_shifted, met_after, not_both}
 use Rattle.overlay_plane.proofs.TurnOrder.{apart_exchanged, one_way_exchanged, met_transitive}
-use Rattle.overlay_walk.proofs.SameDirections.{started_alike, met_before_alike, none_met_before, met_last, by_directions}
+use Rattle.overlay_walk.proofs.SameDirections.{started_alike, met_before_alike, none_met_before, met_last}
+use Rattle.overlay_walk.proofs.SameDirections.{by_directions}
 
 module _ (hand : Hand) (v r : Point) (start : ¬ (r ≡ v)) where
   -- where neither of two is met before the next, the first is not met before the last

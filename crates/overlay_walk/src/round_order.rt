@@ -1,6 +1,7 @@
 //! The order in which steps stand round the nodes that they leave.
 
-ghost use Rattle.std.specs.Prelude.{◌≡◌, ◌<◌, cond, int_lt, pos, length, slice_index_or, false, All, AllPairs, IfOk, OnOk};
+ghost use Rattle.std.specs.Prelude.{◌≡◌, ◌<◌, cond, int_lt, pos, length, slice_index_or, false};
+ghost use Rattle.std.specs.Prelude.{All, AllPairs, IfOk, OnOk};
 ghost use Rattle.std.specs.List.Sorted.{IsPermutation};
 ghost use Rattle.std.specs.Ordering.{is_lt, int_cmp};
 ghost use Rattle.overlay_geom.specs.Points.{plain_point, InRange};

@@ -68,7 +68,8 @@ pub unreachable-requires : goal.unreachable-requires
 unreachable-requires g c =
     some_is_found g.I.IntNumber.whole c.self.inside.steps.items c.self.inside.taken.items c.self.invariant.marked
     (plain_hand c.args.hand) (plain_step g.I.IntNumber.whole c.args.step)
-    (rw c.self.view_is c.requires.goes_on) (rw (c.deref.ensures.value, c.deref-2.ensures.value) at c.in-None.ensures.next)
+    (rw c.self.view_is c.requires.goes_on)
+    (rw (c.deref.ensures.value, c.deref-2.ensures.value) at c.in-None.ensures.next)
 
 pub returns-clause-among : goal.returns-clause-among
 returns-clause-among g c =
