@@ -11,7 +11,7 @@ const WANTED = { polygons: POLYGONS, lines: LINES, points: POINTS };
 const LEAST = { polygons: 3, lines: 2 };
 /** How many lists stand round a point. */
 const DEPTHS = { Point: 0, MultiPoint: 1, LineString: 1, MultiLineString: 2, Polygon: 2, MultiPolygon: 3 };
-/** So many collections may stand in one another. */
+/** The most collections that may stand in one another. */
 const NESTED = 50;
 
 /** Whether a thing is given as a geometry, and not as a list of paths. */
@@ -46,7 +46,7 @@ function* ofFeature(thing, place) {
   }
 }
 
-/** Those of a geometry, which may be a collection, in so many others. */
+/** Those of a geometry, which may be a collection. `depth` tells how many others it stands in. */
 function* ofGeometry(thing, place, depth) {
   if (!isGeometry(thing)) {
     throw new BadInput(`${place}: ${shown(thing)} is no geometry`);

@@ -54,6 +54,15 @@ fn points_of<I: Width>(memory: Memory<'_>) -> Result<Vec<IntPoint<I>, Memory<'_>
     Ok(points)
 }
 
+// Where the point at a place of these lies.
+fn expected_at(place: usize) -> PointLocation {
+    if place % 2 == 0 {
+        PointLocation::Inside
+    } else {
+        PointLocation::Outside
+    }
+}
+
 fn check_told<I: Width>(trial: &Trial<'_, impl Abort>) -> Result<(), Fail> {
     let memory = trial.memory;
     let edges = edges_of::<I>(memory)?;
@@ -70,12 +79,7 @@ fn check_told<I: Width>(trial: &Trial<'_, impl Abort>) -> Result<(), Fail> {
     };
     for (place, p) in points.iter().enumerate() {
         let location = locate_told(&shape, FillRule::NonZero, &told, place, *p);
-        let expected = if place % 2 == 0 {
-            PointLocation::Inside
-        } else {
-            PointLocation::Outside
-        };
-        assert!(trial.rt; location == expected);
+        assert!(trial.rt; location == expected_at(place));
     }
     Ok(())
 }
@@ -94,12 +98,7 @@ fn check_blocks<I: Width>(trial: &Trial<'_, impl Abort>) -> Result<(), Fail> {
     };
     for (place, p) in points_of::<I>(memory)?.iter().enumerate() {
         let location = locate(&shape, FillRule::NonZero, *p);
-        let expected = if place % 2 == 0 {
-            PointLocation::Inside
-        } else {
-            PointLocation::Outside
-        };
-        assert!(trial.rt; location == expected);
+        assert!(trial.rt; location == expected_at(place));
     }
     Ok(())
 }
@@ -124,12 +123,7 @@ fn check_contours<I: Width>(trial: &Trial<'_, impl Abort>) -> Result<(), Fail> {
         || locate_in_contours(memory, &shape, &points),
     )?;
     for (place, location) in found.iter().enumerate() {
-        let expected = if place % 2 == 0 {
-            PointLocation::Inside
-        } else {
-            PointLocation::Outside
-        };
-        assert!(trial.rt; *location == expected);
+        assert!(trial.rt; *location == expected_at(place));
     }
     Ok(())
 }

@@ -55,8 +55,7 @@ fn by_turns<I: IntNumber + From<i16>>(
 }
 
 // Along the edge (0, 0) to (9000, 9000) lie `count` others: that at x leads from (x, x + 2) to (x + 1, x + 3),
-// above it.
-// But that at x = `through` leads down to (x + 1, x), so it crosses it.
+// above it. But that at x = `through` leads down to (x + 1, x), so it crosses it.
 fn along<I: IntNumber + From<i16>>(
     alloc: Global,
     count: i16,
