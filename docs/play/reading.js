@@ -17,7 +17,7 @@ import { BadText } from "./text.js";
 
 /** The most digits behind the point that are read, where the file does not say how many it has. */
 const MOST_DIGITS = 7;
-/** So many collections may stand in one another. */
+/** The most collections that may stand in one another. */
 const NESTED = 50;
 const READ = { Polygon: "polygon", LineString: "line", Point: "point" };
 const LEAST = { polygon: 3, line: 2, point: 1 };
@@ -188,9 +188,12 @@ function valueOf(/** @type {string} */ text) {
 
 /** What the page left of its question in a drawing that it saved: digits, the command, the solver. */
 function keptIn(/** @type {any} */ member) {
-  if (typeof member !== "object" || member === null || !isNumber(member.digits)) return null;
-  const digits = floatOf(member.digits);
-  if (!Number.isInteger(digits) || digits < 0 || digits > 15) return null;
+  if (member === undefined) return null;
+  if (typeof member !== "object" || member === null) throw new BadText(`polyover: ${shown(member)} is no question`);
+  const digits = isNumber(member.digits) ? floatOf(member.digits) : NaN;
+  if (!Number.isInteger(digits) || digits < 0 || digits > 15) {
+    throw new BadText(`polyover: digits: ${shown(member.digits)} is no number of digits from 0 to 15`);
+  }
   if (typeof member.run !== "string") throw new BadText(`polyover: run: ${shown(member.run)} is no command`);
   return { digits, run: member.run, solver: member.solver, fill: member.fill };
 }

@@ -77,6 +77,21 @@ test("the page names a question in a file that is none", () => {
   }
 });
 
+test("the page names what stands in the place of a file's question, or of its digits", () => {
+  const file = (member) => `{"type": "FeatureCollection", "polyover": ${member}, "features": []}`;
+  for (const [member, said] of [
+    ["null", "polyover: null is no question"],
+    ["7", "polyover: 7 is no question"],
+    ['{"run": "relate"}', "polyover: digits: nothing is no number of digits from 0 to 15"],
+    ['{"digits": "2", "run": "relate"}', 'polyover: digits: "2" is no number of digits from 0 to 15'],
+    ['{"digits": 16, "run": "relate"}', "polyover: digits: 16 is no number of digits from 0 to 15"],
+    ['{"digits": -1, "run": "relate"}', "polyover: digits: -1 is no number of digits from 0 to 15"],
+    ['{"digits": 0.5, "run": "relate"}', "polyover: digits: 0.5 is no number of digits from 0 to 15"],
+  ]) {
+    assert.throws(() => readGeojson(file(member)), (fault) => fault instanceof BadText && fault.message === said);
+  }
+});
+
 test("the page mends a polygon whose hole sticks out by less than half a unit", () => {
   // (the point (2, 1) is 1/5 above the edge to (5, 2), which then runs through it: 1/2 more is covered)
   const outline = [[0, 0], [0, -4], [5, -4], [5, 2]];

@@ -18,7 +18,12 @@ EMPTY = "EMPTY"
 
 def number_in(word: str) -> Any:
     """The number of a word: a whole one exactly, another one as a float."""
-    return float(word) if any(sign in word for sign in ".eE") else int(word)
+    if any(sign in word for sign in ".eE"):
+        return float(word)
+    try:
+        return int(word)
+    except ValueError:
+        raise BadInput(f"no WKT: a whole number of {len(word)} signs is too long") from None
 
 
 class Words:

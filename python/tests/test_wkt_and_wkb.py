@@ -46,6 +46,7 @@ FAULTS = (
     ("POINT (1 # 2)", "no WKT: '# 2)'"),
     ("POINT (1-2)", "no WKT: '1-2)'"),
     ("POINT (0.5.25 1)", "no WKT: '0.5.25 1)'"),
+    (f"POINT (1 {'9' * 5000})", "no WKT: a whole number of 5000 signs is too long"),
     ("GEOMETRYCOLLECTION (" * 60, "more than 50 collections in one another"),
     ("", "no WKT: the end in the place of POINT"),
 )
