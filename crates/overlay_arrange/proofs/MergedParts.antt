@@ -31,7 +31,7 @@ module _ {X Y : Type 0} (gives : X → List Y → Type 0) where
       }
 
   -- what the first list gives the second gives, in another order
-  abbrev GiveAlike : List X → List X → Type 0
+  abbrev pub GiveAlike : List X → List X → Type 0
   GiveAlike xs zs = (ys : List Y) → AreGiven gives xs ys → (us : List Y) × IsPermutation ys us × AreGiven gives zs us
 
   -- with a further entry in front
@@ -51,7 +51,7 @@ module _ {X Y : Type 0} (gives : X → List Y → Type 0) where
   )
 
   -- in any other order
-  given_shuffled : (xs zs : List X) → IsPermutation xs zs → GiveAlike xs zs
+  pub given_shuffled : (xs zs : List X) → IsPermutation xs zs → GiveAlike xs zs
   given_shuffled = of_orders GiveAlike (record {
     same = λ xs ys given. (ys, IsPermutation-refl ys, given);
     on = λ xs ys zs first later us given. let mid = first us given in let end = later mid.0 mid.2 in

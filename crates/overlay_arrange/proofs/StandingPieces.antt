@@ -1,17 +1,13 @@
 -- Pieces of edges, added edge by edge to a list that stands for them: their edges and weights.
-use Rattle.std.proofs.Common.{◌≡◌, ℕ, ◌+◌, ◌≤◌, ◌<◌, ◌^◌, List, [], ◌∷◌, ◌++◌, map, length, refl, sym, ap, ap₂, ◌∙◌}
-use Rattle.std.proofs.Common.{subst, arith}
+use Rattle.std.proofs.Common.{◌≡◌, List, [], ◌∷◌, ◌++◌, map, length, refl, ap, ap₂, ◌∙◌}
 use Rattle.std.specs.Prelude.{◌↔◌}
 use Rattle.std.specs.List.{flat_map}
 use Rattle.std.proofs.lemmas.List.{map-append}
-use Rattle.std.proofs.lemmas.List.Sums.{sum_by-append}
-use Rattle.overlay_geom.specs.Edges.{CountedEdge, weight}
 use Rattle.overlay_geom.specs.Plane.{Point, Step, steps_through}
-use Rattle.overlay_geom.proofs.Weights.{edge_weight}
 use Rattle.overlay_plane.specs.Carried.{Carried, edges_in}
 use Rattle.overlay_plane.specs.Cutting.{piece_along, pieces_through}
 use Rattle.overlay_plane.specs.DerivedData.{AreCutAlong, AreGiven, none, next, ArePieces, GivesPiece}
-use Rattle.overlay_arrange.specs.Batches.{AddsJoined, AreJoinedPieces}
+use Rattle.overlay_arrange.specs.Batches.{AddsJoined}
 use Rattle.overlay_arrange.specs.Cut.{chain_by, LeadingPoints, StaysWhole}
 use Rattle.overlay_arrange.proofs.CarriedPieces.{adds_all, pieces_added}
 
@@ -36,37 +32,6 @@ module _ {C : Type 0} (splits reverses : C → C → Type 0) where
       ∙ ap₂ (λ es fs. es ++ fs) (edges_of_pieces (length (chain_by points x.edge) ≡ 1) x here)
       (edges_of_cut points more)
 
--- ---- weights
-
--- a list weighs what its two parts weigh
-weight_both : (es fs : List CountedEdge) → weight (es ++ fs) ≡ weight es + weight fs
-weight_both es fs = sum_by-append edge_weight es fs
-
-module _ (points : LeadingPoints) (es rest : List CountedEdge) (e : CountedEdge) (begins : es ≡ e ∷ rest)
-    (steps : List Step) (chain : steps ≡ chain_by points e) (old : List CountedEdge) (was total : ℕ)
-    (all : weight old + weight (flat_map (pieces_through points) es) + was ≡ total) where
-  -- the pieces of the first edge are among those of all
-  with_first : weight (old ++ map (piece_along e) steps) + weight (flat_map (pieces_through points) rest) + was ≡ total
-  with_first =
-      let split : weight (flat_map (pieces_through points) es)
-      ≡ weight (pieces_through points e) + weight (flat_map (pieces_through points) rest) =
-      ap (λ (fs : List CountedEdge). weight (flat_map (pieces_through points) fs)) begins
-      ∙ weight_both (pieces_through points e) (flat_map (pieces_through points) rest) in
-      let here = weight_both old (map (piece_along e) steps) in
-      let same : weight (map (piece_along e) steps) ≡ weight (pieces_through points e) =
-      ap (λ (ss : List Step). weight (map (piece_along e) ss)) chain in
-      omega (arith, split, here, same, all)
-
-  -- once they are added the others are left
-  pub weighed_on : (new : List CountedEdge) (now : ℕ) →
-      weight new + now ≡ weight (old ++ map (piece_along e) steps) + was →
-      weight new + weight (flat_map (pieces_through points) rest) + now ≡ total
-  weighed_on new now added = let first = with_first in omega (arith, first, added)
-
-  -- where they are heavy, so are all
-  pub heavy_among : (limit : ℕ) → limit ≤ weight (old ++ map (piece_along e) steps) + was → limit ≤ total
-  heavy_among limit heavy = let first = with_first in omega (arith, first, heavy)
-
 -- ---- values
 
 module _ {C : Type 0} (merges : C → C → C → Type 0) (splits reverses : C → C → Type 0) (points : LeadingPoints) where
@@ -84,18 +49,3 @@ module _ {C : Type 0} (merges : C → C → C → Type 0) (splits reverses : C �
         (record { more = adds.more; given = adds.given; added = refl }));
     stands = adds.stands;
   }
-
-  -- pieces added to nothing are those of all edges
-  pub all_joined : {xs new : List (Carried C)} →
-      AddsJoined merges (ArePieces splits reverses (chain_by points)) xs [] new →
-      weight (flat_map (pieces_through points) (edges_in xs)) < 2 ^ 31 →
-      AreJoinedPieces merges splits reverses points xs new
-  all_joined {xs} {new} adds light =
-      let edges = edges_of_cut splits reverses points adds.given in
-      record {
-        pieces = adds.more;
-        edges = edges;
-        carried = adds.given;
-        light = subst (λ (es : List CountedEdge). weight es < 2 ^ 31) (sym edges) light;
-        stands = adds.stands;
-      }

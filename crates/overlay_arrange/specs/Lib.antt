@@ -1,7 +1,11 @@
 pub mod Batches
 pub mod Cut
 pub mod HotPoints
+pub mod LineParts
 pub mod Meetings
+pub mod PartedContents
+pub mod Parting
+pub mod Parts
 pub mod PixelRuns
 pub mod Runs
 pub mod Snapping

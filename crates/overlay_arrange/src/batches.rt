@@ -1,6 +1,7 @@
 //! Pieces of edges, gathered edge by edge. Where they are many, equal pieces are joined on the way, in batches.
 
-ghost use Rattle.std.specs.Prelude.{◌≡◌, ◌⊎◌, ◌+◌, ◌^◌, ◌<◌, ◌≤◌, ◌++◌, ◌∷◌, [], map, IfOk, IfErr, OnOk, IsErrOf};
+ghost use Rattle.std.specs.Prelude.{◌≡◌, ◌⊎◌, ◌+◌, ◌^◌, ◌<◌, ◌≤◌, ◌++◌, ◌∷◌, [], map, length};
+ghost use Rattle.std.specs.Prelude.{◌*◌, slice_index_or, IfOk, IfErr, OnOk, IsErrOf};
 ghost use Rattle.overlay_geom.specs.Counts.{weight_of_counts};
 ghost use Rattle.overlay_geom.specs.Edges.{weight};
 ghost use Rattle.overlay_geom.specs.Plane.{steps_through};
@@ -25,13 +26,15 @@ use std::alloc::{AllocError, Allocator};
 
 // How many times as long a list with few equal pieces may grow before they are joined again.
 const MOST_GROWTH: usize = 8;
+// Weight of pieces that are too many.
+const HEAVY: u64 = 1 << 31;
 
 /// Pieces of edges. Equal pieces may be joined.
 #[derive(Drop)]
 pub(crate) struct Pieces<I: IntNumber, C: EdgeCount, A: Allocator> {
     /// The pieces.
     pub content: Content<I, C, A>,
-    /// The weight that joining took away.
+    /// The weight that joining took away, and the weight of edges that pieces stand for.
     pub away: u32,
     /// Least number of pieces from which on equal ones are joined.
     pub least: usize,
@@ -53,13 +56,14 @@ impl<I: IntNumber, C: EdgeCount, A: Allocator + Clone> Pieces<I, C, A> {
         })
     }
 
-    /// Adds the pieces of an edge along the chain from its smaller to its larger end through the points. Then it joins
-    /// equal pieces, if there are many pieces.
+    /// Adds the pieces of an edge along the chain from its smaller to its larger end through the points. Each piece
+    /// stands for edges that weigh `hidden` more. Then it joins equal pieces, if there are many pieces.
     #[tactic(auto, using(crate::proofs::ReachedStores::never_written))]
     pub(crate) fn add(
         &mut self,
         e: &CountedEdge<I, C>,
         points: &[IntPoint<I>],
+        hidden: u32,
         store: &mut C::Store,
     ) -> Result<(), OverlayError>
         requires held { IsHeld I.limit (plain_edge I.whole C.counts e.now) }
@@ -73,20 +77,42 @@ impl<I: IntNumber, C: EdgeCount, A: Allocator + Clone> Pieces<I, C, A> {
         ensures weighed { let whole = plain_edge I.whole C.counts e.now in
             OnOk result (weight (edges_in self.new.content) + self.new.away ≡ weight (edges_in self.old.content
             ++ map (piece_along whole) (steps_through whole.a (plain_points I.whole points.now ++ whole.b ∷ [])))
-            + self.old.away) }
+            + self.old.away
+            + hidden * length (steps_through whole.a (plain_points I.whole points.now ++ whole.b ∷ []))) }
         ensures light { OnOk result (weight (edges_in self.new.content) + self.new.away < 2 ^ 31) }
         ensures store { IsStoreReached C.writes store.old store.new }
         ensures too_many { let whole = plain_edge I.whole C.counts e.now in
             IsErrOf result OverlayError.TooManyEdges → 2 ^ 31 ≤ weight (edges_in self.old.content
             ++ map (piece_along whole) (steps_through whole.a (plain_points I.whole points.now ++ whole.b ∷ [])))
-            + self.old.away }
+            + self.old.away
+            + hidden * length (steps_through whole.a (plain_points I.whole points.now ++ whole.b ∷ [])) }
         ensures only { IfErr result (λ e. (e ≡ OverlayError.Memory) ⊎ (e ≡ OverlayError.TooManyEdges)) }
     {
+        let count = self.content.len();
         push_pieces(&mut self.content, e, points, store)?;
+        let added = self.content.len() - count;
+        self.put_away(hidden, added)?;
         if reaches_limit(self.content.weight(), self.away) {
             return Err(OverlayError::TooManyEdges);
         }
         self.join_if_many(store)?;
+        Ok(())
+    }
+
+    /// Counts the hidden weight of some pieces of an edge as taken away.
+    fn put_away(&mut self, hidden: u32, count: usize) -> Result<(), OverlayError>
+        ensures pieces { self.new.content ≡ self.old.content }
+        ensures ok { OnOk result (self.new.away ≡ self.old.away + hidden * count) }
+        ensures too_many { IsErrOf result OverlayError.TooManyEdges → 2 ^ 31 ≤ self.old.away + hidden * count }
+        ensures only { IfErr result (λ e. e ≡ OverlayError.TooManyEdges) }
+    {
+        let weight = (hidden as u64)
+            .saturating_mul(count as u64)
+            .saturating_add(self.away as u64);
+        if weight >= HEAVY {
+            return Err(OverlayError::TooManyEdges);
+        }
+        self.away = weight as u32;
         Ok(())
     }
 
@@ -109,4 +135,11 @@ impl<I: IntNumber, C: EdgeCount, A: Allocator + Clone> Pieces<I, C, A> {
         self.most = next_limit(count, self.content.len(), self.least, MOST_GROWTH);
         Ok(())
     }
+}
+
+/// Returns the hidden weight of the edge at place i, or 0 where no edge has any.
+pub(crate) fn hidden_at(hidden: &[u32], i: usize) -> u32
+    ensures { result ≡ slice_index_or hidden.now i 0 }
+{
+    if i < hidden.len() { hidden[i] } else { 0 }
 }

@@ -25,13 +25,14 @@ use std::alloc::{AllocError, Allocator};
 
 /// Adds the whole points through which the edges e at place i and f at place j lead each other. Collinear edges give
 /// the ends of each on the other; crossing edges give the point nearest to the crossing. Returns whether the edges are
-/// open: they meet elsewhere than in ends.
+/// open: they meet elsewhere than in ends. It counts pairs of edges that overlap.
 pub(crate) fn push_meetings<I: IntNumber, C: EdgeCount, A: Allocator>(
     meetings: &mut Vec<Meeting<I>, A>,
     i: usize,
     e: &CountedEdge<I, C>,
     j: usize,
     f: &CountedEdge<I, C>,
+    overlaps: &mut usize,
 ) -> Result<bool, AllocError>
     requires one { IsHeld I.limit (plain_edge I.whole C.counts e.now) }
     requires other { IsHeld I.limit (plain_edge I.whole C.counts f.now) }
@@ -41,19 +42,21 @@ pub(crate) fn push_meetings<I: IntNumber, C: EdgeCount, A: Allocator>(
         ↔ AreSettled (plain_edge I.whole C.counts e.now) (plain_edge I.whole C.counts f.now)) }
 {
     match place_by(e, f) {
-        Place::Along => push_along(meetings, i, e, j, f),
+        Place::Along => push_along(meetings, i, e, j, f, overlaps),
         Place::Beside => Ok(false),
         Place::Across => push_across(meetings, i, e, j, f),
     }
 }
 
-/// Adds the ends of each of two collinear edges that lie on the other edge. Returns whether the edges are open.
+/// Adds the ends of each of two collinear edges that lie on the other edge. Returns whether the edges are open, and
+/// counts them if they are.
 fn push_along<I: IntNumber, C: EdgeCount, A: Allocator>(
     meetings: &mut Vec<Meeting<I>, A>,
     i: usize,
     e: &CountedEdge<I, C>,
     j: usize,
     f: &CountedEdge<I, C>,
+    overlaps: &mut usize,
 ) -> Result<bool, AllocError>
     requires one { IsHeld I.limit (plain_edge I.whole C.counts e.now) }
     requires other { IsHeld I.limit (plain_edge I.whole C.counts f.now) }
@@ -67,6 +70,7 @@ fn push_along<I: IntNumber, C: EdgeCount, A: Allocator>(
     if meet_in_ends(e, f) {
         return Ok(false);
     }
+    *overlaps = overlaps.saturating_add(1);
     push_ends(meetings, i, e, j, f)?;
     Ok(true)
 }

@@ -1,7 +1,7 @@
 //! Cutting: each edge becomes the pieces of a chain through whole points. These are its meeting points, or the hot
 //! points whose pixels it meets.
 
-ghost use Rattle.std.specs.Prelude.{◌≡◌, ◌⊎◌, ◌↔◌, ◌^◌, ◌<◌, ◌≤◌, ◌++◌, ◌∷◌, [], IsTrue, All, flat_map};
+ghost use Rattle.std.specs.Prelude.{◌≡◌, ◌⊎◌, ◌↔◌, ◌^◌, ◌<◌, ◌≤◌, ◌++◌, ◌∷◌, [], IsTrue};
 ghost use Rattle.std.specs.Prelude.{false, map, IfOk, IfErr, OnOk, OnErr, IsErrOf};
 ghost use Rattle.std.specs.Prelude.{MatchBool, option_map, option_to_list, cond, int_le, int_lt};
 ghost use Rattle.std.specs.Ordering.{is_lt};
@@ -10,20 +10,20 @@ ghost use Rattle.overlay_geom.specs.Edges.{ends_of, weight};
 ghost use Rattle.overlay_geom.specs.Plane.{steps_between, steps_through};
 ghost use Rattle.overlay_geom.specs.Points.{plain_point, plain_points, InRange, AllInRange};
 ghost use Rattle.overlay_plane.specs.Carried.{edges_in};
-ghost use Rattle.overlay_plane.specs.CutPoints.{comes_first, cut_edges, cut_points};
-ghost use Rattle.overlay_plane.specs.Cutting.{piece_along, pieces_through};
+ghost use Rattle.overlay_plane.specs.CutPoints.{comes_first, cut_points};
+ghost use Rattle.overlay_plane.specs.Cutting.{piece_along};
 ghost use Rattle.overlay_plane.specs.DerivedData.{AreGiven, GivesPiece};
 ghost use Rattle.overlay_plane.specs.InOrder.{in_order};
 ghost use Rattle.overlay_plane.specs.Meetings.{MeetInWholePoints};
 ghost use Rattle.overlay_order.specs.Content.{plain_edge, plain_edges, carried_edge, carried_edges};
 ghost use Rattle.overlay_order.specs.Content.{IsHeld, IsContent, IsAscending};
-ghost use Rattle.overlay_arrange.specs.Batches.{AreJoinedPieces};
 ghost use Rattle.overlay_arrange.specs.Cut.{AddsGiven, LeadingPoints, StaysWhole};
 ghost use Rattle.overlay_arrange.specs.Meetings.{plain_meetings, AreByPlace, AreInRange, AreLedAlong, AreMeetings};
 ghost use Rattle.overlay_arrange.specs.Meetings.{ArePointsAt};
+ghost use Rattle.overlay_arrange.specs.Parting.{cover_weight, covered, AreJoinedParts};
 ghost use Rattle.overlay_arrange.specs.Stores.{IsStoreReached};
 
-use crate::batches::Pieces;
+use crate::batches::{Pieces, hidden_at};
 use crate::content::Content;
 use crate::crossing::is_end_of;
 use crate::limits::first_limit;
@@ -47,24 +47,26 @@ impl<I: IntNumber, C: EdgeCount, A: Allocator> Content<I, C, A> {
     pub(crate) fn cut_at(
         &mut self,
         meetings: Vec<Meeting<I>, A>,
+        hidden: &[u32],
         store: &mut C::Store,
     ) -> Result<(bool, Self), OverlayError>
     where
         A: Clone,
         requires ascending { IsAscending (edges_in self.old) }
         requires meetings { AreMeetings (edges_in self.old) (plain_meetings I.whole meetings.items) }
-        ensures ok { OnOk result (AreJoinedPieces C.merges C.splits C.reverses
-            (cut_points (edges_in self.old)) self.old self.new) }
+        ensures ok { OnOk result (AreJoinedParts C.merges C.splits C.reverses
+            (cut_points (edges_in self.old)) (covered self.old hidden.now) self.new) }
         ensures rounded { IfOk result (λ cut.
             (cut.0 ≡ false) ↔ MeetInWholePoints (edges_in self.old)) }
         ensures before { IfOk result (λ cut. edges_in cut.1 ≡ edges_in self.old) }
         ensures err { OnErr result (self.new ≡ self.old) }
         ensures store { IsStoreReached C.writes store.old store.new }
-        ensures too_many { IsErrOf result OverlayError.TooManyEdges → 2 ^ 31 ≤ weight (cut_edges (edges_in self.old)) }
+        ensures too_many { IsErrOf result OverlayError.TooManyEdges
+            → 2 ^ 31 ≤ cover_weight (cut_points (edges_in self.old)) (covered self.old hidden.now) }
         ensures only { IfErr result (λ e. (e ≡ OverlayError.Memory) ⊎ (e ≡ OverlayError.TooManyEdges)) }
     {
         let is_whole = are_whole(self.edges(), &meetings);
-        let before = self.cut_through(meetings, store)?;
+        let before = self.cut_through(meetings, hidden, store)?;
         Ok((!is_whole, before))
     }
 
@@ -74,23 +76,25 @@ impl<I: IntNumber, C: EdgeCount, A: Allocator> Content<I, C, A> {
     pub(crate) fn cut_through(
         &mut self,
         mut meetings: Vec<Meeting<I>, A>,
+        hidden: &[u32],
         store: &mut C::Store,
     ) -> Result<Self, OverlayError>
     where
         A: Clone,
         requires ascending { IsAscending (edges_in self.old) }
         requires meetings { AreMeetings (edges_in self.old) (plain_meetings I.whole meetings.items) }
-        ensures ok { OnOk result (AreJoinedPieces C.merges C.splits C.reverses
-            (cut_points (edges_in self.old)) self.old self.new) }
+        ensures ok { OnOk result (AreJoinedParts C.merges C.splits C.reverses
+            (cut_points (edges_in self.old)) (covered self.old hidden.now) self.new) }
         ensures before { IfOk result (λ before. edges_in before ≡ edges_in self.old) }
         ensures err { OnErr result (self.new ≡ self.old) }
         ensures store { IsStoreReached C.writes store.old store.new }
-        ensures too_many { IsErrOf result OverlayError.TooManyEdges → 2 ^ 31 ≤ weight (cut_edges (edges_in self.old)) }
+        ensures too_many { IsErrOf result OverlayError.TooManyEdges
+            → 2 ^ 31 ≤ cover_weight (cut_points (edges_in self.old)) (covered self.old hidden.now) }
         ensures only { IfErr result (λ e. (e ≡ OverlayError.Memory) ⊎ (e ≡ OverlayError.TooManyEdges)) }
     {
         sort_meetings(&mut meetings, self.edges())?;
         let alloc = self.allocator().clone()?;
-        let pieces = cut_edges(alloc, self.edges(), &meetings, store)?;
+        let pieces = cut_edges(alloc, self.edges(), &meetings, hidden, store)?;
         let before = mem::replace(self, pieces);
         Ok(before)
     }
@@ -103,6 +107,7 @@ fn cut_edges<I: IntNumber, C: EdgeCount, A: Allocator + Clone>(
     alloc: A,
     edges: &[CountedEdge<I, C>],
     meetings: &[Meeting<I>],
+    hidden: &[u32],
     store: &mut C::Store,
 ) -> Result<Content<I, C, A>, OverlayError>
     requires content { IsContent I.limit (plain_edges I.whole C.counts edges.now) }
@@ -110,12 +115,13 @@ fn cut_edges<I: IntNumber, C: EdgeCount, A: Allocator + Clone>(
     requires order { AreByPlace (plain_meetings I.whole meetings.now) }
     ensures ok { let es = plain_edges I.whole C.counts edges.now in
         IfOk result (λ cut. (points : LeadingPoints) → AreLedAlong es (plain_meetings I.whole meetings.now) points
-        → AreJoinedPieces C.merges C.splits C.reverses points (carried_edges I.whole C.counts edges.now) cut) }
+        → AreJoinedParts C.merges C.splits C.reverses points
+        (covered (carried_edges I.whole C.counts edges.now) hidden.now) cut) }
     ensures store { IsStoreReached C.writes store.old store.new }
     ensures too_many { let es = plain_edges I.whole C.counts edges.now in
         IsErrOf result OverlayError.TooManyEdges
         → (points : LeadingPoints) → AreLedAlong es (plain_meetings I.whole meetings.now) points
-        → 2 ^ 31 ≤ weight (flat_map (pieces_through points) es) }
+        → 2 ^ 31 ≤ cover_weight points (covered (carried_edges I.whole C.counts edges.now) hidden.now) }
     ensures only { IfErr result (λ e. (e ≡ OverlayError.Memory) ⊎ (e ≡ OverlayError.TooManyEdges)) }
 {
     // (each meeting makes one piece more at most)
@@ -125,7 +131,7 @@ fn cut_edges<I: IntNumber, C: EdgeCount, A: Allocator + Clone>(
     let mut near = 0;
     for (i, e) in edges.iter().enumerate() {
         put_points_at(&mut points, meetings, &mut near, i, e)?;
-        pieces.add(e, &points, store)?;
+        pieces.add(e, &points, hidden_at(hidden, i), store)?;
     }
     Ok(pieces.content)
 }

@@ -10,6 +10,8 @@ mod hot;
 mod limits;
 mod meetings;
 mod merge;
+mod parting;
+mod parts;
 mod pixel;
 mod pixel_runs;
 mod repeats;

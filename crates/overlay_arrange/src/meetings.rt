@@ -1,7 +1,7 @@
 //! The whole points through which the edges of a list lead each other, gathered pair by pair.
 
-ghost use Rattle.std.specs.Prelude.{◌≡◌, ◌+◌, ◌<◌, ◌≤◌, true, false, length, nat_le, nat_lt};
-ghost use Rattle.std.specs.Prelude.{All, IfOk, IfSome, OnOk};
+ghost use Rattle.std.specs.Prelude.{◌≡◌, ◌+◌, ◌^◌, ◌<◌, ◌≤◌, true, false, length, nat_le, nat_lt};
+ghost use Rattle.std.specs.Prelude.{All, None, IfOk, IfSome, IsTrue, OnOk};
 ghost use Rattle.std.specs.List.{AllWithin};
 ghost use Rattle.std.specs.List.Sorted.{IsPartitionPoint, IsPermutation};
 ghost use Rattle.overlay_order.specs.Content.{plain_edges, IsHeld, IsAscending};
@@ -33,38 +33,55 @@ pub(crate) struct Meeting<I> {
     pub point: IntPoint<I>,
 }
 
-/// Returns the whole points through which the edges lead each other, in no order, and marks of open edges. Two edges
-/// that are not open meet in ends alone. An edge's own ends may be missing, since they change nothing. The edges
-/// ascend, and those before the place `from` meet each later edge in ends alone. Where the changed edges are known,
-/// pairs of unchanged edges are not tested.
+/// Meetings of a list of edges, and marks of its open edges.
+pub(crate) type Gathered<I, A> = (Vec<Meeting<I>, A>, Vec<bool, A>);
+
+/// Returns the whole points through which the edges lead each other, in no order, and marks of open edges. The result
+/// is None where more than `most_overlaps` pairs of edges overlap. Two edges that are not open meet in ends alone. An
+/// edge's own ends may be missing, since they change nothing. The edges ascend, and those before the place `from` meet
+/// each later edge in ends alone. Where the changed edges are known, pairs of unchanged edges are not tested.
 pub(crate) fn gather<I: IntNumber, C: EdgeCount, A: Allocator + Clone>(
     alloc: A,
     edges: &[CountedEdge<I, C>],
     strips: &Option<Strips<I, A>>,
     changed: &Option<Changed<I, C, A>>,
     from: usize,
-) -> Result<(Vec<Meeting<I>, A>, Vec<bool, A>), AllocError>
+    most_overlaps: usize,
+) -> Result<Option<Gathered<I, A>>, AllocError>
     requires held { All (IsHeld I.limit) (plain_edges I.whole C.counts edges.now) }
     requires ascending { IsAscending (plain_edges I.whole C.counts edges.now) }
     requires strips { IfSome strips.now (AreHeldStripsOf I.whole I.limit (plain_edges I.whole C.counts edges.now)) }
     requires changed { IfSome changed.now
         (AreHeldChangesOf I.whole C.counts I.limit (plain_edges I.whole C.counts edges.now)) }
     requires settled { AreSettledBefore (plain_edges I.whole C.counts edges.now) from }
-    ensures ok { IfOk result (λ gathered. AreMeetings
-        (plain_edges I.whole C.counts edges.now) (plain_meetings I.whole gathered.0.items)) }
-    ensures open { IfOk result (λ gathered. AreOpenIn (plain_edges I.whole C.counts edges.now) gathered.1.items) }
+    ensures ok { IfOk result (λ found. IfSome found (λ gathered. AreMeetings
+        (plain_edges I.whole C.counts edges.now) (plain_meetings I.whole gathered.0.items))) }
+    ensures open { IfOk result (λ found. IfSome found (λ gathered.
+        AreOpenIn (plain_edges I.whole C.counts edges.now) gathered.1.items)) }
+    ensures many { IfOk result (λ found. (found ≡ None) → most_overlaps + 1 < 2 ^ 64) }
 {
     let mut near = Vec::new(alloc.clone()?);
     let mut is_open = Vec::new(alloc.clone()?);
     is_open.resize(edges.len(), false)?;
     let mut meetings = Vec::new(alloc);
     let mut most = first_limit(edges.len());
+    let mut overlaps = 0;
     for i in from..edges.len() {
         find_open(&mut near, edges, strips, changed, i)?;
-        gather_from(&mut meetings, &mut is_open, edges, i, &near)?;
+        gather_from(&mut meetings, &mut is_open, edges, i, &near, &mut overlaps)?;
+        if is_more(overlaps, most_overlaps) {
+            return Ok(None);
+        }
         most = drop_repeats_from(&mut meetings, most)?;
     }
-    Ok((meetings, is_open))
+    Ok(Some((meetings, is_open)))
+}
+
+/// Returns whether the count is more than a limit.
+fn is_more(count: usize, most: usize) -> bool
+    ensures { IsTrue result → most + 1 < 2 ^ 64 }
+{
+    most < count
 }
 
 /// Adds the points through which the edge at place i and the later edges lead each other, and marks open edges. It may
@@ -75,6 +92,7 @@ fn gather_from<I: IntNumber, C: EdgeCount, A: Allocator>(
     edges: &[CountedEdge<I, C>],
     i: usize,
     near: &[usize],
+    overlaps: &mut usize,
 ) -> Result<(), AllocError>
     requires held { All (IsHeld I.limit) (plain_edges I.whole C.counts edges.now) }
     requires ascending { IsAscending (plain_edges I.whole C.counts edges.now) }
@@ -91,7 +109,7 @@ fn gather_from<I: IntNumber, C: EdgeCount, A: Allocator>(
     for k in 0..near.len() {
         let j = near[k];
         let f = &edges[j];
-        if push_meetings(meetings, i, &e, j, f)? {
+        if push_meetings(meetings, i, &e, j, f, overlaps)? {
             mark_open(is_open, i, j);
         }
     }

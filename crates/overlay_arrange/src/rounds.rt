@@ -1,8 +1,9 @@
 //! Splitting: rounds of merging and cutting, until edges meet in ends alone, or one snap.
 
 ghost use Rattle.std.specs.Prelude.{◌≡◌, ◌≢◌, ◌↔◌, ◌^◌, false, []};
-ghost use Rattle.std.specs.Prelude.{Err, None, IfOk, IfErr, IfSome, OnOk, IsErrOf};
+ghost use Rattle.std.specs.Prelude.{Err, None, Some, IfOk, IfErr, IfSome, OnOk, IsErrOf};
 ghost use Rattle.overlay_order.specs.Content.{IsAscending, IsContent};
+ghost use Rattle.overlay_order.specs.Parting.{MayPart};
 ghost use Rattle.overlay_pairs.specs.Changed.{AreOpenIn};
 ghost use Rattle.overlay_graph.specs.Arranged.{IsArranged, IsArrangedCarrying, IsSplitCarrying};
 ghost use Rattle.overlay_graph.specs.Arranged.{MayRefuseSplitting};
@@ -14,7 +15,8 @@ ghost use Rattle.overlay_plane.specs.Carried.{edges_in};
 ghost use Rattle.overlay_plane.specs.Arrangements.{IsReachedBy, IsSplit, StaysUnsettled, WeighsTooMuch};
 
 use crate::content::Content;
-use crate::meetings::{Meeting, gather};
+use crate::limits::most_overlaps;
+use crate::meetings::{Gathered, gather};
 use crate::settling::{Settling, changes_since};
 use overlay_geom::error::OverlayError;
 use overlay_geom::number::IntNumber;
@@ -99,36 +101,39 @@ impl<I: IntNumber, C: EdgeCount, A: Allocator + Clone> Content<I, C, A> {
         ensures usable { result ≢ Err OverlayError.Failed }
     {
         self.merge_runs(store)?;
-        let Some((meetings, is_open)) = self.open_meetings(before)? else {
+        let Some(gathered) = self.open_meetings(before)? else {
             return Ok(false);
         };
         if rounds == 0 {
             return Err(OverlayError::NotSettled);
         }
-        let (is_rounded, edges) = self.cut_at(meetings, store)?;
+        let meetings = self.meetings_of(gathered, store)?;
+        let is_open = meetings.is_open;
+        let (is_rounded, edges) = self.cut_at(meetings.all, &meetings.hidden, store)?;
         if is_rounded {
             self.split_since(rounds - 1, Some(Settling { edges, is_open }), store)?;
-        } else {
-            // (no point was rounded, so the pieces meet in ends alone)
-            self.merge_runs(store)?;
+            return Ok(true);
         }
+        // (no point was rounded, so the pieces meet in ends alone)
+        self.merge_runs(store)?;
         Ok(true)
     }
 
-    /// Returns the whole points through which the edges lead each other, and marks of open edges. Returns None where
-    /// any two different edges meet in ends alone. The record of the list before is dropped. The edges ascend, as they
-    /// do once merged.
+    /// Returns the whole points through which the edges lead each other, and marks of open edges; or neither where many
+    /// edges overlap, so that they are parted first. Returns None where any two different edges meet in ends alone. The
+    /// record of the list before is dropped. The edges ascend, as they do once merged.
     pub(crate) fn open_meetings(
         &self,
         before: Option<Settling<I, C, A>>,
-    ) -> Result<Option<(Vec<Meeting<I>, A>, Vec<bool, A>)>, AllocError>
+    ) -> Result<Option<Option<Gathered<I, A>>>, AllocError>
         requires ascending { IsAscending (edges_in self.now) }
         requires before { IfSome before (λ s. AreOpenIn (edges_in s.edges) s.is_open.items) }
         ensures settled { IfOk result (λ found. (found ≡ None) ↔ IsSettled (edges_in self.now)) }
-        ensures ok { IfOk result (λ found. IfSome found (λ gathered.
-            AreMeetings (edges_in self.now) (plain_meetings I.whole gathered.0.items))) }
-        ensures open { IfOk result (λ found. IfSome found (λ gathered.
-            AreOpenIn (edges_in self.now) gathered.1.items)) }
+        ensures ok { IfOk result (λ found. IfSome found (λ gathered. IfSome gathered (λ g.
+            AreMeetings (edges_in self.now) (plain_meetings I.whole g.0.items)))) }
+        ensures open { IfOk result (λ found. IfSome found (λ gathered. IfSome gathered (λ g.
+            AreOpenIn (edges_in self.now) g.1.items))) }
+        ensures may { IfOk result (λ found. found ≡ Some None → MayPart C.merges C.splits C.reverses) }
     {
         let edges = self.edges();
         let changed = changes_since(self.allocator().clone()?, edges, &before)?;
@@ -138,7 +143,14 @@ impl<I: IntNumber, C: EdgeCount, A: Allocator + Clone> Content<I, C, A> {
             return Ok(None);
         }
         // (the edges before `count` meet all others in ends alone, and such meetings change nothing)
-        let gathered = gather(self.allocator().clone()?, edges, &strips, &changed, count)?;
+        let gathered = gather(
+            self.allocator().clone()?,
+            edges,
+            &strips,
+            &changed,
+            count,
+            most_overlaps::<C>(edges.len()),
+        )?;
         Ok(Some(gathered))
     }
 }

@@ -1,18 +1,17 @@
 //! The whole points through which snap rounding leads the edges of a list: the hot points whose pixels they meet.
 
-ghost use Rattle.std.specs.Prelude.{◌≡◌, ◌⊎◌, ◌+◌, ◌^◌, ◌<◌, ◌≤◌, All, length, IsTrue, false};
+ghost use Rattle.std.specs.Prelude.{◌≡◌, ◌⊎◌, ◌+◌, ◌^◌, ◌<◌, ◌≤◌, length, IsTrue, false};
 ghost use Rattle.std.specs.Prelude.{slice_range, IfOk, IfErr, IsErrOf, OnOk};
-ghost use Rattle.overlay_geom.specs.Edges.{weight};
 ghost use Rattle.overlay_geom.specs.Points.{plain_points};
-ghost use Rattle.overlay_plane.specs.SnapPoints.{snap_points, snapped_edges};
+ghost use Rattle.overlay_plane.specs.SnapPoints.{snap_points};
 ghost use Rattle.overlay_order.specs.Content.{carried_edges, plain_edge, plain_edges, IsContent, IsHeld};
 ghost use Rattle.overlay_pairs.specs.PointStrips.{AreStripsOf};
-ghost use Rattle.overlay_arrange.specs.Batches.{AreJoinedPieces};
 ghost use Rattle.overlay_arrange.specs.HotPoints.{AreHotPoints, AreLeftBefore, AreMetAmong, AreMetInside};
 ghost use Rattle.overlay_arrange.specs.HotPoints.{ArePointsAscending, AreRightFrom, AreStripsIfAny};
+ghost use Rattle.overlay_arrange.specs.Parting.{cover_weight, covered, AreJoinedParts};
 ghost use Rattle.overlay_arrange.specs.Stores.{IsStoreReached};
 
-use crate::batches::Pieces;
+use crate::batches::{Pieces, hidden_at};
 use crate::content::Content;
 use crate::course::course_of;
 use crate::cut::sort_along;
@@ -43,15 +42,18 @@ pub(crate) fn snap_edges<I: IntNumber, C: EdgeCount, A: Allocator + Clone>(
     alloc: A,
     edges: &[CountedEdge<I, C>],
     hot: &[IntPoint<I>],
+    hidden: &[u32],
     store: &mut C::Store,
 ) -> Result<Content<I, C, A>, OverlayError>
     requires content { IsContent I.limit (plain_edges I.whole C.counts edges.now) }
     requires hot { AreHotPoints (plain_edges I.whole C.counts edges.now) (plain_points I.whole hot.now) }
-    ensures ok { IfOk result (λ led. AreJoinedPieces C.merges C.splits C.reverses
-        (snap_points (plain_edges I.whole C.counts edges.now)) (carried_edges I.whole C.counts edges.now) led) }
+    ensures ok { IfOk result (λ led. AreJoinedParts C.merges C.splits C.reverses
+        (snap_points (plain_edges I.whole C.counts edges.now))
+        (covered (carried_edges I.whole C.counts edges.now) hidden.now) led) }
     ensures store { IsStoreReached C.writes store.old store.new }
     ensures too_many { IsErrOf result OverlayError.TooManyEdges
-        → 2 ^ 31 ≤ weight (snapped_edges (plain_edges I.whole C.counts edges.now)) }
+        → 2 ^ 31 ≤ cover_weight (snap_points (plain_edges I.whole C.counts edges.now))
+        (covered (carried_edges I.whole C.counts edges.now) hidden.now) }
     ensures only { IfErr result (λ e. (e ≡ OverlayError.Memory) ⊎ (e ≡ OverlayError.TooManyEdges)) }
 {
     // (a quarter as wide as strips of edges)
@@ -69,7 +71,7 @@ pub(crate) fn snap_edges<I: IntNumber, C: EdgeCount, A: Allocator + Clone>(
         spare = spare_behind(spare, !strips.is_empty(), points.len());
         keep_met(&mut points, e);
         sort_along(&mut points, e)?;
-        pieces.add(e, &points, store)?;
+        pieces.add(e, &points, hidden_at(hidden, i), store)?;
     }
     Ok(pieces.content)
 }

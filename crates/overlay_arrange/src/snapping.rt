@@ -10,7 +10,7 @@ ghost use Rattle.overlay_order.specs.Content.{IsAscending, IsContent};
 ghost use Rattle.overlay_graph.specs.Arranged.{IsSplitCarrying};
 ghost use Rattle.overlay_arrange.specs.HotPoints.{AreHotPoints};
 ghost use Rattle.overlay_arrange.specs.Meetings.{plain_meetings, AreMeetings};
-ghost use Rattle.overlay_arrange.specs.Snapping.{AreHeavyPieces, IsLedOnce};
+ghost use Rattle.overlay_arrange.specs.Snapping.{ArePartsLedHeavy, ArePartsLedOnce};
 ghost use Rattle.overlay_arrange.specs.Stores.{IsStoreReached};
 
 use crate::content::Content;
@@ -43,10 +43,11 @@ impl<I: IntNumber, C: EdgeCount, A: Allocator + Clone> Content<I, C, A> {
         ensures only { IfErr result (λ e. (e ≡ OverlayError.Memory) ⊎ (e ≡ OverlayError.TooManyEdges)) }
     {
         self.merge_runs(store)?;
-        let Some((meetings, _)) = self.open_meetings(None)? else {
+        let Some(gathered) = self.open_meetings(None)? else {
             return Ok(false);
         };
-        self.lead_once(meetings, store)?;
+        let meetings = self.meetings_of(gathered, store)?;
+        self.lead_once(meetings.all, &meetings.hidden, store)?;
         self.merge_runs(store)?;
         Ok(true)
     }
@@ -58,23 +59,25 @@ impl<I: IntNumber, C: EdgeCount, A: Allocator + Clone> Content<I, C, A> {
     fn lead_once(
         &mut self,
         meetings: Vec<Meeting<I>, A>,
+        hidden: &[u32],
         store: &mut C::Store,
     ) -> Result<(), OverlayError>
         requires ascending { IsAscending (edges_in self.old) }
         requires meetings { AreMeetings (edges_in self.old) (plain_meetings I.whole meetings.items) }
-        ensures ok { OnOk result (IsLedOnce C.merges C.splits C.reverses self.old self.new) }
+        ensures ok { OnOk result (ArePartsLedOnce C.merges C.splits C.reverses hidden.now self.old self.new) }
         ensures err { OnErr result (self.new ≡ self.old) }
         ensures store { IsStoreReached C.writes store.old store.new }
-        ensures too_many { IsErrOf result OverlayError.TooManyEdges → AreHeavyPieces (2 ^ 31) (edges_in self.old) }
+        ensures too_many { IsErrOf result OverlayError.TooManyEdges
+            → ArePartsLedHeavy (2 ^ 31) hidden.now self.old }
         ensures only { IfErr result (λ e. (e ≡ OverlayError.Memory) ⊎ (e ≡ OverlayError.TooManyEdges)) }
     {
         if are_whole(self.edges(), &meetings) {
-            self.cut_through(meetings, store)?;
+            self.cut_through(meetings, hidden, store)?;
             return Ok(());
         }
         let hot = self.hot_of(meetings)?;
         let alloc = self.allocator().clone()?;
-        *self = snap_edges(alloc, self.edges(), &hot, store)?;
+        *self = snap_edges(alloc, self.edges(), &hot, hidden, store)?;
         Ok(())
     }
 

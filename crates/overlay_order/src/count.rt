@@ -1,8 +1,9 @@
 //! Values that edges carry: counts of how often paths pass the edge, and perhaps data.
 
-ghost use Rattle.std.specs.Prelude.{◌≡◌, ◌+◌, ◌^◌, ◌<◌};
+ghost use Rattle.std.specs.Prelude.{◌≡◌, ◌+◌, ◌^◌, ◌<◌, IsTrue};
 ghost use Rattle.overlay_geom.specs.Counts.{Counts, joined_counts, reversed_counts, are_zero};
 ghost use Rattle.overlay_geom.specs.Counts.{weight_of_counts};
+ghost use Rattle.overlay_order.specs.Parting.{MayPart};
 
 /// The value that an edge carries through an arrangement. It counts how often paths pass the edge from its smaller to
 /// its larger end, minus how often they pass it back. It may hold data too.
@@ -28,6 +29,11 @@ pub trait EdgeCount: Copy {
 
     // Possible values of a piece that runs against its edge.
     ghost reverses: { Self → Self → Type 0 };
+
+    /// Returns whether edges may be parted before they are cut: a split value is a copy, and the reversed value of a
+    /// merge is a merge of reversed values.
+    fn may_part() -> bool
+        ensures { IsTrue result → MayPart merges splits reverses };
 
     /// Returns whether no path passes the edge.
     fn is_nothing(self) -> bool
@@ -91,6 +97,10 @@ impl EdgeCount for ShapeCountBoolean {
     ghost splits = { λ c p. p ≡ c };
 
     ghost reverses = { λ c t. (t.subj ≡ neg_ℤ c.subj) × (t.clip ≡ neg_ℤ c.clip) };
+
+    fn may_part() -> bool {
+        true
+    }
 
     fn is_nothing(self) -> bool {
         self.subj == 0 && self.clip == 0

@@ -1,8 +1,9 @@
 //! Data that edges carry through an overlay beside their counts.
 
-ghost use Rattle.std.specs.Prelude.{◌≡◌, ◌+◌, ◌^◌, ◌<◌, ⊤};
+ghost use Rattle.std.specs.Prelude.{◌≡◌, ◌+◌, ◌^◌, ◌<◌, IsTrue, ⊤};
 ghost use Rattle.overlay_geom.specs.Counts.{weight_of_counts};
 ghost use Rattle.overlay_order.specs.Counts.{boolean_counts};
+ghost use Rattle.overlay_order.specs.Parting.{MayPartData};
 ghost use Rattle.overlay_order.specs.declared.count.ShapeCountBoolean.{ShapeCountBoolean};
 
 use crate::count::{EdgeCount, ShapeCountBoolean};
@@ -42,6 +43,14 @@ pub trait OverlayEdgeData: Copy + PartialEq {
     // Possible data of a piece that runs against its edge; by default the data of the edge.
     ghost reverses: { Self → Self → Type 0 } = { λ d t. t ≡ d };
 
+    /// Returns whether edges may be parted before they are cut: a split of data is a copy, and the reversed data of a
+    /// merge is a merge of reversed data.
+    fn may_part() -> bool
+        ensures { IsTrue result → MayPartData merges splits reverses }
+    {
+        false
+    }
+
     /// Returns the data of the merged edge of two equal edges. Together they weigh less than 2^31.
     fn merge(merge: EdgeDataMerge<ShapeCountBoolean, Self>, store: &mut Self::Store) -> Self
         requires { weight_of_counts (boolean_counts merge.lhs_count)
@@ -69,6 +78,10 @@ impl OverlayEdgeData for () {
     ghost splits = { λ _ _. ⊤ };
 
     ghost reverses = { λ _ _. ⊤ };
+
+    fn may_part() -> bool {
+        true
+    }
 
     fn merge(_merge: EdgeDataMerge<ShapeCountBoolean, ()>, _store: &mut ())
         ensures { ⊤ }
@@ -102,6 +115,10 @@ impl<D: OverlayEdgeData> EdgeCount for CountWithData<D> {
     ghost splits = { IsPiece D.splits };
 
     ghost reverses = { IsReversed D.reverses };
+
+    fn may_part() -> bool {
+        D::may_part()
+    }
 
     fn is_nothing(self) -> bool {
         self.count.is_nothing()

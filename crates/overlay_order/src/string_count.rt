@@ -58,6 +58,10 @@ impl EdgeCount for ShapeCountString {
 
     ghost reverses = { λ c t. (t.subj ≡ neg_ℤ c.subj) × (t.clip ≡ reversed_directions c.clip) };
 
+    fn may_part() -> bool {
+        true
+    }
+
     fn is_nothing(self) -> bool {
         self.subj == 0 && !self.is_along() && !self.is_against()
     }

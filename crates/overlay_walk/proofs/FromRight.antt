@@ -14,7 +14,7 @@ use Rattle.overlay_plane.specs.Turn.Hand.{left, right}
 use Rattle.overlay_plane.proofs.Tests.{lt_from_test, ge_from_test, test_from_lt, same_tests}
 use Rattle.overlay_plane.proofs.TurnOrder.{part_at, part_early, part_late, part_opposite, part_again}
 use Rattle.overlay_plane.proofs.Turning.{dotE}
-use Rattle.overlay_walk.specs.Rounds.{right_of}
+use Rattle.overlay_walk.specs.Fans.{right_of}
 
 -- numbers with one difference compare alike
 tests_by_difference : (a b c d : ℤ) → b -ℤ a ≡ d -ℤ c → int_lt a b ≡ int_lt c d

@@ -10,8 +10,7 @@ use Rattle.overlay_plane.specs.Turn.{Hand, turn, dot_at, part_of_turn, is_met_be
 use Rattle.overlay_plane.specs.Turn.Hand.{left, right}
 use Rattle.overlay_plane.proofs.Tests.{same_tests, lt_from_test, test_from_lt}
 use Rattle.overlay_plane.proofs.TurnOrder.{part_at, part_early, part_late, part_opposite, part_again, by_part}
-use Rattle.overlay_plane.proofs.TurnOrder.{comes_first}
-use Rattle.overlay_plane.proofs.TurnOrder.{met_irreflexive, start_is_last}
+use Rattle.overlay_plane.proofs.TurnOrder.{comes_first, met_irreflexive, start_is_last}
 use Rattle.overlay_plane.proofs.Turning.{turn_exchanged, turn_framed, dot_framed, dot_exchanged, dot_positive}
 
 -- the numbers have one sign: positive multiples of them are equal

@@ -1,11 +1,11 @@
 pub mod Asked
+pub mod Fans
 pub mod GroupedContours
 pub mod Kept
 pub mod KeptResults
 pub mod Nearest
 pub mod Places
 pub mod PointsOnce
-pub mod Rounds
 pub mod Selection
 pub mod Steps
 pub mod WalkEdges

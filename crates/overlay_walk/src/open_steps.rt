@@ -10,10 +10,10 @@ ghost use Rattle.overlay_plane.specs.Turn.{IsNextStep, IsOrbit, step_round};
 ghost use Rattle.overlay_walk.specs.Steps.{plain_hand, plain_step, plain_steps};
 ghost use Rattle.overlay_walk.specs.Steps.{IsByFrom, IsLong};
 
+use crate::fans::{FansByHand, fans_of, place_by_hand};
 use crate::hand::Hand;
 use crate::leftmost::{first_open, places_top_first};
 use crate::onward::{noted, onward_places};
-use crate::rounds::{Rounds, place_by_rounds, rounds_of};
 use crate::step::Step;
 use overlay_geom::edge_pair::is_same;
 use overlay_geom::flat::copied;
@@ -39,8 +39,8 @@ pub struct OpenSteps<I: IntNumber, A: Allocator> {
     onward: Vec<u32, A>,
     // that place for the step to be walked on from
     near: usize,
-    // the order of the steps round their nodes, where many leave one
-    rounds: Rounds<A>,
+    // the fans of the steps, where many leave one point
+    fans: FansByHand<A>,
 }
 
 impl<I: IntNumber, A: Allocator> Model for OpenSteps<I, A> {
@@ -54,7 +54,7 @@ impl<I: IntNumber, A: Allocator> Model for OpenSteps<I, A> {
     ghost view = { λ o. unmarked o.steps.items o.taken.items };
 
     ghost invariant = { λ o. AreKept I.whole I.limit o.steps.items o.taken.items o.places.items o.passed
-        o.rounds };
+        o.fans };
 }
 
 impl<I: IntNumber, A: Allocator> OpenSteps<I, A> {
@@ -96,7 +96,7 @@ impl<I: IntNumber, A: Allocator> OpenSteps<I, A> {
         ensures fewer { All (Contains self.old) self.new }
     {
         let near = self.near;
-        match place_by_rounds(&self.steps, &self.taken, &mut self.rounds, near, step, hand) {
+        match place_by_hand(&self.steps, &self.taken, &mut self.fans, near, step, hand) {
             Some(place) => {
                 self.taken[place] = true;
                 self.near = noted(&self.onward, place);
@@ -116,7 +116,7 @@ impl<I: IntNumber, A: Allocator + Clone> OpenSteps<I, A> {
         sort_steps(&mut steps)?;
         let places = places_top_first(steps.allocator().clone()?, &steps)?;
         let onward = onward_places(steps.allocator().clone()?, &steps, &places)?;
-        let rounds = rounds_of(steps.allocator().clone()?, &steps)?;
+        let fans = fans_of(steps.allocator().clone()?, &steps)?;
         let mut taken = Vec::new(steps.allocator().clone()?);
         taken.resize(steps.len(), false)?;
         Ok(OpenSteps {
@@ -126,7 +126,7 @@ impl<I: IntNumber, A: Allocator + Clone> OpenSteps<I, A> {
             passed: 0,
             onward,
             near: 0,
-            rounds,
+            fans,
         })
     }
 

@@ -1,19 +1,16 @@
 -- Each edge is held and light, and is led through points in range; a heavy beginning makes a heavy whole.
 use Rattle.std.proofs.Common.{◌≡◌, ℕ, ◌≤◌, ◌<◌, ℤ, List, All, length, get_or, sym, subst}
-use Rattle.std.proofs.Common.{ap, arith, rules}
+use Rattle.std.proofs.Common.{drop, arith, rules}
 use Rattle.std.proofs.lemmas.List.{at_drop_all}
 use Rattle.overlay_order.specs.declared.edge.CountedEdge.{CountedEdge}
-use Rattle.std.specs.List.{flat_map}
-use Rattle.overlay_geom.specs.Edges.{ends_of, weight}
+use Rattle.overlay_geom.specs.Edges.{ends_of}
 use Rattle.overlay_geom.specs.Points.{plain_points}
 use Rattle.overlay_geom.specs.declared.point.IntPoint.{IntPoint}
 use Rattle.overlay_geom.specs.Counts.{Counts}
 use Rattle.overlay_geom.proofs.Mapped.{All-mapped_at, Contains-mapped, mapped_rest}
 use Rattle.overlay_plane.specs.Carried.{Carried, edges_in}
-use Rattle.overlay_plane.specs.Cutting.{pieces_through}
 use Rattle.overlay_plane.specs.DerivedData.{ArePieces}
 use Rattle.overlay_order.specs.Content.{carried_edge, carried_edges, plain_edge, plain_edges, IsHeld}
-use Rattle.overlay_order.proofs.CarriedEdges.{edges_in-carried}
 use Rattle.overlay_pairs.proofs.Entries.{placed_in_mapped}
 use Rattle.overlay_arrange.specs.Batches.{AddsJoined}
 use Rattle.overlay_arrange.specs.Cut.{chain_by, LeadingPoints}
@@ -24,7 +21,10 @@ use Rattle.overlay_arrange.proofs.CutContents.{weight_of_entry}
 use Rattle.overlay_arrange.proofs.LedThrough.{IsLedThrough, led_through, points_in_range}
 use Rattle.overlay_arrange.proofs.ReachedStores.{reached_on}
 use Rattle.overlay_arrange.proofs.StandingLists.{joined_both, joined_none}
-use Rattle.overlay_arrange.proofs.StandingPieces.{all_joined, heavy_among, joined_pieces, weighed_on}
+use Rattle.overlay_arrange.proofs.StandingPieces.{joined_pieces}
+use Rattle.overlay_arrange.proofs.CoveredLoops.{loop_heavy, loop_weighed}
+use Rattle.overlay_arrange.proofs.CoveredPieces.{all_joined_parts}
+use Rattle.overlay_arrange.specs.Parting.{cover_weight, covered}
 use Rattle.overlay_arrange.proofs.cut.cut_edges.Goals as goal
 
 pub add-requires-clause-held : goal.add-requires-clause-held
@@ -81,8 +81,8 @@ returns-in_err-add-clause-too_many g c = λ refused points leads.
     c.index-edges-i.result c.args.meetings.now c.put_points_at.new.points.items c.deref.result.now
     c.requires.content.held c.loop-i-test.true c.index-edges-i.is
     c.in_ok-put_points_at.ensures.ok c.deref.ensures.value points leads in
-    heavy_among points _ _ (plain c.index-edges-i.result)
-    (mapped_rest plain c.args.edges.now i c.index-edges-i.result c.loop-i-test.true c.index-edges-i.is) _ led.chain
+    loop_heavy g.I.IntNumber.whole g.C.EdgeCount.counts points c.args.edges.now c.args.hidden.now i
+    c.index-edges-i.result c.loop-i-test.true c.index-edges-i.is c.hidden_at.result c.hidden_at.ensures _ led.chain
     (edges_in c.loop-i.pieces.content) c.loop-i.pieces.away _ (c.loop-i.invariant.0 points leads) 2147483648
     (c.add.ensures.too_many (search rules))
 
@@ -99,8 +99,8 @@ loop-i-preserved g c =
     let splits = g.C.EdgeCount.splits in
     let reverses = g.C.EdgeCount.reverses in
     let next = mapped_rest carry c.args.edges.now i c.index-edges-i.result c.loop-i-test.true c.index-edges-i.is in (
-      λ points leads. weighed_on points _ _ (plain c.index-edges-i.result)
-          (mapped_rest plain c.args.edges.now i c.index-edges-i.result c.loop-i-test.true c.index-edges-i.is) _
+      λ points leads. loop_weighed g.I.IntNumber.whole g.C.EdgeCount.counts points c.args.edges.now c.args.hidden.now i
+          c.index-edges-i.result c.loop-i-test.true c.index-edges-i.is c.hidden_at.result c.hidden_at.ensures _
           (led points leads).chain (edges_in c.loop-i.pieces.content) c.loop-i.pieces.away _
           (c.loop-i.invariant.0 points leads) (edges_in c.add.new.self.content) c.add.new.self.away
           c.in_ok-add.ensures.weighed,
@@ -129,17 +129,15 @@ returns-clause-ok g c = λ points leads.
     let past : length c.args.edges.now ≤ c.loop-i.i = search rules in
     let left = at_drop_all (λ (fs : List (CountedEdge _ _)). carried_edges whole counts fs) c.args.edges.now
     c.loop-i.i past in
-    let none = at_drop_all (λ (fs : List (CountedEdge _ _)). weight (flat_map (pieces_through points)
-    (plain_edges whole counts fs))) c.args.edges.now c.loop-i.i past in
+    let none = at_drop_all (λ (fs : List (CountedEdge _ _)). cover_weight points
+    (covered (carried_edges whole counts fs) (drop c.loop-i.i c.args.hidden.now))) c.args.edges.now c.loop-i.i past in
     let all = c.loop-i.invariant.0 points leads in
     let light = c.loop-i.invariant.2 in
-    let same = ap (λ es. weight (flat_map (pieces_through points) es)) (edges_in-carried whole counts c.args.edges.now)
-    in
-    all_joined g.C.EdgeCount.merges g.C.EdgeCount.splits g.C.EdgeCount.reverses points
+    all_joined_parts g.C.EdgeCount.merges g.C.EdgeCount.splits g.C.EdgeCount.reverses points c.args.hidden.now
     (c.loop-i.invariant.1 points leads c.loop-i.pieces.content
     (subst (λ (xs : List (Carried g.row.C.Denot)). AddsJoined g.C.EdgeCount.merges gives xs c.loop-i.pieces.content
     c.loop-i.pieces.content) (sym left) (joined_none g.C.EdgeCount.merges gives c.loop-i.pieces.content)))
-    (omega (arith, all, light, none, same))
+    (omega (arith, all, light, none))
 
 pub returns-in_err-add-clause-store : goal.returns-in_err-add-clause-store
 returns-in_err-add-clause-store g c =

@@ -1,15 +1,14 @@
 -- The pieces so far stand for those of the edges so far. They and the pieces to come weigh what all weigh.
 use Rattle.std.proofs.Common.{◌≡◌, ◌+◌, ◌<◌, ◌^◌, List, [], drop}
-use Rattle.std.specs.List.{flat_map}
 use Rattle.overlay_geom.specs.Edges.{weight}
 use Rattle.overlay_plane.specs.Carried.{Carried, edges_in}
-use Rattle.overlay_plane.specs.Cutting.{pieces_through}
 use Rattle.overlay_plane.specs.DerivedData.{ArePieces}
 use Rattle.overlay_order.specs.Content.{plain_edges, carried_edges}
 use Rattle.overlay_arrange.specs.Batches.{AddsJoined}
 use Rattle.overlay_arrange.specs.Cut.{chain_by, LeadingPoints}
 use Rattle.overlay_arrange.specs.Meetings.{plain_meetings, AreLedAlong}
 use Rattle.overlay_arrange.specs.Stores.{IsStoreReached}
+use Rattle.overlay_arrange.proofs.CoveredLoops.{weight_from}
 use Rattle.overlay_arrange.proofs.cut.cut_edges.Given as goal
 
 abbrev pub invariant-loop-i : goal.invariant-loop-i
@@ -19,9 +18,9 @@ invariant-loop-i g l =
     let Adds = λ (points : LeadingPoints). AddsJoined g.C.EdgeCount.merges
     (ArePieces g.C.EdgeCount.splits g.C.EdgeCount.reverses (chain_by points)) in
     let Leads = AreLedAlong (plain l.edges) (plain_meetings g.I.IntNumber.whole l.meetings) in
-    ((points : LeadingPoints) → Leads points →
-    weight (edges_in l.pieces.content) + weight (flat_map (pieces_through points) (plain (drop l.i l.edges)))
-    + l.pieces.away ≡ weight (flat_map (pieces_through points) (plain l.edges)))
+    ((points : LeadingPoints) → Leads points → weight (edges_in l.pieces.content)
+    + weight_from g.I.IntNumber.whole g.C.EdgeCount.counts points l.edges l.hidden l.i + l.pieces.away
+    ≡ weight_from g.I.IntNumber.whole g.C.EdgeCount.counts points l.edges l.hidden 0)
     × ((points : LeadingPoints) → Leads points → (new : List (Carried g.row.C.Denot)) →
     Adds points (carried (drop l.i l.edges)) l.pieces.content new → Adds points (carried l.edges) [] new)
     × (weight (edges_in l.pieces.content) + l.pieces.away < 2 ^ 31)

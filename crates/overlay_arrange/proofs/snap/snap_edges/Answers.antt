@@ -1,27 +1,26 @@
 -- Each edge is held and light, and is led through points in range, which make its snapped chain.
-use Rattle.std.proofs.Common.{◌≤◌, List, length, inl, sym, subst, ap, arith, rules}
-use Rattle.std.specs.List.{flat_map}
+use Rattle.std.proofs.Common.{◌≤◌, List, length, drop, inl, sym, subst, arith, rules}
 use Rattle.std.proofs.lemmas.List.{at_drop_all}
-use Rattle.overlay_geom.specs.Edges.{weight}
 use Rattle.overlay_geom.specs.Points.{plain_points, AllInRange}
 use Rattle.overlay_geom.proofs.Mapped.{All-mapped_at, Contains-mapped, mapped_rest}
 use Rattle.overlay_plane.specs.Carried.{Carried, edges_in}
-use Rattle.overlay_plane.specs.Cutting.{pieces_through}
 use Rattle.overlay_plane.specs.DerivedData.{ArePieces}
 use Rattle.overlay_plane.specs.SnapPoints.{snap_points}
 use Rattle.overlay_order.specs.Content.{carried_edge, carried_edges, plain_edge, plain_edges, IsHeld}
 use Rattle.overlay_order.specs.declared.edge.CountedEdge.{CountedEdge}
-use Rattle.overlay_order.proofs.CarriedEdges.{edges_in-carried}
 use Rattle.overlay_pairs.proofs.Entries.{placed_in_mapped}
 use Rattle.overlay_arrange.specs.Batches.{AddsJoined}
 use Rattle.overlay_arrange.specs.Cut.{chain_by}
+use Rattle.overlay_arrange.specs.Parting.{cover_weight, covered}
 use Rattle.overlay_arrange.specs.Stores.IsStoreReached.{unwritten}
+use Rattle.overlay_arrange.proofs.CoveredLoops.{loop_heavy, loop_weighed}
+use Rattle.overlay_arrange.proofs.CoveredPieces.{all_joined_parts}
 use Rattle.overlay_arrange.proofs.CutContents.{weight_of_entry}
 use Rattle.overlay_arrange.proofs.LedThrough.{IsLedThrough}
 use Rattle.overlay_arrange.proofs.ReachedStores.{reached_on}
 use Rattle.overlay_arrange.proofs.SnappedThrough.{snapped_in_range, snapped_through}
 use Rattle.overlay_arrange.proofs.StandingLists.{joined_both, joined_none}
-use Rattle.overlay_arrange.proofs.StandingPieces.{all_joined, heavy_among, joined_pieces, weighed_on}
+use Rattle.overlay_arrange.proofs.StandingPieces.{joined_pieces}
 use Rattle.overlay_arrange.proofs.snap.snap_edges.Goals as goal
 
 pub take_near-requires-clause-one : goal.take_near-requires-clause-one
@@ -68,8 +67,8 @@ returns-in_err-add-clause-too_many g c = λ refused.
     (snapped_through g.I.IntNumber.limit es c.requires.content.held (plain_points whole c.args.hot.now) c.requires.hot
     i e (placed_in_mapped plain c.args.edges.now i c.index-edges-i.result c.loop-i-test.true c.index-edges-i.is)
     _ _ _ c.in_ok-take_near.ensures.ok c.keep_met.ensures c.in_ok-sort_along.ensures.ok) in
-    heavy_among (snap_points es) _ _ e
-    (mapped_rest plain c.args.edges.now i c.index-edges-i.result c.loop-i-test.true c.index-edges-i.is) _ led.chain
+    loop_heavy whole g.C.EdgeCount.counts (snap_points es) c.args.edges.now c.args.hidden.now i
+    c.index-edges-i.result c.loop-i-test.true c.index-edges-i.is c.hidden_at.result c.hidden_at.ensures _ led.chain
     (edges_in c.loop-i.pieces.content) c.loop-i.pieces.away _ c.loop-i.invariant.0 2147483648
     (c.add.ensures.too_many (search rules))
 
@@ -90,8 +89,8 @@ loop-i-preserved g c =
     let splits = g.C.EdgeCount.splits in
     let reverses = g.C.EdgeCount.reverses in
     let next = mapped_rest carry c.args.edges.now i c.index-edges-i.result c.loop-i-test.true c.index-edges-i.is in (
-      weighed_on points _ _ e
-          (mapped_rest plain c.args.edges.now i c.index-edges-i.result c.loop-i-test.true c.index-edges-i.is) _
+      loop_weighed whole g.C.EdgeCount.counts points c.args.edges.now c.args.hidden.now i
+          c.index-edges-i.result c.loop-i-test.true c.index-edges-i.is c.hidden_at.result c.hidden_at.ensures _
           led.chain (edges_in c.loop-i.pieces.content) c.loop-i.pieces.away _ c.loop-i.invariant.0
           (edges_in c.add.new.self.content) c.add.new.self.away c.in_ok-add.ensures.weighed,
       λ new adds. (rw next at c.loop-i.invariant.1) new
@@ -122,17 +121,15 @@ returns-clause-ok g c =
     let past : length c.args.edges.now ≤ c.loop-i.i = search rules in
     let left = at_drop_all (λ (fs : List (CountedEdge _ _)). carried_edges whole counts fs) c.args.edges.now
     c.loop-i.i past in
-    let none = at_drop_all (λ (fs : List (CountedEdge _ _)). weight (flat_map (pieces_through points)
-    (plain_edges whole counts fs))) c.args.edges.now c.loop-i.i past in
+    let none = at_drop_all (λ (fs : List (CountedEdge _ _)). cover_weight points
+    (covered (carried_edges whole counts fs) (drop c.loop-i.i c.args.hidden.now))) c.args.edges.now c.loop-i.i past in
     let all = c.loop-i.invariant.0 in
     let light = c.loop-i.invariant.2 in
-    let same = ap (λ es. weight (flat_map (pieces_through points) es)) (edges_in-carried whole counts c.args.edges.now)
-    in
-    all_joined g.C.EdgeCount.merges g.C.EdgeCount.splits g.C.EdgeCount.reverses points
+    all_joined_parts g.C.EdgeCount.merges g.C.EdgeCount.splits g.C.EdgeCount.reverses points c.args.hidden.now
     (c.loop-i.invariant.1 c.loop-i.pieces.content
     (subst (λ (xs : List (Carried g.row.C.Denot)). AddsJoined g.C.EdgeCount.merges gives xs c.loop-i.pieces.content
     c.loop-i.pieces.content) (sym left) (joined_none g.C.EdgeCount.merges gives c.loop-i.pieces.content)))
-    (omega (arith, all, light, none, same))
+    (omega (arith, all, light, none))
 
 pub returns-in_err-add-clause-store : goal.returns-in_err-add-clause-store
 returns-in_err-add-clause-store g c =

@@ -4,6 +4,8 @@ use Rattle.std.proofs.Common.{◌≡◌, ℕ, ◌-◌, ◌↔◌, List, Option, 
 use Rattle.std.proofs.lemmas.Result.{err_from_is_err_and}
 use Rattle.overlay_order.specs.Content.{IsContent}
 use Rattle.overlay_arrange.proofs.ArrangedLists.{forward_content, carried_at_once, carried_on}
+use Rattle.overlay_arrange.proofs.CutsInParts.{cut_heavy_in_parts, cut_heavy_of_parts, cut_once_in_parts}
+use Rattle.overlay_arrange.proofs.CutsOfParts.{whole_in_parts}
 use Rattle.overlay_arrange.proofs.RoundsTaken.{split_at_once, unsettled_at_once, split_on, unsettled_on, heavy_on}
 use Rattle.overlay_arrange.proofs.RoundsTaken.{heavy_at_once, uncut_where_settled, cut_where_unsettled, Leaves}
 use Rattle.overlay_arrange.proofs.ReachedStores.{reached_on}
@@ -33,14 +35,17 @@ leaves_cut limit old es new content merged unsettled is = leaves_of_taken Rounds
 pub open_meetings-requires-clause-ascending : goal.open_meetings-requires-clause-ascending
 open_meetings-requires-clause-ascending g n c = c.in_ok-merge_runs.ensures.ok.ascending
 
+pub meetings_of-requires-clause-ascending : goal.meetings_of-requires-clause-ascending
+meetings_of-requires-clause-ascending g n c = c.in_ok-merge_runs.ensures.ok.ascending
+
 pub returns-in_default-clause-split : goal.returns-in_default-clause-split
 returns-in_default-clause-split g n c = split_at_once c.args.rounds _ _ c.in_ok-merge_runs.ensures.ok
-    (c.in_ok-meetings.ensures.settled.0 c.in_default.is)
+    (c.in_ok-gathered.ensures.settled.0 c.in_default.is)
 
 pub returns-then-rounds-eq0-clause-not_settled : goal.returns-then-rounds-eq0-clause-not_settled
 returns-then-rounds-eq0-clause-not_settled g n c = λ same. unsettled_at_once c.args.rounds _ _
     (omega arith) c.in_ok-merge_runs.ensures.ok
-    (not_settled c.in-Some.is c.in_ok-meetings.ensures.settled)
+    (not_settled c.in-Some.is c.in_ok-gathered.ensures.settled)
 
 pub returns-in_err-is_rounded-clause-too_many : goal.returns-in_err-is_rounded-clause-too_many
 returns-in_err-is_rounded-clause-too_many g n c = λ same.
@@ -48,35 +53,47 @@ returns-in_err-is_rounded-clause-too_many g n c = λ same.
     c.from_residual-in_err-is_rounded.ensures.1 in
     let first = leaves_cut g.I.IntNumber.limit (edges_in c.args.self.now) (edges_in c.merge_runs.new.self)
     (cut_edges (edges_in c.merge_runs.new.self)) c.merge_runs.ensures.content c.in_ok-merge_runs.ensures.ok
-    (not_settled c.in-Some.is c.in_ok-meetings.ensures.settled)
+    (not_settled c.in-Some.is c.in_ok-gathered.ensures.settled)
     refl in
-    heavy_at_once Rounds 2147483648 c.args.rounds _ _ (omega arith) first (c.in_err-is_rounded.ensures.too_many (cc))
+    heavy_at_once Rounds 2147483648 c.args.rounds _ _ (omega arith) first
+    (cut_heavy_in_parts g.C.EdgeCount.merges g.C.EdgeCount.splits g.C.EdgeCount.reverses c.merge_runs.new.self
+    (forward_content g.I.IntNumber.limit (edges_in c.merge_runs.new.self) c.merge_runs.ensures.content)
+    c.in_ok-meetings.meetings.hidden.items c.deref.result.now 2147483648 c.in_ok-meetings.ensures.parted
+    c.deref.ensures.value (c.in_err-is_rounded.ensures.too_many (cc)))
 
-pub returns-in_ok-split_since-clause-split : goal.returns-in_ok-split_since-clause-split
-returns-in_ok-split_since-clause-split g n c =
-    let joined = c.in_ok-is_rounded.ensures.ok in
+pub returns-then-is_rounded-clause-split : goal.returns-then-is_rounded-clause-split
+returns-then-is_rounded-clause-split g n c =
+    let joined =
+    cut_once_in_parts g.C.EdgeCount.merges g.C.EdgeCount.splits g.C.EdgeCount.reverses c.merge_runs.new.self
+    (forward_content g.I.IntNumber.limit (edges_in c.merge_runs.new.self) c.merge_runs.ensures.content)
+    c.in_ok-meetings.meetings.hidden.items c.deref.result.now c.in_ok-meetings.ensures.parted c.deref.ensures.value
+    c.in_ok-is_rounded.ensures.ok in
     let first = leaves_cut g.I.IntNumber.limit (edges_in c.args.self.now) (edges_in c.merge_runs.new.self)
     (edges_in joined.pieces) c.merge_runs.ensures.content c.in_ok-merge_runs.ensures.ok
-    (not_settled c.in-Some.is c.in_ok-meetings.ensures.settled) joined.edges in
+    (not_settled c.in-Some.is c.in_ok-gathered.ensures.settled) joined.edges in
     split_on Rounds (c.args.rounds - 1) c.args.rounds _ _ _ (omega arith) first joined.light
     (split_for g.C.EdgeCount.merges joined.stands (c.args.rounds - 1) _ c.in_ok-split_since.ensures.split)
 
 pub returns-in_default-clause-cut : goal.returns-in_default-clause-cut
 returns-in_default-clause-cut g n c = uncut_where_settled c.in_ok-merge_runs.ensures.ok
-    (c.in_ok-meetings.ensures.settled.0 c.in_default.is)
+    (c.in_ok-gathered.ensures.settled.0 c.in_default.is)
 
-pub returns-in_ok-split_since-clause-cut : goal.returns-in_ok-split_since-clause-cut
-returns-in_ok-split_since-clause-cut g n c = cut_where_unsettled c.in_ok-merge_runs.ensures.ok
-    (not_settled c.in-Some.is c.in_ok-meetings.ensures.settled)
+pub returns-then-is_rounded-clause-cut : goal.returns-then-is_rounded-clause-cut
+returns-then-is_rounded-clause-cut g n c = cut_where_unsettled c.in_ok-merge_runs.ensures.ok
+    (not_settled c.in-Some.is c.in_ok-gathered.ensures.settled)
 
 pub returns-in_err-split_since-clause-not_settled : goal.returns-in_err-split_since-clause-not_settled
 returns-in_err-split_since-clause-not_settled g n c = λ same.
     let passed = err_from_is_err_and c.from_residual-in_err-split_since.result
     c.from_residual-in_err-split_since.ensures.1 in
-    let joined = c.in_ok-is_rounded.ensures.ok in
+    let joined =
+    cut_once_in_parts g.C.EdgeCount.merges g.C.EdgeCount.splits g.C.EdgeCount.reverses c.merge_runs.new.self
+    (forward_content g.I.IntNumber.limit (edges_in c.merge_runs.new.self) c.merge_runs.ensures.content)
+    c.in_ok-meetings.meetings.hidden.items c.deref.result.now c.in_ok-meetings.ensures.parted c.deref.ensures.value
+    c.in_ok-is_rounded.ensures.ok in
     let first = leaves_cut g.I.IntNumber.limit (edges_in c.args.self.now) (edges_in c.merge_runs.new.self)
     (edges_in joined.pieces) c.merge_runs.ensures.content c.in_ok-merge_runs.ensures.ok
-    (not_settled c.in-Some.is c.in_ok-meetings.ensures.settled) joined.edges in
+    (not_settled c.in-Some.is c.in_ok-gathered.ensures.settled) joined.edges in
     unsettled_on (c.args.rounds - 1) c.args.rounds _ _ (omega arith) first
     (unsettled_for g.C.EdgeCount.merges joined.stands (c.args.rounds - 1)
     (c.in_err-split_since.ensures.not_settled (cc)))
@@ -85,10 +102,14 @@ pub returns-in_err-split_since-clause-too_many : goal.returns-in_err-split_since
 returns-in_err-split_since-clause-too_many g n c = λ same.
     let passed = err_from_is_err_and c.from_residual-in_err-split_since.result
     c.from_residual-in_err-split_since.ensures.1 in
-    let joined = c.in_ok-is_rounded.ensures.ok in
+    let joined =
+    cut_once_in_parts g.C.EdgeCount.merges g.C.EdgeCount.splits g.C.EdgeCount.reverses c.merge_runs.new.self
+    (forward_content g.I.IntNumber.limit (edges_in c.merge_runs.new.self) c.merge_runs.ensures.content)
+    c.in_ok-meetings.meetings.hidden.items c.deref.result.now c.in_ok-meetings.ensures.parted c.deref.ensures.value
+    c.in_ok-is_rounded.ensures.ok in
     let first = leaves_cut g.I.IntNumber.limit (edges_in c.args.self.now) (edges_in c.merge_runs.new.self)
     (edges_in joined.pieces) c.merge_runs.ensures.content c.in_ok-merge_runs.ensures.ok
-    (not_settled c.in-Some.is c.in_ok-meetings.ensures.settled) joined.edges in
+    (not_settled c.in-Some.is c.in_ok-gathered.ensures.settled) joined.edges in
     heavy_on Rounds 2147483648 (c.args.rounds - 1) c.args.rounds _ _ (omega arith) first
     (heavy_for g.C.EdgeCount.merges joined.stands (c.args.rounds - 1) 2147483648
     (c.in_err-split_since.ensures.too_many (cc)))
@@ -97,12 +118,16 @@ pub returns-in_default-clause-carried : goal.returns-in_default-clause-carried
 returns-in_default-clause-carried g n c =
     carried_at_once g.C.EdgeCount.merges g.C.EdgeCount.splits g.C.EdgeCount.reverses c.args.rounds c.args.self.now
     c.merge_runs.new.self
-    c.in_ok-merge_runs.ensures.ok (c.in_ok-meetings.ensures.settled.0 c.in_default.is)
+    c.in_ok-merge_runs.ensures.ok (c.in_ok-gathered.ensures.settled.0 c.in_default.is)
     c.in_ok-merge_runs.ensures.carried
 
-pub returns-in_ok-split_since-clause-carried : goal.returns-in_ok-split_since-clause-carried
-returns-in_ok-split_since-clause-carried g n c =
-    let joined = c.in_ok-is_rounded.ensures.ok in
+pub returns-then-is_rounded-clause-carried : goal.returns-then-is_rounded-clause-carried
+returns-then-is_rounded-clause-carried g n c =
+    let joined =
+    cut_once_in_parts g.C.EdgeCount.merges g.C.EdgeCount.splits g.C.EdgeCount.reverses c.merge_runs.new.self
+    (forward_content g.I.IntNumber.limit (edges_in c.merge_runs.new.self) c.merge_runs.ensures.content)
+    c.in_ok-meetings.meetings.hidden.items c.deref.result.now c.in_ok-meetings.ensures.parted c.deref.ensures.value
+    c.in_ok-is_rounded.ensures.ok in
     carried_on g.C.EdgeCount.merges g.C.EdgeCount.splits g.C.EdgeCount.reverses Rounds
     (c.args.rounds - 1) c.args.rounds
     c.args.self.now c.merge_runs.new.self joined.pieces _ (computed_chain (edges_in c.merge_runs.new.self))
@@ -110,45 +135,59 @@ returns-in_ok-split_since-clause-carried g n c =
     (cut_in_rounds (edges_in c.args.self.now) (edges_in c.merge_runs.new.self)
     (forward_content g.I.IntNumber.limit (edges_in c.merge_runs.new.self) c.merge_runs.ensures.content)
     c.in_ok-merge_runs.ensures.ok
-    (not_settled c.in-Some.is c.in_ok-meetings.ensures.settled) (edges_in joined.pieces) joined.edges)
+    (not_settled c.in-Some.is c.in_ok-gathered.ensures.settled) (edges_in joined.pieces) joined.edges)
     c.in_ok-merge_runs.ensures.carried joined.carried joined.light
     (carrying_for g.C.EdgeCount.merges joined.stands g.C.EdgeCount.splits g.C.EdgeCount.reverses (c.args.rounds - 1) _
     c.in_ok-split_since.ensures.carried)
 
 -- where no point was rounded, the pieces, merged, are settled
-pub returns-in_ok-merge_runs-2-clause-split : goal.returns-in_ok-merge_runs-2-clause-split
-returns-in_ok-merge_runs-2-clause-split g n c =
+pub returns-clause-split : goal.returns-clause-split
+returns-clause-split g n c =
     let unsettled : ¬ (IsSettled (edges_in c.merge_runs.new.self)) =
-    not_settled c.in-Some.is c.in_ok-meetings.ensures.settled in
-    let joined = c.in_ok-is_rounded.ensures.ok in
-    let merged = merged_of_standing g.C.EdgeCount.merges (edges_in c.merge_runs-else-is_rounded.new.self) joined.stands
+    not_settled c.in-Some.is c.in_ok-gathered.ensures.settled in
+    let joined =
+    cut_once_in_parts g.C.EdgeCount.merges g.C.EdgeCount.splits g.C.EdgeCount.reverses c.merge_runs.new.self
+    (forward_content g.I.IntNumber.limit (edges_in c.merge_runs.new.self) c.merge_runs.ensures.content)
+    c.in_ok-meetings.meetings.hidden.items c.deref.result.now c.in_ok-meetings.ensures.parted c.deref.ensures.value
+    c.in_ok-is_rounded.ensures.ok in
+    let merged = merged_of_standing g.C.EdgeCount.merges (edges_in c.merge_runs-2.new.self) joined.stands
     c.in_ok-merge_runs-2.ensures.ok in
     let first = leaves_cut g.I.IntNumber.limit (edges_in c.args.self.now) (edges_in c.merge_runs.new.self)
     (edges_in joined.pieces) c.merge_runs.ensures.content c.in_ok-merge_runs.ensures.ok unsettled joined.edges in
     let settled = settled_where_whole (edges_in c.args.self.now) (edges_in c.merge_runs.new.self)
-    (edges_in joined.pieces) (edges_in c.merge_runs-else-is_rounded.new.self)
+    (edges_in joined.pieces) (edges_in c.merge_runs-2.new.self)
     (forward_content g.I.IntNumber.limit (edges_in c.merge_runs.new.self) c.merge_runs.ensures.content)
     c.in_ok-merge_runs.ensures.ok
-    unsettled (c.in_ok-is_rounded.ensures.rounded.0 c.if-is_rounded.false) joined.edges merged in
+    unsettled ((whole_in_parts g.C.EdgeCount.merges g.C.EdgeCount.splits g.C.EdgeCount.reverses c.merge_runs.new.self
+    (forward_content g.I.IntNumber.limit (edges_in c.merge_runs.new.self) c.merge_runs.ensures.content)
+    c.in_ok-meetings.ensures.parted).1 (c.in_ok-is_rounded.ensures.rounded.0 c.if-is_rounded.false)) joined.edges
+    merged in
     split_on Rounds (c.args.rounds - 1) c.args.rounds _ _ _ (omega arith) first joined.light
     (split_at_once (c.args.rounds - 1) _ _ merged settled)
 
-pub returns-in_ok-merge_runs-2-clause-cut : goal.returns-in_ok-merge_runs-2-clause-cut
-returns-in_ok-merge_runs-2-clause-cut g n c = cut_where_unsettled c.in_ok-merge_runs.ensures.ok
-    (not_settled c.in-Some.is c.in_ok-meetings.ensures.settled)
+pub returns-clause-cut : goal.returns-clause-cut
+returns-clause-cut g n c = cut_where_unsettled c.in_ok-merge_runs.ensures.ok
+    (not_settled c.in-Some.is c.in_ok-gathered.ensures.settled)
 
-pub returns-in_ok-merge_runs-2-clause-carried : goal.returns-in_ok-merge_runs-2-clause-carried
-returns-in_ok-merge_runs-2-clause-carried g n c =
+pub returns-clause-carried : goal.returns-clause-carried
+returns-clause-carried g n c =
     let unsettled : ¬ (IsSettled (edges_in c.merge_runs.new.self)) =
-    not_settled c.in-Some.is c.in_ok-meetings.ensures.settled in
-    let joined = c.in_ok-is_rounded.ensures.ok in
-    let merged = merged_of_standing g.C.EdgeCount.merges (edges_in c.merge_runs-else-is_rounded.new.self) joined.stands
+    not_settled c.in-Some.is c.in_ok-gathered.ensures.settled in
+    let joined =
+    cut_once_in_parts g.C.EdgeCount.merges g.C.EdgeCount.splits g.C.EdgeCount.reverses c.merge_runs.new.self
+    (forward_content g.I.IntNumber.limit (edges_in c.merge_runs.new.self) c.merge_runs.ensures.content)
+    c.in_ok-meetings.meetings.hidden.items c.deref.result.now c.in_ok-meetings.ensures.parted c.deref.ensures.value
+    c.in_ok-is_rounded.ensures.ok in
+    let merged = merged_of_standing g.C.EdgeCount.merges (edges_in c.merge_runs-2.new.self) joined.stands
     c.in_ok-merge_runs-2.ensures.ok in
     let settled = settled_where_whole (edges_in c.args.self.now) (edges_in c.merge_runs.new.self)
-    (edges_in joined.pieces) (edges_in c.merge_runs-else-is_rounded.new.self)
+    (edges_in joined.pieces) (edges_in c.merge_runs-2.new.self)
     (forward_content g.I.IntNumber.limit (edges_in c.merge_runs.new.self) c.merge_runs.ensures.content)
     c.in_ok-merge_runs.ensures.ok
-    unsettled (c.in_ok-is_rounded.ensures.rounded.0 c.if-is_rounded.false) joined.edges merged in
+    unsettled ((whole_in_parts g.C.EdgeCount.merges g.C.EdgeCount.splits g.C.EdgeCount.reverses c.merge_runs.new.self
+    (forward_content g.I.IntNumber.limit (edges_in c.merge_runs.new.self) c.merge_runs.ensures.content)
+    c.in_ok-meetings.ensures.parted).1 (c.in_ok-is_rounded.ensures.rounded.0 c.if-is_rounded.false)) joined.edges
+    merged in
     carried_on g.C.EdgeCount.merges g.C.EdgeCount.splits g.C.EdgeCount.reverses Rounds
     (c.args.rounds - 1) c.args.rounds
     c.args.self.now c.merge_runs.new.self joined.pieces _ (computed_chain (edges_in c.merge_runs.new.self))
@@ -159,41 +198,70 @@ returns-in_ok-merge_runs-2-clause-carried g n c =
     unsettled (edges_in joined.pieces) joined.edges)
     c.in_ok-merge_runs.ensures.carried joined.carried joined.light
     (carried_at_once g.C.EdgeCount.merges g.C.EdgeCount.splits g.C.EdgeCount.reverses (c.args.rounds - 1)
-    joined.pieces c.merge_runs-else-is_rounded.new.self merged settled
-    (carries_of_standing g.C.EdgeCount.merges c.merge_runs-else-is_rounded.new.self joined.stands
+    joined.pieces c.merge_runs-2.new.self merged settled
+    (carries_of_standing g.C.EdgeCount.merges c.merge_runs-2.new.self joined.stands
     c.in_ok-merge_runs-2.ensures.carried))
 
 -- the store is reached by merging, cutting and the later rounds
 pub returns-in_err-is_rounded-clause-store : goal.returns-in_err-is_rounded-clause-store
 returns-in_err-is_rounded-clause-store g n c =
-    reached_on g.C.EdgeCount.writes _ _ _ c.in_ok-merge_runs.ensures.store c.in_err-is_rounded.ensures.store
-
-pub returns-in_ok-split_since-clause-store : goal.returns-in_ok-split_since-clause-store
-returns-in_ok-split_since-clause-store g n c =
     let writes = g.C.EdgeCount.writes in
-    reached_on writes _ _ _ (reached_on writes _ _ _ c.in_ok-merge_runs.ensures.store c.in_ok-is_rounded.ensures.store)
+    reached_on writes _ _ _ (reached_on writes _ _ _ c.in_ok-merge_runs.ensures.store c.in_ok-meetings.ensures.store)
+    c.in_err-is_rounded.ensures.store
+
+-- or the store is reached by merging and parting
+pub returns-in_err-meetings-clause-store : goal.returns-in_err-meetings-clause-store
+returns-in_err-meetings-clause-store g n c =
+    reached_on g.C.EdgeCount.writes _ _ _ c.in_ok-merge_runs.ensures.store c.in_err-meetings.ensures.store
+
+-- parts that weigh too much make pieces that do
+pub returns-in_err-meetings-clause-too_many : goal.returns-in_err-meetings-clause-too_many
+returns-in_err-meetings-clause-too_many g n c = λ same.
+    let passed = err_from_is_err_and c.from_residual-in_err-meetings.result
+    c.from_residual-in_err-meetings.ensures.1 in
+    let first = leaves_cut g.I.IntNumber.limit (edges_in c.args.self.now) (edges_in c.merge_runs.new.self)
+    (cut_edges (edges_in c.merge_runs.new.self)) c.merge_runs.ensures.content c.in_ok-merge_runs.ensures.ok
+    (not_settled c.in-Some.is c.in_ok-gathered.ensures.settled)
+    refl in
+    heavy_at_once Rounds 2147483648 c.args.rounds _ _ (omega arith) first
+    (cut_heavy_of_parts g.C.EdgeCount.merges g.C.EdgeCount.splits g.C.EdgeCount.reverses c.merge_runs.new.self
+    (forward_content g.I.IntNumber.limit (edges_in c.merge_runs.new.self) c.merge_runs.ensures.content) 2147483648
+    (c.in_err-meetings.ensures.too_many (cc)))
+
+pub returns-then-is_rounded-clause-store : goal.returns-then-is_rounded-clause-store
+returns-then-is_rounded-clause-store g n c =
+    let writes = g.C.EdgeCount.writes in
+    reached_on writes _ _ _ (reached_on writes _ _ _
+    (reached_on writes _ _ _ c.in_ok-merge_runs.ensures.store c.in_ok-meetings.ensures.store)
+    c.in_ok-is_rounded.ensures.store)
     c.in_ok-split_since.ensures.store
 
 pub returns-in_err-split_since-clause-store : goal.returns-in_err-split_since-clause-store
 returns-in_err-split_since-clause-store g n c =
     let writes = g.C.EdgeCount.writes in
-    reached_on writes _ _ _ (reached_on writes _ _ _ c.in_ok-merge_runs.ensures.store c.in_ok-is_rounded.ensures.store)
+    reached_on writes _ _ _ (reached_on writes _ _ _
+    (reached_on writes _ _ _ c.in_ok-merge_runs.ensures.store c.in_ok-meetings.ensures.store)
+    c.in_ok-is_rounded.ensures.store)
     c.in_err-split_since.ensures.store
 
-pub returns-in_ok-merge_runs-2-clause-store : goal.returns-in_ok-merge_runs-2-clause-store
-returns-in_ok-merge_runs-2-clause-store g n c =
+pub returns-clause-store : goal.returns-clause-store
+returns-clause-store g n c =
     let writes = g.C.EdgeCount.writes in
-    reached_on writes _ _ _ (reached_on writes _ _ _ c.in_ok-merge_runs.ensures.store c.in_ok-is_rounded.ensures.store)
+    reached_on writes _ _ _ (reached_on writes _ _ _
+    (reached_on writes _ _ _ c.in_ok-merge_runs.ensures.store c.in_ok-meetings.ensures.store)
+    c.in_ok-is_rounded.ensures.store)
     c.in_ok-merge_runs-2.ensures.store
 
 pub returns-in_err-merge_runs-2-clause-store : goal.returns-in_err-merge_runs-2-clause-store
 returns-in_err-merge_runs-2-clause-store g n c =
     let writes = g.C.EdgeCount.writes in
-    reached_on writes _ _ _ (reached_on writes _ _ _ c.in_ok-merge_runs.ensures.store c.in_ok-is_rounded.ensures.store)
+    reached_on writes _ _ _ (reached_on writes _ _ _
+    (reached_on writes _ _ _ c.in_ok-merge_runs.ensures.store c.in_ok-meetings.ensures.store)
+    c.in_ok-is_rounded.ensures.store)
     c.in_err-merge_runs-2.ensures.store
 
 -- a refused cut leaves the merged edges
 pub returns-in_err-is_rounded-clause-content : goal.returns-in_err-is_rounded-clause-content
 returns-in_err-is_rounded-clause-content g n c =
     subst (λ es. IsContent g.I.IntNumber.limit (edges_in es)) (sym c.in_err-is_rounded.ensures.err)
-    c.merge_runs.ensures.content
+    c.meetings_of.ensures.content

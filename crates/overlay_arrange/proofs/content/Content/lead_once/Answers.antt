@@ -43,5 +43,5 @@ returns-in_err-self-clause-too_many g c = λ same.
     record {
       points = snap_points (edges_in c.args.self.now);
       led = snapped not_whole;
-      heavy = rw c.edges-2.ensures.plain at (c.in_err-self.ensures.too_many (cc));
+      heavy = rw (c.edges-2.ensures.plain, c.edges-2.ensures.edges) at (c.in_err-self.ensures.too_many (cc));
     }

@@ -19,8 +19,8 @@ places_top_first-requires g c =
     (sym c.deref.ensures.value)
     (All-permutation (IsLong g.I.IntNumber.limit) _ _ kept c.requires)
 
-pub rounds_of-requires : goal.rounds_of-requires
-rounds_of-requires g c =
+pub fans_of-requires : goal.fans_of-requires
+fans_of-requires g c =
     let whole = g.I.IntNumber.whole in
     let kept = IsPermutation-map (plain_step whole) c.args.steps.items c.sort_steps.new.steps.items
     c.sort_steps.ensures.permutation in
@@ -41,7 +41,7 @@ invariant_of-result g c =
           c.in_ok-places.places.items) c.deref.ensures.value
           c.in_ok-places.ensures.ok;
       passing = none_passed c.resize.new.self.items c.in_ok-places.places.items;
-      turning = rw c.deref-4.ensures.value at c.in_ok-rounds.ensures.ok c.resize.new.self.items;
+      turning = rw c.deref-4.ensures.value at c.in_ok-fans.ensures.ok c.resize.new.self.items;
     }
 
 pub returns : goal.returns

@@ -9,7 +9,7 @@ use Rattle.overlay_walk.specs.declared.step.Step.{Step as StepTaken}
 use Rattle.overlay_walk.proofs.NextTaken.{some_is_found, found_left, found_next, others_left}
 use Rattle.overlay_walk.proofs.OpenPlaces.{unmarked-fewer}
 use Rattle.overlay_walk.proofs.StartPlaces.{passed_still}
-use Rattle.overlay_walk.proofs.TakenAhead.{rounds_still}
+use Rattle.overlay_walk.proofs.TakenAhead.{both_fans_still}
 use Rattle.overlay_walk.proofs.open_steps.OpenSteps.take_next.Goals as goal
 
 -- the place is one of the steps
@@ -18,23 +18,23 @@ place_within : {I : Type 0} (whole : I → ℤ) (steps : List (StepTaken I)) (ma
     → IsNextPlace (plain_steps whole steps) marks hand s (Some m) → m < length steps
 place_within whole steps marks hand s m next = omega (arith, next.below, length-map steps (plain_step whole))
 
-pub place_by_rounds-requires-clause-marks : goal.place_by_rounds-requires-clause-marks
-place_by_rounds-requires-clause-marks g c = ap length c.deref-2.ensures.value ∙ c.self.invariant.marked
+pub place_by_hand-requires-clause-marks : goal.place_by_hand-requires-clause-marks
+place_by_hand-requires-clause-marks g c = ap length c.deref-2.ensures.value ∙ c.self.invariant.marked
     ∙ sym (ap length c.deref.ensures.value)
 
-pub place_by_rounds-requires-clause-by_start : goal.place_by_rounds-requires-clause-by_start
-place_by_rounds-requires-clause-by_start g c =
+pub place_by_hand-requires-clause-by_start : goal.place_by_hand-requires-clause-by_start
+place_by_hand-requires-clause-by_start g c =
     subst (λ (ss : List (StepTaken g.row.I.Denot)). IsByFrom (plain_steps g.I.IntNumber.whole ss))
     (sym c.deref.ensures.value) c.self.invariant.leaving
 
-pub place_by_rounds-requires-clause-long : goal.place_by_rounds-requires-clause-long
-place_by_rounds-requires-clause-long g c =
+pub place_by_hand-requires-clause-long : goal.place_by_hand-requires-clause-long
+place_by_hand-requires-clause-long g c =
     subst (λ (ss : List (StepTaken g.row.I.Denot)). All (IsLong g.I.IntNumber.limit)
     (plain_steps g.I.IntNumber.whole ss)) (sym c.deref.ensures.value)
     c.self.invariant.long
 
-pub place_by_rounds-requires-clause-rounds : goal.place_by_rounds-requires-clause-rounds
-place_by_rounds-requires-clause-rounds g c =
+pub place_by_hand-requires-clause-fans : goal.place_by_hand-requires-clause-fans
+place_by_hand-requires-clause-fans g c =
     rw (c.deref.ensures.value, c.deref-2.ensures.value) (c.self.invariant.turning)
 
 pub index_mut-requires : goal.index_mut-requires
@@ -60,8 +60,8 @@ invariant_of-self g c =
       starting = c.self.invariant.starting;
       passing = passed_still c.self.inside.taken.items c.self.inside.places.items c.self.inside.passed c.in-Some.place
           c.self.invariant.passing;
-      turning = rounds_still (plain_steps g.I.IntNumber.whole c.self.inside.steps.items) c.self.inside.taken.items _
-          c.in-Some.place (rw (c.deref.ensures.value, c.deref-2.ensures.value) at c.in-Some.ensures.rounds);
+      turning = both_fans_still (plain_steps g.I.IntNumber.whole c.self.inside.steps.items) c.self.inside.taken.items _
+          c.in-Some.place (rw (c.deref.ensures.value, c.deref-2.ensures.value) at c.in-Some.ensures.fans);
     }
 
 pub unreachable-requires : goal.unreachable-requires
