@@ -1,6 +1,5 @@
 //! Tests of `overlay_arrange`: edges that are merged, cut and filled.
 
-mod batches;
 mod bundles;
 mod copies;
 mod cut;
@@ -8,6 +7,7 @@ mod edges;
 mod fills;
 mod graph;
 mod hub;
+mod nested;
 mod rounds;
 mod snapping;
 mod tallies;

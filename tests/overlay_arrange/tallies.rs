@@ -10,9 +10,13 @@ use overlay_geom::solver::Solver;
 use overlay_order::count::ShapeCountBoolean;
 use overlay_order::data::{CountWithData, EdgeDataMerge, OverlayEdgeData};
 use overlay_order::edge::{CountedEdge, compare_points};
-use std::alloc::Global;
+use refusing_alloc::refusing::Refusing;
+use std::alloc::{Allocator, Global};
 use std::process::Abort;
 use std::test::Fail;
+
+/// More requests than a call makes.
+const PLENTY: u64 = 10000;
 
 // Numbers of splits, reversals and merges of data; in a store, numbers of calls.
 #[derive(Debug, Clone, Copy, PartialEq, Default)]
@@ -80,9 +84,9 @@ fn tallied(ends: [i32; 4], splits: u32, reversals: u32, merges: u32) -> EdgeTall
 }
 
 // Adds an edge that the subject passes once, with data that tallies nothing.
-fn push<I: IntNumber>(
+fn push<I: IntNumber, A: Allocator + Clone>(
     rt: &impl Abort,
-    content: &mut Content<I, CountWithData<Tally>, Global>,
+    content: &mut Content<I, CountWithData<Tally>, A>,
     a: IntPoint<I>,
     b: IntPoint<I>,
 ) -> Result<(), OverlayError> {
@@ -161,31 +165,58 @@ fn three_equal_edges_are_merged_two_by_two(rt: HostRuntime) -> Result<(), Fail> 
     Ok(())
 }
 
-#[test]
-fn pieces_that_are_joined_in_batches_keep_all_data(rt: HostRuntime) -> Result<(), Fail> {
-    // Of the edges from (-k, 0) to (k, 0), for k from 1 to 300, all but the first are cut, into 90,000 pieces with it.
-    // Three others meet in a point that is rounded, and have six pieces.
-    let mut content = Content::with_capacity(rt.alloc(), 0)?;
-    for k in 1..301i32 {
-        push(&rt, &mut content, IntPoint::new(-k, 0), IntPoint::new(k, 0))?;
+// The edges from (-k, 0) to (k, 0), for k from 1 to 260, and three that meet in a point that is rounded. All but the
+// first are cut: the nested edges into 67,600 pieces with it, the others into six.
+fn nested<A: Allocator + Clone>(
+    rt: &impl Abort,
+    alloc: A,
+) -> Result<Content<i32, CountWithData<Tally>, A>, OverlayError> {
+    let mut content = Content::with_capacity(alloc, 0)?;
+    for k in 1..261i32 {
+        push(rt, &mut content, IntPoint::new(-k, 0), IntPoint::new(k, 0))?;
     }
     for (from, to) in [(0, 3), (1, 2), (3, 0)] {
         push(
-            &rt,
+            rt,
             &mut content,
             IntPoint::new(1000, from),
             IntPoint::new(1003, to),
         )?;
     }
+    Ok(content)
+}
+
+#[test]
+fn pieces_that_are_joined_in_batches_keep_all_data(rt: HostRuntime) -> Result<(), Fail> {
+    let mut content = nested(&rt, rt.alloc())?;
     let mut calls = Tally::default();
     content.arrange(Solver::Snapping, &mut calls)?;
-    assert!(rt; calls == Tally::of(90_005, 0, 89_401));
-    assert!(rt; content.edges().len() == 605);
-    for edge in &content.edges()[..599] {
+    assert!(rt; calls == Tally::of(67_605, 0, 67_081));
+    assert!(rt; content.edges().len() == 525);
+    for edge in &content.edges()[..519] {
         // (the edges that have this piece)
-        let have = 301 - edge.a.x.max(-edge.a.x).max(edge.b.x) as u32;
-        let uncut = if have == 300 { 1 } else { 0 };
+        let have = 261 - edge.a.x.max(-edge.a.x).max(edge.b.x) as u32;
+        let uncut = if have == 260 { 1 } else { 0 };
         assert!(rt; edge.count.edge_data == Tally::of(have - uncut, 0, have - 1));
     }
+    Ok(())
+}
+
+#[test]
+fn each_growth_of_batches_is_refused(rt: HostRuntime) -> Result<(), Fail> {
+    let memory = Refusing::new(rt.alloc(), PLENTY);
+    for granted in 0..PLENTY {
+        memory.grant(PLENTY);
+        let mut content = nested(&rt, &memory)?;
+        memory.grant(granted);
+        let answer = content.arrange(Solver::Snapping, &mut Tally::default());
+        assert!(rt; memory.left() == 0);
+        if answer == Ok(true) {
+            assert!(rt; granted > 0 && content.len() == 525);
+            return Ok(());
+        }
+        assert!(rt; answer == Err(OverlayError::Memory), "after {granted}");
+    }
+    assert!(rt; false, "it takes more requests");
     Ok(())
 }
