@@ -3,7 +3,8 @@
 use Rattle.std.proofs.Common.{◌≡◌, ◌↔◌, ◌⊎◌, ⊎_elim, inl, inr, ℕ, ◌+◌, ◌<◌, ◌≤◌, List, [], ◌∷◌, ◌++◌, Contains}
 use Rattle.std.proofs.Common.{Bool, true, false, IsTrue, refl, sym, subst, arith}
 use Rattle.std.proofs.lemmas.Bool.{cases_lt, false≢true}
-use Rattle.std.proofs.lemmas.List.Elements.{Contains-append_left, Contains-push, Contains-push_cases}
+use Rattle.std.proofs.lemmas.List.Elements.{Contains-append_cases, Contains-append_left, Contains-append_right}
+use Rattle.std.proofs.lemmas.List.Elements.{Contains-push, Contains-push_cases}
 use Rattle.std.proofs.Math.Nat.{eq-or-lt_of_le}
 use Rattle.overlay_geom.specs.Edges.{CountedEdge}
 use Rattle.overlay_pairs.specs.Extents.{Extent, extent_of, IsApart, ShareNoHeight}
@@ -57,6 +58,30 @@ module _ (ss : List Extent) (s : Extent) (from : ℕ) (old : List ℕ) where
     keeps = λ j has. has;
     near = λ j has. inl has;
     all = λ k t past less. absurd (omega (arith, past, less));
+  }
+
+  -- those of more boxes may be added to them
+  pub added_further : (at to : ℕ) (js more : List ℕ) → AreNearAdded ss s from at old js →
+      AreNearAdded ss s at to js more → AreNearAdded ss s from to old more
+  added_further at to js more added next = record {
+    keeps = λ j has. next.keeps j (added.keeps j has);
+    near = λ j has. ⊎_elim (λ before. added.near j before) (λ near. inr near) (next.near j has);
+    all = λ k t past less at_t. ⊎_elim
+        (λ before. ⊎_elim (λ apart. inl apart) (λ has. inr (next.keeps t.first has)) (added.all k t past before at_t))
+        (λ (behind : at ≤ k). next.all k t behind less at_t) (cases_lt k at);
+  }
+
+  -- a list of them may be put behind the others
+  pub added_behind : (to : ℕ) (js : List ℕ) → AreNearAdded ss s from to [] js →
+      AreNearAdded ss s from to old (old ++ js)
+  added_behind to js added = record {
+    keeps = λ j has. Contains-append_left old js j has;
+    near = λ j has. ⊎_elim (λ before. inl before)
+        (λ there. ⊎_elim (λ (none : Contains [] j). absurd (omega (arith, none.1))) (λ near. inr near)
+        (added.near j there))
+        (Contains-append_cases old js j has);
+    all = λ k t past less at_t. ⊎_elim (λ apart. inl apart)
+        (λ has. inr (Contains-append_right old js t.first has)) (added.all k t past less at_t);
   }
 
   module _ (k : ℕ) (t : Extent) (at_t : IsAt ss k t) (js : List ℕ) (added : AreNearAdded ss s from k old js) where

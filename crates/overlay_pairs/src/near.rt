@@ -4,7 +4,7 @@ ghost use Rattle.std.specs.Prelude.{◌≡◌, ◌↔◌, ◌⊎◌, ◌+◌, �
 ghost use Rattle.std.specs.Prelude.{true, false, take, All, length, IfSome, IsTrue, OnOk};
 ghost use Rattle.overlay_order.specs.Content.{plain_edge, plain_edges, IsAscending, IsHeld};
 ghost use Rattle.overlay_pairs.specs.Extents.{extent_of, plain_extent, plain_extents, AreByHeights, AreInBlocks};
-ghost use Rattle.overlay_pairs.specs.Extents.{AreInStrips, ShareNoHeight};
+ghost use Rattle.overlay_pairs.specs.Extents.{AreInStrips, IsApart, ShareNoHeight};
 ghost use Rattle.overlay_pairs.specs.Strips.{AreHeldStripsOf};
 ghost use Rattle.overlay_pairs.specs.Places.{IsAt};
 ghost use Rattle.overlay_pairs.specs.Near.{run_of, AreApartFrom, AreNearAdded, AreNearBehind};
@@ -159,7 +159,7 @@ fn find_by_blocks<I: IntNumber, A: Allocator>(
             at = next;
         } else {
             let end = on_by(at, BLOCK_SIZE, stop);
-            push_near(near, of, &strips.edges, at, end)?;
+            push_block(near, of, &strips.edges, at, end)?;
             at = end;
         }
     }
@@ -245,7 +245,14 @@ fn begins_apart<I: IntNumber>(blocks: &[Extent<I>], size: usize, of: Extent<I>, 
     requires within { at / size < length blocks.now }
     ensures { IsTrue result → BeginsApart (plain_extents I.whole blocks.now) size (plain_extent I.whole of) at }
 {
-    at % size == 0 && is_apart(of, blocks[at / size])
+    at % size == 0 && lie_apart(of, blocks[at / size])
+}
+
+/// Returns whether the boxes share no height or no place. It stops at the first test that tells.
+fn lie_apart<I: IntNumber>(s: Extent<I>, t: Extent<I>) -> bool
+    ensures { IsTrue result ↔ IsApart (plain_extent I.whole s) (plain_extent I.whole t) }
+{
+    is_less(s.high, t.low) || is_less(t.high, s.low) || s.last < t.first || t.last < s.first
 }
 
 /// Adds the places of the boxes from `from` up to `to` that do not lie apart from `of`.
@@ -262,37 +269,59 @@ pub(crate) fn push_near<I: IntNumber, A: Allocator>(
     ensures ok { OnOk result (AreNearAdded (plain_extents I.whole extents.now) (plain_extent I.whole of)
         from to near.old.items near.new.items) }
 {
-    let old = near.len();
-    near.resize(old.saturating_add(to - from), 0)?;
-    if near.len() - old < to - from {
-        return Err(AllocError);
+    let mut at = from;
+    while at < to {
+        let end = on_by(at, BLOCK_SIZE, to);
+        push_block(near, of, extents, at, end)?;
+        at = end;
     }
-    let count = put_near(near, old, of, extents, from, to);
-    near.truncate(count);
     Ok(())
 }
 
-/// Puts the places of the boxes from `from` up to `to` that do not lie apart from `of` behind the first `old` places.
-/// Returns the number of all. It has no branch for each test, since that would go wrong often.
+/// Adds the places of the boxes from `from` up to `to`, a block or less, that do not lie apart from `of`.
+#[inline(always)]
+fn push_block<I: IntNumber, A: Allocator>(
+    near: &mut Vec<usize, A>,
+    of: Extent<I>,
+    extents: &[Extent<I>],
+    from: usize,
+    to: usize,
+) -> Result<(), AllocError>
+    requires ordered { from ≤ to }
+    requires within { to ≤ length extents.now }
+    requires few { to ≤ from + 8 }
+    ensures ok { OnOk result (AreNearAdded (plain_extents I.whole extents.now) (plain_extent I.whole of)
+        from to near.old.items near.new.items) }
+{
+    let mut places = [0; BLOCK_SIZE];
+    let count = put_near(&mut places, of, extents, from, to);
+    if count > 0 {
+        near.extend_from_slice(&places[..count])?;
+    }
+    Ok(())
+}
+
+/// Puts the places of the boxes from `from` up to `to` that do not lie apart from `of` in front. Returns their number.
+/// It has no branch for each test, since that would go wrong often.
 #[inline(always)]
 fn put_near<I: IntNumber>(
-    near: &mut [usize],
-    old: usize,
+    places: &mut [usize],
     of: Extent<I>,
     extents: &[Extent<I>],
     from: usize,
     to: usize,
 ) -> usize
-    requires room { old + (to - from) ≤ length near.old }
+    requires room { to - from ≤ length places.old }
     requires ordered { from ≤ to }
     requires within { to ≤ length extents.now }
-    ensures { AreNearAdded (plain_extents I.whole extents.now) (plain_extent I.whole of)
-        from to (take old near.old) (take result near.new) }
+    ensures most { result ≤ length places.new }
+    ensures put { AreNearAdded (plain_extents I.whole extents.now) (plain_extent I.whole of)
+        from to [] (take result places.new) }
 {
-    let mut count = old;
+    let mut count = 0;
     for k in from..to {
         let extent = extents[k];
-        count = put_unless(is_apart(of, extent), near, count, extent.first);
+        count = put_unless(is_apart(of, extent), places, count, extent.first);
     }
     count
 }

@@ -27,9 +27,9 @@ loop-at-preserved g c =
     let at = c.loop-at.at in
     let end = c.on_by-end.result in
     let olds = c.loop-at.near.items in
-    let news = c.push_near.new.near.items in
+    let news = c.push_block.new.near.items in
     let added = subst (λ (xs : List _). AreNearAdded (plain_extents whole xs) of at end olds news)
-    c.deref.ensures.value c.in_ok-push_near.ensures.ok in (
+    c.deref.ensures.value c.in_ok-push_block.ensures.ok in (
       c.on_by-end.ensures.up_to,
       searched_added (IsApart of) (plain_extents whole c.args.strips.now.edges.items) of at end olds news
           (λ t apart. apart) added c.loop-at.invariant.1,
