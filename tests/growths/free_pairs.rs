@@ -1,4 +1,4 @@
-//! Free functions of `overlay_pairs`, and one of `overlay_order`, which stands below it.
+//! Free functions of `overlay_pairs` and of `overlay_parts`, and one of `overlay_order`, which stands below them.
 
 use crate::figures::{Width, point};
 use crate::refusals::{Answer, Memory, Trial};
@@ -9,6 +9,7 @@ use overlay_order::gather::take_in_order;
 use overlay_pairs::changed::{changes_between, find_open};
 use overlay_pairs::settle::count_settled;
 use overlay_pairs::strips::{points_by_strips, strips_of};
+use overlay_parts::parting::parts_by_lines;
 use std::process::Abort;
 use std::test::Fail;
 
@@ -82,4 +83,25 @@ fn check_order<I: Width>(trial: &Trial<'_, impl Abort>) -> Result<(), Fail> {
 #[test]
 fn functions_of_order(rt: HostRuntime) -> Result<(), Fail> {
     at_a_width!(rt, check_order)
+}
+
+// Two edges overlap: the middle one of their three parts is of both.
+fn check_parts<I: Width>(trial: &Trial<'_, impl Abort>) -> Result<(), Fail> {
+    let memory = trial.memory;
+    let edge = |from, to| CountedEdge {
+        a: point::<I>(from, 0),
+        b: point(to, 0),
+        count: ShapeCountBoolean { subj: 1, clip: 0 },
+    };
+    let edges = [edge(0, 2), edge(1, 3)];
+    let parts = trial.refuse_call("overlay_parts::parts_by_lines", || {
+        parts_by_lines(memory, &edges, &mut ())
+    })?;
+    assert!(trial.rt; parts.len() == 3 && parts[1].cover == 2);
+    Ok(())
+}
+
+#[test]
+fn functions_of_parts(rt: HostRuntime) -> Result<(), Fail> {
+    at_a_width!(rt, check_parts)
 }

@@ -6,7 +6,7 @@ ghost use Rattle.overlay_geom.specs.FlatShapes.{AreShapesPacked};
 ghost use Rattle.overlay_geom.specs.Packed.{IsPacked};
 ghost use Rattle.overlay_geom.specs.Paths.{plain_shapes};
 ghost use Rattle.overlay_order.specs.Vectors.{plain_vector, vector_of};
-ghost use Rattle.overlay_arrange.specs.Stores.{IsStoreReached};
+ghost use Rattle.overlay_parts.specs.Stores.{IsStoreReached};
 ghost use Rattle.overlay_extract.specs.ChildLinks.{plain_link};
 ghost use Rattle.overlay_extract.specs.PlacedResults.{IsHierarchy};
 ghost use Rattle.overlay_extract.specs.Results.{IsResult, IsContoursResult};

@@ -19,9 +19,10 @@ use Rattle.overlay_plane.specs.Meetings.{MeetInWholePoints}
 use Rattle.overlay_plane.specs.SnapPoints.{snap_points, snapped_edges}
 use Rattle.overlay_plane.proofs.Entries.{Contains-from_any, all_or_any}
 use Rattle.overlay_plane.proofs.WholeOnEdges.{by_test}
+use Rattle.overlay_parts.specs.PartedContents.{edges_in_parts}
+use Rattle.overlay_parts.specs.Parts.{Part, lone_part, AreParted}
 use Rattle.overlay_arrange.specs.Cut.{chain_by, AreLedAlongLines, IsOnLineOf, LeadingPoints}
-use Rattle.overlay_arrange.specs.Parting.{MayPart, cover_weight, cover_weight_of, edges_in_parts}
-use Rattle.overlay_arrange.specs.Parts.{Part, lone_part, AreParted}
+use Rattle.overlay_arrange.specs.Parting.{MayPart, cover_weight, cover_weight_of}
 use Rattle.overlay_arrange.specs.Snapping.{AreHeavyPieces}
 use Rattle.overlay_arrange.specs.Snapping.AreLedBySnapping.{cut, snapped}
 use Rattle.overlay_arrange.proofs.PartingKeepsCuts.{cut_weight_of_parted, forward_of_parted, snap_weight_of_parted}

@@ -9,8 +9,9 @@ use Rattle.overlay_geom.proofs.Mapped.{mapped_rest}
 use Rattle.overlay_plane.specs.Cutting.{piece_along}
 use Rattle.overlay_order.specs.Content.{carried_edge, carried_edges, plain_edge}
 use Rattle.overlay_order.specs.declared.edge.CountedEdge.{CountedEdge as HeldEdge}
+use Rattle.overlay_parts.specs.PartedContents.{covered}
 use Rattle.overlay_arrange.specs.Cut.{chain_by, LeadingPoints}
-use Rattle.overlay_arrange.specs.Parting.{cover_weight, covered}
+use Rattle.overlay_arrange.specs.Parting.{cover_weight}
 use Rattle.overlay_arrange.proofs.CoveredPieces.{cover_heavy_among, cover_weighed_on}
 
 module _ {I C : Type 0} (whole : I → ℤ) (counts : C → Counts) (points : LeadingPoints) (edges : List (HeldEdge I C))

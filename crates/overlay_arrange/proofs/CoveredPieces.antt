@@ -9,10 +9,11 @@ use Rattle.overlay_geom.proofs.Weights.{edge_weight}
 use Rattle.overlay_plane.specs.Carried.{Carried}
 use Rattle.overlay_plane.specs.Cutting.{piece_along}
 use Rattle.overlay_plane.specs.DerivedData.{AreCutAlong, ArePieces}
+use Rattle.overlay_parts.specs.PartedContents.{covered}
+use Rattle.overlay_parts.specs.Parts.{Part}
 use Rattle.overlay_arrange.specs.Batches.{AddsJoined}
 use Rattle.overlay_arrange.specs.Cut.{chain_by, LeadingPoints}
-use Rattle.overlay_arrange.specs.Parting.{AreJoinedParts, cover_weight, cover_weight_of, covered}
-use Rattle.overlay_arrange.specs.Parts.{Part}
+use Rattle.overlay_arrange.specs.Parting.{AreJoinedParts, cover_weight, cover_weight_of}
 use Rattle.overlay_arrange.proofs.PartingKept.{sum_times}
 use Rattle.overlay_arrange.proofs.PartingKeepsCuts.{carried_of_covered, pieces_weight}
 

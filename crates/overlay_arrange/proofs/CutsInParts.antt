@@ -4,9 +4,10 @@ use Rattle.overlay_geom.specs.Edges.{ends_of, weight}
 use Rattle.overlay_plane.specs.Carried.{Carried, edges_in}
 use Rattle.overlay_plane.specs.CutPoints.{cut_edges, cut_points}
 use Rattle.overlay_plane.specs.EdgeLists.{IsForwardBy}
+use Rattle.overlay_parts.specs.PartedContents.{AreHeavyParts}
+use Rattle.overlay_parts.specs.PartedContents.{covered}
 use Rattle.overlay_arrange.specs.Batches.{AreJoinedPieces}
-use Rattle.overlay_arrange.specs.PartedContents.{AreHeavyParts}
-use Rattle.overlay_arrange.specs.Parting.{cover_weight, covered, AreInParts, AreJoinedParts, MayPart}
+use Rattle.overlay_arrange.specs.Parting.{cover_weight, AreInParts, AreJoinedParts, MayPart}
 use Rattle.overlay_arrange.proofs.CoveredChains.{cut_heavy_of_covers}
 use Rattle.overlay_arrange.proofs.CutsOfParts.{cut_in_parts, cut_weight_in_parts}
 

@@ -7,10 +7,10 @@ use Rattle.overlay_plane.specs.Carried.{Carried, edges_in}
 use Rattle.overlay_plane.specs.CutPoints.{cut_edges, cut_points}
 use Rattle.overlay_plane.specs.EdgeLists.{IsForwardBy}
 use Rattle.overlay_plane.specs.Meetings.{MeetInWholePoints}
+use Rattle.overlay_parts.specs.PartedContents.{covered, edges_in_parts}
 use Rattle.overlay_arrange.specs.Batches.{AreJoinedPieces}
 use Rattle.overlay_arrange.specs.Cut.{LeadingPoints}
 use Rattle.overlay_arrange.specs.Parting.{AreInParts, unparted, in_parts, AreJoinedParts, cover_weight}
-use Rattle.overlay_arrange.specs.Parting.{covered, edges_in_parts}
 use Rattle.overlay_arrange.specs.Snapping.{AreHeavyPieces, AreLedBySnapping, IsLedOnce}
 use Rattle.overlay_arrange.proofs.PartingKeepsCuts.{carried_of_covered, covered_by_none, cut_of_parted}
 use Rattle.overlay_arrange.proofs.PartingKeepsCuts.{cut_weight_of_parted, heavy_of_parted}

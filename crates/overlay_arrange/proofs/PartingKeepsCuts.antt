@@ -16,11 +16,12 @@ use Rattle.overlay_plane.specs.EdgeLists.{IsForwardBy}
 use Rattle.overlay_plane.specs.Meetings.{MeetInWholePoints}
 use Rattle.overlay_plane.specs.SnapPoints.{snap_points}
 use Rattle.overlay_plane.proofs.PieceCounts.{edge_weight-piece}
+use Rattle.overlay_parts.specs.PartedContents.{carried_parts}
+use Rattle.overlay_parts.specs.PartedContents.{covered, edges_in_parts}
+use Rattle.overlay_parts.specs.Parts.{Part, lone_part, AreParted}
 use Rattle.overlay_arrange.specs.Batches.{AreJoinedPieces}
 use Rattle.overlay_arrange.specs.Cut.{chain_by, LeadingPoints}
-use Rattle.overlay_arrange.specs.Parting.{AreJoinedParts, MayPart, carried_parts, cover_weight, cover_weight_of}
-use Rattle.overlay_arrange.specs.Parting.{covered, edges_in_parts}
-use Rattle.overlay_arrange.specs.Parts.{Part, lone_part, AreParted}
+use Rattle.overlay_arrange.specs.Parting.{AreJoinedParts, MayPart, cover_weight, cover_weight_of}
 use Rattle.overlay_arrange.specs.Snapping.{AreHeavyPieces, AreLedBySnapping, IsLedOnce}
 use Rattle.overlay_arrange.specs.Snapping.AreLedBySnapping.{cut, snapped}
 use Rattle.overlay_arrange.proofs.KeptChains.{KeepChains, cuts_keep, snaps_keep}

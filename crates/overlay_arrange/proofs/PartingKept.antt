@@ -17,11 +17,12 @@ use Rattle.overlay_plane.specs.Meetings.{MeetInWholePoints}
 use Rattle.overlay_plane.proofs.Entries.{Contains-map}
 use Rattle.overlay_plane.proofs.LaterEntries.{Contains-cases}
 use Rattle.overlay_plane.proofs.Totals.{Contains-head, Contains-later}
+use Rattle.overlay_parts.specs.PartedContents.{carried_parts, edges_in_parts}
+use Rattle.overlay_parts.specs.Parts.{Part, ends_of_part, part_between, AreParted, moved, parted, joined}
+use Rattle.overlay_parts.specs.Parts.{IsJoinedPart, IsPartedAt}
 use Rattle.overlay_arrange.specs.Batches.{StandFor}
 use Rattle.overlay_arrange.specs.Cut.{chain_by, LeadingPoints}
-use Rattle.overlay_arrange.specs.Parting.{MayPart, carried_parts, cover_weight, cover_weight_of, edges_in_parts}
-use Rattle.overlay_arrange.specs.Parts.{Part, ends_of_part, part_between, AreParted, moved, parted, joined}
-use Rattle.overlay_arrange.specs.Parts.{IsJoinedPart, IsPartedAt}
+use Rattle.overlay_arrange.specs.Parting.{MayPart, cover_weight, cover_weight_of}
 use Rattle.overlay_arrange.proofs.KeptChains.{HaveSameEnds, KeepChains, whole_alike}
 use Rattle.overlay_arrange.proofs.MergedParts.{given_shuffled}
 use Rattle.overlay_arrange.proofs.PartedPieces.{PiecesApart, one_or_not, pieces_apart, pieces_of_parts, same_pieces}

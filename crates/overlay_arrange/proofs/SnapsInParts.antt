@@ -3,7 +3,7 @@ use Rattle.std.proofs.Common.{◌≡◌, ℕ, List, subst}
 use Rattle.overlay_geom.specs.Edges.{ends_of}
 use Rattle.overlay_plane.specs.Carried.{Carried, edges_in}
 use Rattle.overlay_plane.specs.EdgeLists.{IsForwardBy}
-use Rattle.overlay_arrange.specs.PartedContents.{AreHeavyParts}
+use Rattle.overlay_parts.specs.PartedContents.{AreHeavyParts}
 use Rattle.overlay_arrange.specs.Parting.{AreInParts, MayPart}
 use Rattle.overlay_arrange.specs.Snapping.{AreHeavyPieces, ArePartsLedHeavy, ArePartsLedOnce, IsLedOnce}
 use Rattle.overlay_arrange.proofs.CoveredChains.{led_heavy_of_covers}

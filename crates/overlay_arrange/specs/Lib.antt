@@ -1,12 +1,8 @@
 pub mod Batches
 pub mod Cut
 pub mod HotPoints
-pub mod LineParts
 pub mod Meetings
-pub mod PartedContents
 pub mod Parting
-pub mod Parts
 pub mod PixelRuns
 pub mod Runs
 pub mod Snapping
-pub mod Stores

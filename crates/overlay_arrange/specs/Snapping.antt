@@ -7,9 +7,10 @@ use Rattle.overlay_plane.specs.CutPoints.{cut_points}
 use Rattle.overlay_plane.specs.Cutting.{pieces_through}
 use Rattle.overlay_plane.specs.Meetings.{MeetInWholePoints}
 use Rattle.overlay_plane.specs.SnapPoints.{snap_points}
+use Rattle.overlay_parts.specs.PartedContents.{covered}
 use Rattle.overlay_arrange.specs.Batches.{AreJoinedPieces}
 use Rattle.overlay_arrange.specs.Cut.{LeadingPoints}
-use Rattle.overlay_arrange.specs.Parting.{cover_weight, covered, AreJoinedParts}
+use Rattle.overlay_arrange.specs.Parting.{cover_weight, AreJoinedParts}
 
 -- snap rounding leads the edges of the list through these points
 pub data AreLedBySnapping (es : List CountedEdge) : LeadingPoints → Type 0 where

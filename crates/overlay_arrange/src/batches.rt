@@ -10,9 +10,9 @@ ghost use Rattle.overlay_plane.specs.Carried.{edges_in};
 ghost use Rattle.overlay_plane.specs.Cutting.{piece_along};
 ghost use Rattle.overlay_plane.specs.DerivedData.{GivesPiece};
 ghost use Rattle.overlay_order.specs.Content.{plain_edge, carried_edge, IsHeld};
+ghost use Rattle.overlay_parts.specs.Stores.{IsStoreReached};
 ghost use Rattle.overlay_arrange.specs.Batches.{AddsJoined, StandFor};
 ghost use Rattle.overlay_arrange.specs.Cut.{StaysWhole};
-ghost use Rattle.overlay_arrange.specs.Stores.{IsStoreReached};
 
 use crate::content::{Content, reaches_limit};
 use crate::cut::push_pieces;
@@ -58,7 +58,7 @@ impl<I: IntNumber, C: EdgeCount, A: Allocator + Clone> Pieces<I, C, A> {
 
     /// Adds the pieces of an edge along the chain from its smaller to its larger end through the points. Each piece
     /// stands for edges that weigh `hidden` more. Then it joins equal pieces, if there are many pieces.
-    #[tactic(auto, using(crate::proofs::ReachedStores::never_written))]
+    #[tactic(auto, using(overlay_parts::proofs::ReachedStores::never_written))]
     pub(crate) fn add(
         &mut self,
         e: &CountedEdge<I, C>,
@@ -117,7 +117,7 @@ impl<I: IntNumber, C: EdgeCount, A: Allocator + Clone> Pieces<I, C, A> {
     }
 
     /// Joins equal pieces, if there are many pieces.
-    #[tactic(auto, using(crate::proofs::ReachedStores::never_written))]
+    #[tactic(auto, using(overlay_parts::proofs::ReachedStores::never_written))]
     fn join_if_many(&mut self, store: &mut C::Store) -> Result<(), AllocError>
         requires { weight (edges_in self.old.content) + self.old.away < 2 ^ 31 }
         ensures ok { OnOk result (StandFor C.merges self.old.content self.new.content) }

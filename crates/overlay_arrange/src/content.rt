@@ -14,8 +14,8 @@ ghost use Rattle.overlay_order.specs.Content.{carried_edge, carried_edges};
 ghost use Rattle.overlay_order.specs.Content.{IsAscending, IsContent, IsHeld};
 ghost use Rattle.overlay_order.specs.EdgeData.{IsReversedBy};
 ghost use Rattle.overlay_graph.specs.FillTests.{some_fill_passes, IsFoundUnless};
+ghost use Rattle.overlay_parts.specs.Stores.{IsStoreReached};
 ghost use Rattle.overlay_arrange.specs.Batches.{StandFor};
-ghost use Rattle.overlay_arrange.specs.Stores.{IsStoreReached};
 
 use crate::merge::{join_runs, merge, merge_runs, weight_of, weight_unless};
 use overlay_geom::error::OverlayError;

@@ -4,8 +4,7 @@ ghost use Rattle.std.specs.Prelude.{◌≡◌, ◌↔◌, ◌∷◌, [], false, 
 ghost use Rattle.overlay_geom.specs.Numbers.{Within};
 ghost use Rattle.overlay_geom.specs.Edges.{ends_of};
 ghost use Rattle.overlay_geom.specs.Placed.{share_end, IsAcross, IsAlong};
-ghost use Rattle.overlay_geom.specs.Plane.{cross_at};
-ghost use Rattle.overlay_geom.specs.Points.{plain_point, InRange};
+ghost use Rattle.overlay_geom.specs.Points.{plain_point};
 ghost use Rattle.overlay_plane.specs.CutPoints.{is_between, crossing};
 ghost use Rattle.overlay_order.specs.Content.{plain_edge, IsHeld};
 ghost use Rattle.overlay_pairs.specs.Settle.{AreSettled};
@@ -21,6 +20,7 @@ use overlay_geom::vector::cross_at;
 use overlay_order::count::EdgeCount;
 use overlay_order::edge::CountedEdge;
 use overlay_pairs::settle::{meet_in_ends, place_by};
+use overlay_parts::lines::is_on_line;
 use std::alloc::{AllocError, Allocator};
 
 /// Adds the whole points through which the edges e at place i and f at place j lead each other. Collinear edges give
@@ -186,16 +186,6 @@ fn common_point<I: IntNumber, C: EdgeCount>(
     } else {
         crossing(e, f)
     }
-}
-
-/// Returns whether the point lies on the edge's line.
-pub(crate) fn is_on_line<I: IntNumber, C: EdgeCount>(e: &CountedEdge<I, C>, v: IntPoint<I>) -> bool
-    requires edge { IsHeld I.limit (plain_edge I.whole C.counts e.now) }
-    requires point { InRange I.limit (plain_point I.whole v) }
-    ensures { let whole = plain_edge I.whole C.counts e.now in
-        IsTrue result ↔ (cross_at whole.a whole.b (plain_point I.whole v) ≡ pos 0) }
-{
-    cross_at(e.a, e.b, v).sign().is_eq()
 }
 
 /// Returns the whole point nearest to the point where e crosses f's line. If an end of e lies on that line, it is that

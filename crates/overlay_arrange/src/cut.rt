@@ -17,11 +17,12 @@ ghost use Rattle.overlay_plane.specs.InOrder.{in_order};
 ghost use Rattle.overlay_plane.specs.Meetings.{MeetInWholePoints};
 ghost use Rattle.overlay_order.specs.Content.{plain_edge, plain_edges, carried_edge, carried_edges};
 ghost use Rattle.overlay_order.specs.Content.{IsHeld, IsContent, IsAscending};
+ghost use Rattle.overlay_parts.specs.PartedContents.{covered};
+ghost use Rattle.overlay_parts.specs.Stores.{IsStoreReached};
 ghost use Rattle.overlay_arrange.specs.Cut.{AddsGiven, LeadingPoints, StaysWhole};
 ghost use Rattle.overlay_arrange.specs.Meetings.{plain_meetings, AreByPlace, AreInRange, AreLedAlong, AreMeetings};
 ghost use Rattle.overlay_arrange.specs.Meetings.{ArePointsAt};
-ghost use Rattle.overlay_arrange.specs.Parting.{cover_weight, covered, AreJoinedParts};
-ghost use Rattle.overlay_arrange.specs.Stores.{IsStoreReached};
+ghost use Rattle.overlay_arrange.specs.Parting.{cover_weight, AreJoinedParts};
 
 use crate::batches::{Pieces, hidden_at};
 use crate::content::Content;
@@ -43,7 +44,7 @@ impl<I: IntNumber, C: EdgeCount, A: Allocator> Content<I, C, A> {
     /// whether a point was rounded, and the edges before the cut. If no point was rounded, the edges met only in whole
     /// points or overlapped. The edges ascend. The meetings are theirs, and are dropped. A refusal leaves the content
     /// as it was.
-    #[tactic(auto, using(crate::proofs::ReachedStores::never_written))]
+    #[tactic(auto, using(overlay_parts::proofs::ReachedStores::never_written))]
     pub(crate) fn cut_at(
         &mut self,
         meetings: Vec<Meeting<I>, A>,
@@ -72,7 +73,7 @@ impl<I: IntNumber, C: EdgeCount, A: Allocator> Content<I, C, A> {
 
     /// Cuts each edge into the pieces of the chain through its meetings. Returns the edges before the cut. The meetings
     /// are those of the edges. They are dropped. The edges ascend. A refusal leaves the content as it was.
-    #[tactic(auto, using(crate::proofs::ReachedStores::never_written))]
+    #[tactic(auto, using(overlay_parts::proofs::ReachedStores::never_written))]
     pub(crate) fn cut_through(
         &mut self,
         mut meetings: Vec<Meeting<I>, A>,
@@ -102,7 +103,7 @@ impl<I: IntNumber, C: EdgeCount, A: Allocator> Content<I, C, A> {
 
 /// Returns the pieces of all edges, each along the chain through its meetings. Equal pieces may be joined. The meetings
 /// are sorted by their places.
-#[tactic(auto, using(crate::proofs::ReachedStores::never_written))]
+#[tactic(auto, using(overlay_parts::proofs::ReachedStores::never_written))]
 fn cut_edges<I: IntNumber, C: EdgeCount, A: Allocator + Clone>(
     alloc: A,
     edges: &[CountedEdge<I, C>],

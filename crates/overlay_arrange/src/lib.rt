@@ -11,7 +11,6 @@ mod limits;
 mod meetings;
 mod merge;
 mod parting;
-mod parts;
 mod pixel;
 mod pixel_runs;
 mod repeats;

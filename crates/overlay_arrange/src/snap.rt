@@ -6,10 +6,11 @@ ghost use Rattle.overlay_geom.specs.Points.{plain_points};
 ghost use Rattle.overlay_plane.specs.SnapPoints.{snap_points};
 ghost use Rattle.overlay_order.specs.Content.{carried_edges, plain_edge, plain_edges, IsContent, IsHeld};
 ghost use Rattle.overlay_pairs.specs.PointStrips.{AreStripsOf};
+ghost use Rattle.overlay_parts.specs.PartedContents.{covered};
+ghost use Rattle.overlay_parts.specs.Stores.{IsStoreReached};
 ghost use Rattle.overlay_arrange.specs.HotPoints.{AreHotPoints, AreLeftBefore, AreMetAmong, AreMetInside};
 ghost use Rattle.overlay_arrange.specs.HotPoints.{ArePointsAscending, AreRightFrom, AreStripsIfAny};
-ghost use Rattle.overlay_arrange.specs.Parting.{cover_weight, covered, AreJoinedParts};
-ghost use Rattle.overlay_arrange.specs.Stores.{IsStoreReached};
+ghost use Rattle.overlay_arrange.specs.Parting.{cover_weight, AreJoinedParts};
 
 use crate::batches::{Pieces, hidden_at};
 use crate::content::Content;
@@ -37,7 +38,7 @@ const PIECES_OF_A_POINT: usize = 6;
 
 /// Returns the pieces of all edges, each along the chain through the hot points whose pixels it meets. Equal pieces may
 /// be joined.
-#[tactic(auto, using(crate::proofs::ReachedStores::never_written))]
+#[tactic(auto, using(overlay_parts::proofs::ReachedStores::never_written))]
 pub(crate) fn snap_edges<I: IntNumber, C: EdgeCount, A: Allocator + Clone>(
     alloc: A,
     edges: &[CountedEdge<I, C>],

@@ -8,10 +8,10 @@ ghost use Rattle.overlay_plane.specs.Arrangements.{IsReachedBy, IsSplit, WeighsT
 ghost use Rattle.overlay_plane.specs.Carried.{edges_in};
 ghost use Rattle.overlay_order.specs.Content.{IsAscending, IsContent};
 ghost use Rattle.overlay_graph.specs.Arranged.{IsSplitCarrying};
+ghost use Rattle.overlay_parts.specs.Stores.{IsStoreReached};
 ghost use Rattle.overlay_arrange.specs.HotPoints.{AreHotPoints};
 ghost use Rattle.overlay_arrange.specs.Meetings.{plain_meetings, AreMeetings};
 ghost use Rattle.overlay_arrange.specs.Snapping.{ArePartsLedHeavy, ArePartsLedOnce};
-ghost use Rattle.overlay_arrange.specs.Stores.{IsStoreReached};
 
 use crate::content::Content;
 use crate::hot::hot_points;
@@ -55,7 +55,7 @@ impl<I: IntNumber, C: EdgeCount, A: Allocator + Clone> Content<I, C, A> {
     /// Leads each edge through whole points, once. Where all meeting points are whole, it takes the edge's meeting
     /// points; else the hot points whose pixels it meets. The edges ascend, and the meetings are theirs. A refusal
     /// leaves the content as it was.
-    #[tactic(auto, using(crate::proofs::ReachedStores::never_written))]
+    #[tactic(auto, using(overlay_parts::proofs::ReachedStores::never_written))]
     fn lead_once(
         &mut self,
         meetings: Vec<Meeting<I>, A>,

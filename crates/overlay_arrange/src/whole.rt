@@ -5,11 +5,11 @@ ghost use Rattle.overlay_plane.specs.Meetings.{MeetInWholePoints};
 ghost use Rattle.overlay_order.specs.Content.{plain_edges, IsHeld};
 ghost use Rattle.overlay_arrange.specs.Meetings.{plain_meetings, AreMeetings};
 
-use crate::crossing::is_on_line;
 use crate::meetings::Meeting;
 use overlay_geom::number::IntNumber;
 use overlay_order::count::EdgeCount;
 use overlay_order::edge::CountedEdge;
+use overlay_parts::lines::is_on_line;
 
 /// Returns whether the edges meet in whole points alone, or overlap. Then each of the given meetings lies on the line
 /// of its edge, so no point was rounded to another point.

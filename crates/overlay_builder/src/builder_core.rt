@@ -8,7 +8,7 @@ ghost use Rattle.overlay_plane.specs.Arrangements.{IsReachedBy};
 ghost use Rattle.overlay_plane.specs.Carried.{edges_in};
 ghost use Rattle.overlay_order.specs.Content.{IsContent};
 ghost use Rattle.overlay_graph.specs.Arranged.{IsArrangedCarrying};
-ghost use Rattle.overlay_arrange.specs.Stores.{IsStoreReached};
+ghost use Rattle.overlay_parts.specs.Stores.{IsStoreReached};
 ghost use Rattle.overlay_builder.specs.AddedSteps.{AddsStep, LeavesStore, StepWeighsTooMuch};
 ghost use Rattle.overlay_builder.specs.BuilderCalls.{AddsOneAsAsked, AddsPathAsAsked};
 ghost use Rattle.overlay_builder.specs.Held.{nothing_held, plain_held, AnswersQuery};

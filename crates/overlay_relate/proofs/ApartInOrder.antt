@@ -16,7 +16,7 @@ use Rattle.overlay_geom.proofs.Mapped.{AllPairs-map, AllPairs-unmap}
 use Rattle.overlay_geom.proofs.Orders.{lt_or_eq, edge_eq-from_lt, edge_lt-trans}
 use Rattle.overlay_plane.proofs.Entries.{all_of_entries, Contains-map}
 use Rattle.overlay_order.specs.Content.{IsAscending, IsHeld}
-use Rattle.overlay_arrange.specs.Runs.{IsInOrder}
+use Rattle.overlay_parts.specs.EdgeOrder.{IsInOrder}
 use Rattle.overlay_relate.proofs.ApartEdges.{LeadForward, stand_once, settled_apart}
 
 module _ (ks : List CountedEdge) (forward : LeadForward (all_ends ks)) (apart : AreApart (all_ends ks)) where

@@ -5,7 +5,7 @@ ghost use Rattle.std.specs.List.Sorted.{IsPermutation};
 ghost use Rattle.overlay_geom.specs.Points.{plain_points, AllInRange};
 ghost use Rattle.overlay_geom.specs.Resolved.{plain_edges, IsLongEdge, AreApart, IsResolved};
 ghost use Rattle.overlay_order.specs.Content.{IsAscending};
-ghost use Rattle.overlay_arrange.specs.Runs.{IsInOrder};
+ghost use Rattle.overlay_parts.specs.EdgeOrder.{IsInOrder};
 ghost use Rattle.overlay_relate.specs.Resolved.{edges_once, ends_once};
 
 use crate::contour_edges::contour_edges;

@@ -6,7 +6,7 @@ ghost use Rattle.overlay_geom.specs.Edges.{all_ends};
 ghost use Rattle.overlay_geom.specs.Plane.{is_forward};
 ghost use Rattle.overlay_plane.specs.PlacedContours.{walk_at, walks_at};
 ghost use Rattle.overlay_graph.specs.Graphs.{graph_edges};
-ghost use Rattle.overlay_arrange.specs.Stores.{IsStoreReached};
+ghost use Rattle.overlay_parts.specs.Stores.{IsStoreReached};
 ghost use Rattle.overlay_extract.specs.Places.{place_list, place_lists, AreInside};
 ghost use Rattle.overlay_walk.specs.GroupedContours.{plain_contours};
 ghost use Rattle.overlay_walk.specs.Steps.{plain_step, plain_steps, RunsAlong};
@@ -31,7 +31,7 @@ use std::alloc::{AllocError, Allocator};
 /// Returns the shapes whose contours, along edges of the graph, stand at these places. Each step has the filled sides
 /// and the data of its edge, both turned round where it leads from the larger end; unless edges are to be kept,
 /// neighbours are joined.
-#[tactic(auto, using(overlay_arrange::proofs::ReachedStores::never_written))]
+#[tactic(auto, using(overlay_parts::proofs::ReachedStores::never_written))]
 pub fn assembled<I: IntNumber, D: OverlayEdgeData, A: Allocator + Clone>(
     graph: &Graph<I, CountWithData<D>, A>,
     contours: &[Contour<I, A>],
@@ -55,7 +55,7 @@ pub fn assembled<I: IntNumber, D: OverlayEdgeData, A: Allocator + Clone>(
 }
 
 // The shape of which the contours stand at these places.
-#[tactic(auto, using(overlay_arrange::proofs::ReachedStores::never_written))]
+#[tactic(auto, using(overlay_parts::proofs::ReachedStores::never_written))]
 fn shape_at<I: IntNumber, D: OverlayEdgeData, A: Allocator + Clone>(
     graph: &Graph<I, CountWithData<D>, A>,
     contours: &[Contour<I, A>],
@@ -99,7 +99,7 @@ fn contour<I: IntNumber, D: OverlayEdgeData, A: Allocator + Clone>(
 }
 
 // The steps of the walk with the filled sides and the data of their edges.
-#[tactic(auto, using(overlay_arrange::proofs::ReachedStores::never_written))]
+#[tactic(auto, using(overlay_parts::proofs::ReachedStores::never_written))]
 fn vectors_along<I: IntNumber, D: OverlayEdgeData, A: Allocator + Clone>(
     graph: &Graph<I, CountWithData<D>, A>,
     walk: &[Step<I>],

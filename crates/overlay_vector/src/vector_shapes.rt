@@ -3,7 +3,7 @@
 ghost use Rattle.std.specs.Prelude.{IfOk};
 ghost use Rattle.overlay_plane.specs.Balance.{HasBalancedCounts};
 ghost use Rattle.overlay_graph.specs.Graphs.{graph_edges};
-ghost use Rattle.overlay_arrange.specs.Stores.{IsStoreReached};
+ghost use Rattle.overlay_parts.specs.Stores.{IsStoreReached};
 ghost use Rattle.overlay_extract.specs.Results.{asked};
 ghost use Rattle.overlay_vector.specs.VectorShapes.{plain_vector_shapes, AreVectorShapes};
 
@@ -31,7 +31,7 @@ use std::alloc::{AllocError, Allocator};
 /// them. The contours may begin anywhere.
 ///
 /// The graph's counts are balanced. The buffer lends its room. The store is handed to `reversed`.
-#[tactic(auto, using(overlay_arrange::proofs::ReachedStores::never_written))]
+#[tactic(auto, using(overlay_parts::proofs::ReachedStores::never_written))]
 pub fn vector_shapes<I: IntNumber, D: OverlayEdgeData, A: Allocator + Clone>(
     graph: &Graph<I, CountWithData<D>, A>,
     overlay_rule: OverlayRule,

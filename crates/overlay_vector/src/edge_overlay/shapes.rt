@@ -5,7 +5,7 @@ ghost use Rattle.overlay_geom.specs.Settled.{IsSettled};
 ghost use Rattle.overlay_plane.specs.Balance.{HasBalancedCounts};
 ghost use Rattle.overlay_plane.specs.Carried.{edges_in};
 ghost use Rattle.overlay_order.specs.Content.{IsAscending};
-ghost use Rattle.overlay_arrange.specs.Stores.{IsStoreReached};
+ghost use Rattle.overlay_parts.specs.Stores.{IsStoreReached};
 ghost use Rattle.overlay_builder.specs.GivenPaths.{IsBalancedUnlessFailed};
 ghost use Rattle.overlay_builder.specs.Held.{AnswersQuery};
 ghost use Rattle.overlay_extract.specs.GivenRegion.{WindsRoundGiven};
@@ -44,7 +44,7 @@ impl<I: OverlayInt, D: OverlayEdgeData, A: Allocator + Clone> EdgeOverlay<I, D, 
     /// The edges are balanced, as `is_balanced` tells: as many steps of the subject, and of the clip, enter
     /// each point as leave it. A builder that has failed may be asked whatever it holds, and answers `Failed`.
     /// Refusals are those of `build_vectors`.
-    #[tactic(auto, using(overlay_arrange::proofs::ReachedStores::never_written))]
+    #[tactic(auto, using(overlay_parts::proofs::ReachedStores::never_written))]
     pub fn build_vector_shapes(
         &mut self,
         overlay_rule: OverlayRule,
@@ -79,7 +79,7 @@ impl<I: OverlayInt, D: OverlayEdgeData, A: Allocator + Clone> EdgeOverlay<I, D, 
     }
 
     // The shapes round the region of the arranged edges. The buffer is there afterwards.
-    #[tactic(auto, using(overlay_arrange::proofs::ReachedStores::never_written))]
+    #[tactic(auto, using(overlay_parts::proofs::ReachedStores::never_written))]
     fn extract(
         &mut self,
         overlay_rule: OverlayRule,

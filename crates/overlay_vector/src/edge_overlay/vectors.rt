@@ -4,7 +4,7 @@ ghost use Rattle.std.specs.Prelude.{◌≡◌, IfOk, OnOk, IsErrOf};
 ghost use Rattle.overlay_geom.specs.Settled.{IsSettled};
 ghost use Rattle.overlay_plane.specs.Carried.{edges_in};
 ghost use Rattle.overlay_order.specs.Content.{IsAscending};
-ghost use Rattle.overlay_arrange.specs.Stores.{IsStoreReached};
+ghost use Rattle.overlay_parts.specs.Stores.{IsStoreReached};
 ghost use Rattle.overlay_builder.specs.Held.{AnswersQuery};
 ghost use Rattle.overlay_vector.specs.DataVectors.{plain_data_vectors, selected_vectors};
 ghost use Rattle.overlay_vector.specs.EdgeBuilder.{held_by, IsArrangedWithData};
@@ -36,7 +36,7 @@ impl<I: OverlayInt, D: OverlayEdgeData, A: Allocator + Clone> EdgeOverlay<I, D, 
     /// `Solver::SNAPPED`) where edges still meet in points that are no ends of both after 64 rounds;
     /// `TooManyEdges` where a round brings the weight to 2^31; `Memory`. After these three the builder has
     /// failed, and what it holds is left open.
-    #[tactic(auto, using(overlay_arrange::proofs::ReachedStores::never_written))]
+    #[tactic(auto, using(overlay_parts::proofs::ReachedStores::never_written))]
     pub fn build_vectors(
         &mut self,
         overlay_rule: OverlayRule,

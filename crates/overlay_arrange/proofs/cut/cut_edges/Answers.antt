@@ -12,19 +12,20 @@ use Rattle.overlay_plane.specs.Carried.{Carried, edges_in}
 use Rattle.overlay_plane.specs.DerivedData.{ArePieces}
 use Rattle.overlay_order.specs.Content.{carried_edge, carried_edges, plain_edge, plain_edges, IsHeld}
 use Rattle.overlay_pairs.proofs.Entries.{placed_in_mapped}
+use Rattle.overlay_parts.specs.Stores.IsStoreReached.{unwritten}
+use Rattle.overlay_parts.proofs.ReachedStores.{reached_on}
+use Rattle.overlay_parts.specs.PartedContents.{covered}
 use Rattle.overlay_arrange.specs.Batches.{AddsJoined}
 use Rattle.overlay_arrange.specs.Cut.{chain_by, LeadingPoints}
-use Rattle.overlay_arrange.specs.Stores.IsStoreReached.{unwritten}
 use Rattle.overlay_arrange.specs.Meetings.{plain_meetings, AreLedAlong, ArePointsAt}
 use Rattle.overlay_arrange.specs.declared.meetings.Meeting.{Meeting}
 use Rattle.overlay_arrange.proofs.CutContents.{weight_of_entry}
 use Rattle.overlay_arrange.proofs.LedThrough.{IsLedThrough, led_through, points_in_range}
-use Rattle.overlay_arrange.proofs.ReachedStores.{reached_on}
 use Rattle.overlay_arrange.proofs.StandingLists.{joined_both, joined_none}
 use Rattle.overlay_arrange.proofs.StandingPieces.{joined_pieces}
 use Rattle.overlay_arrange.proofs.CoveredLoops.{loop_heavy, loop_weighed}
 use Rattle.overlay_arrange.proofs.CoveredPieces.{all_joined_parts}
-use Rattle.overlay_arrange.specs.Parting.{cover_weight, covered}
+use Rattle.overlay_arrange.specs.Parting.{cover_weight}
 use Rattle.overlay_arrange.proofs.cut.cut_edges.Goals as goal
 
 pub add-requires-clause-held : goal.add-requires-clause-held

@@ -4,10 +4,10 @@ use Rattle.overlay_geom.specs.Edges.{weight}
 use Rattle.overlay_plane.specs.Carried.{Carried, edges_in}
 use Rattle.overlay_plane.specs.DerivedData.{ArePieces}
 use Rattle.overlay_order.specs.Content.{plain_edges, carried_edges}
+use Rattle.overlay_parts.specs.Stores.{IsStoreReached}
 use Rattle.overlay_arrange.specs.Batches.{AddsJoined}
 use Rattle.overlay_arrange.specs.Cut.{chain_by, LeadingPoints}
 use Rattle.overlay_arrange.specs.Meetings.{plain_meetings, AreLedAlong}
-use Rattle.overlay_arrange.specs.Stores.{IsStoreReached}
 use Rattle.overlay_arrange.proofs.CoveredLoops.{weight_from}
 use Rattle.overlay_arrange.proofs.cut.cut_edges.Given as goal
 

@@ -4,10 +4,10 @@ use Rattle.std.specs.Prelude.{IsTrue}
 use Rattle.overlay_geom.specs.Counts.{reversed_counts}
 use Rattle.overlay_geom.specs.Points.{plain_point}
 use Rattle.overlay_order.specs.Content.{carried_edge}
+use Rattle.overlay_parts.proofs.ReachedStores.{reached_unless}
+use Rattle.overlay_parts.specs.Stores.IsStoreReached.{unwritten, written}
 use Rattle.overlay_arrange.proofs.CarriedPieces.{none_given, piece_given_along, piece_given_back}
 use Rattle.overlay_arrange.proofs.Pieces.{piece_back}
-use Rattle.overlay_arrange.proofs.ReachedStores.{reached_unless}
-use Rattle.overlay_arrange.specs.Stores.IsStoreReached.{unwritten, written}
 use Rattle.overlay_arrange.proofs.cut.piece.Goals as goal
 
 pub returns-in-Greater-clause-counts : goal.returns-in-Greater-clause-counts

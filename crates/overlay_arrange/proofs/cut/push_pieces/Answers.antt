@@ -12,12 +12,12 @@ use Rattle.overlay_plane.specs.Carried.{edges_in}
 use Rattle.overlay_plane.specs.Cutting.{piece_along}
 use Rattle.overlay_plane.specs.DerivedData.{GivesPiece}
 use Rattle.overlay_order.specs.Content.{plain_edge, carried_edge}
+use Rattle.overlay_parts.specs.Stores.IsStoreReached.{unwritten}
+use Rattle.overlay_parts.proofs.ReachedStores.{reached_on}
 use Rattle.overlay_arrange.specs.Cut.{AddsGiven, StaysWhole}
-use Rattle.overlay_arrange.specs.Stores.IsStoreReached.{unwritten}
 use Rattle.overlay_arrange.proofs.Adding.{push-next, push-last}
 use Rattle.overlay_arrange.proofs.CarriedPieces.{adds_alike, adds_both, adds_none}
 use Rattle.overlay_arrange.proofs.Pieces.{heavy_beginning}
-use Rattle.overlay_arrange.proofs.ReachedStores.{reached_on}
 use Rattle.overlay_arrange.proofs.cut.push_pieces.Goals as goal
 
 pub push_piece-requires-clause-to : goal.push_piece-requires-clause-to

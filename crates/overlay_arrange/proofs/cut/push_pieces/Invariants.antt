@@ -8,8 +8,8 @@ use Rattle.overlay_plane.specs.Carried.{Carried, edges_in}
 use Rattle.overlay_plane.specs.Cutting.{piece_along}
 use Rattle.overlay_plane.specs.DerivedData.{GivesPiece}
 use Rattle.overlay_order.specs.Content.{plain_edge, carried_edge}
+use Rattle.overlay_parts.specs.Stores.{IsStoreReached}
 use Rattle.overlay_arrange.specs.Cut.{AddsGiven}
-use Rattle.overlay_arrange.specs.Stores.{IsStoreReached}
 use Rattle.overlay_arrange.proofs.cut.push_pieces.Given as goal
 
 abbrev pub invariant-loop-to : goal.invariant-loop-to

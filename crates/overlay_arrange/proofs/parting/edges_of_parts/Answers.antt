@@ -2,8 +2,8 @@
 use Rattle.std.proofs.Common.{◌<◌, length, arith}
 use Rattle.std.proofs.lemmas.Result.{err_from_is_err_and}
 use Rattle.overlay_geom.proofs.Mapped.{All-mapped_at}
-use Rattle.overlay_arrange.specs.Parts.{plain_part, IsHeldPart}
-use Rattle.overlay_arrange.proofs.LightParts.{heavy_next}
+use Rattle.overlay_parts.specs.Parts.{plain_part, IsHeldPart}
+use Rattle.overlay_parts.proofs.LightParts.{heavy_next}
 use Rattle.overlay_arrange.proofs.parting.edges_of_parts.Goals as goal
 
 pub weight-requires : goal.weight-requires

@@ -1,8 +1,8 @@
 -- So far the edges and their hidden weights are those of the parts before place i.
 use Rattle.std.proofs.Common.{◌≡◌, map, take}
-use Rattle.overlay_arrange.specs.PartedContents.{hidden_weight}
-use Rattle.overlay_arrange.specs.Parting.{carried_parts}
-use Rattle.overlay_arrange.specs.Parts.{plain_parts}
+use Rattle.overlay_parts.specs.PartedContents.{hidden_weight}
+use Rattle.overlay_parts.specs.PartedContents.{carried_parts}
+use Rattle.overlay_parts.specs.Parts.{plain_parts}
 use Rattle.overlay_arrange.proofs.parting.edges_of_parts.Given as goal
 
 abbrev pub invariant-loop-i : goal.invariant-loop-i

@@ -9,15 +9,16 @@ use Rattle.overlay_plane.specs.SnapPoints.{snap_points}
 use Rattle.overlay_order.specs.Content.{carried_edge, carried_edges, plain_edge, plain_edges, IsHeld}
 use Rattle.overlay_order.specs.declared.edge.CountedEdge.{CountedEdge}
 use Rattle.overlay_pairs.proofs.Entries.{placed_in_mapped}
+use Rattle.overlay_parts.specs.PartedContents.{covered}
+use Rattle.overlay_parts.specs.Stores.IsStoreReached.{unwritten}
+use Rattle.overlay_parts.proofs.ReachedStores.{reached_on}
 use Rattle.overlay_arrange.specs.Batches.{AddsJoined}
 use Rattle.overlay_arrange.specs.Cut.{chain_by}
-use Rattle.overlay_arrange.specs.Parting.{cover_weight, covered}
-use Rattle.overlay_arrange.specs.Stores.IsStoreReached.{unwritten}
+use Rattle.overlay_arrange.specs.Parting.{cover_weight}
 use Rattle.overlay_arrange.proofs.CoveredLoops.{loop_heavy, loop_weighed}
 use Rattle.overlay_arrange.proofs.CoveredPieces.{all_joined_parts}
 use Rattle.overlay_arrange.proofs.CutContents.{weight_of_entry}
 use Rattle.overlay_arrange.proofs.LedThrough.{IsLedThrough}
-use Rattle.overlay_arrange.proofs.ReachedStores.{reached_on}
 use Rattle.overlay_arrange.proofs.SnappedThrough.{snapped_in_range, snapped_through}
 use Rattle.overlay_arrange.proofs.StandingLists.{joined_both, joined_none}
 use Rattle.overlay_arrange.proofs.StandingPieces.{joined_pieces}

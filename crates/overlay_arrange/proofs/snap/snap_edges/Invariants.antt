@@ -7,10 +7,10 @@ use Rattle.overlay_plane.specs.Carried.{Carried, edges_in}
 use Rattle.overlay_plane.specs.DerivedData.{ArePieces}
 use Rattle.overlay_plane.specs.SnapPoints.{snap_points}
 use Rattle.overlay_order.specs.Content.{plain_edges, carried_edges}
+use Rattle.overlay_parts.specs.Stores.{IsStoreReached}
 use Rattle.overlay_arrange.specs.Batches.{AddsJoined}
 use Rattle.overlay_arrange.specs.Cut.{chain_by, LeadingPoints}
 use Rattle.overlay_arrange.specs.HotPoints.{AreStripsIfAny}
-use Rattle.overlay_arrange.specs.Stores.{IsStoreReached}
 use Rattle.overlay_arrange.proofs.CoveredLoops.{weight_from}
 use Rattle.overlay_arrange.proofs.snap.snap_edges.Given as goal
 

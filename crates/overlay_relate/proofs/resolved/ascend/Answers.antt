@@ -8,7 +8,7 @@ use Rattle.overlay_geom.specs.Plane.{edge_lt}
 use Rattle.overlay_geom.proofs.Mapped.{read_mapped}
 use Rattle.overlay_order.specs.Content.{plain_edge, IsAscending}
 use Rattle.overlay_order.specs.Counts.{boolean_counts}
-use Rattle.overlay_arrange.proofs.EdgeOrder.{edge_cmp-is_less}
+use Rattle.overlay_parts.proofs.EdgeOrder.{edge_cmp-is_less}
 use Rattle.overlay_relate.specs.Resolved.{edges_once}
 use Rattle.overlay_relate.proofs.ApartInOrder.{ascending_more, not_ascending}
 use Rattle.overlay_relate.proofs.resolved.ascend.Goals as goal

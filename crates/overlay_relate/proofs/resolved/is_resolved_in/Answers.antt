@@ -6,7 +6,7 @@ use Rattle.std.proofs.lemmas.List.Sorted.{All-permutation}
 use Rattle.std.proofs.lemmas.Result.{IfOk-weaker}
 use Rattle.overlay_geom.specs.Points.{plain_points}
 use Rattle.overlay_geom.specs.Resolved.{plain_edges, edges_of, AreApart, IsResolved, IsLongEdge}
-use Rattle.overlay_arrange.specs.Runs.{IsInOrder}
+use Rattle.overlay_parts.specs.EdgeOrder.{IsInOrder}
 use Rattle.overlay_relate.specs.Resolved.{edges_once, ends_once}
 use Rattle.overlay_relate.proofs.ApartEdges.{apart_alike}
 use Rattle.overlay_relate.proofs.ApartInOrder.{long_forward}

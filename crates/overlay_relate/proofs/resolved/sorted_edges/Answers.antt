@@ -6,7 +6,7 @@ use Rattle.std.proofs.lemmas.List.Sorted.{answers_always, IsPermutation-map}
 use Rattle.overlay_geom.specs.Edges.{ends_of}
 use Rattle.overlay_order.specs.Content.{plain_edge, edge_cmp}
 use Rattle.overlay_order.specs.Counts.{boolean_counts}
-use Rattle.overlay_arrange.proofs.EdgeOrder.{edge_cmp-is_less, held_lt, held_lt-order, IsInOrder-from_sorted}
+use Rattle.overlay_parts.proofs.EdgeOrder.{edge_cmp-is_less, held_lt, held_lt-order, IsInOrder-from_sorted}
 use Rattle.overlay_relate.specs.Resolved.{edges_once, ends_once}
 use Rattle.overlay_relate.proofs.resolved.sorted_edges.Goals as goal
 

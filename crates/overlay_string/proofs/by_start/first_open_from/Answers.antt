@@ -3,7 +3,7 @@ use Rattle.std.proofs.Common.{◌≡◌, ◌<◌, true, false, length, sym, ◌�
 use Rattle.overlay_geom.specs.Plane.{point_eq}
 use Rattle.overlay_geom.specs.Points.{plain_point}
 use Rattle.overlay_geom.proofs.Orders.{point_eq-same}
-use Rattle.overlay_arrange.proofs.EdgeOrder.{point_cmp-is_tie}
+use Rattle.overlay_parts.proofs.EdgeOrder.{point_cmp-is_tie}
 use Rattle.overlay_walk.specs.Steps.{plain_step}
 use Rattle.overlay_string.proofs.FirstPieces.{none_follows, none_left, next_is_first, one_more_taken}
 use Rattle.overlay_string.proofs.by_start.first_open_from.Goals as goal

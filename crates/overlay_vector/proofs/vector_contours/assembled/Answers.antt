@@ -4,7 +4,7 @@ use Rattle.std.specs.List.{AllZip}
 use Rattle.std.proofs.lemmas.List.{map-append}
 use Rattle.overlay_geom.proofs.Mapped.{AllZip-more, mapped_more, All-mapped_at}
 use Rattle.overlay_plane.specs.PlacedContours.{walk_at, walks_at}
-use Rattle.overlay_arrange.proofs.ReachedStores.{never_written, reached_on}
+use Rattle.overlay_parts.proofs.ReachedStores.{never_written, reached_on}
 use Rattle.overlay_walk.specs.GroupedContours.{plain_contours}
 use Rattle.overlay_extract.specs.Places.{place_list, place_lists}
 use Rattle.overlay_vector.specs.VectorShapes.{plain_vector_shape, plain_vector_shapes, IsVectorContour}

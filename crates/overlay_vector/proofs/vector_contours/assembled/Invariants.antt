@@ -1,7 +1,7 @@
 -- The shapes so far are those at the places so far, and the store is reached.
 use Rattle.std.proofs.Common.{take}
 use Rattle.overlay_plane.specs.PlacedContours.{walks_at}
-use Rattle.overlay_arrange.specs.Stores.{IsStoreReached}
+use Rattle.overlay_parts.specs.Stores.{IsStoreReached}
 use Rattle.overlay_walk.specs.GroupedContours.{plain_contours}
 use Rattle.overlay_extract.specs.Places.{place_lists}
 use Rattle.overlay_vector.specs.VectorShapes.{plain_vector_shapes, AreVectorContours}

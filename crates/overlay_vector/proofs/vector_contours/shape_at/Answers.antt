@@ -7,7 +7,7 @@ use Rattle.overlay_geom.specs.Edges.{all_ends}
 use Rattle.overlay_geom.proofs.Mapped.{AllZip-more, read_mapped}
 use Rattle.overlay_plane.specs.PlacedContours.{walk_at}
 use Rattle.overlay_graph.specs.Graphs.{graph_edges}
-use Rattle.overlay_arrange.proofs.ReachedStores.{never_written, reached_on}
+use Rattle.overlay_parts.proofs.ReachedStores.{never_written, reached_on}
 use Rattle.overlay_walk.specs.GroupedContours.{plain_contour, plain_contours}
 use Rattle.overlay_walk.specs.Steps.{plain_steps, RunsAlong}
 use Rattle.overlay_extract.specs.Places.{place_list}

@@ -2,7 +2,7 @@
 use Rattle.std.proofs.Common.{map, take}
 use Rattle.std.specs.List.{AllZip}
 use Rattle.overlay_plane.specs.PlacedContours.{walk_at}
-use Rattle.overlay_arrange.specs.Stores.{IsStoreReached}
+use Rattle.overlay_parts.specs.Stores.{IsStoreReached}
 use Rattle.overlay_walk.specs.GroupedContours.{plain_contours}
 use Rattle.overlay_extract.specs.Places.{place_list}
 use Rattle.overlay_vector.specs.VectorShapes.{plain_vector_shape, IsVectorContour}

@@ -2,7 +2,7 @@
 use Rattle.std.proofs.Common.{◌≡◌, cond, MatchBool, ap, ap₂, subst, ◌∙◌}
 use Rattle.overlay_geom.specs.Plane.{is_forward}
 use Rattle.overlay_order.specs.Counts.{boolean_counts}
-use Rattle.overlay_arrange.proofs.ReachedStores.{reached_unless}
+use Rattle.overlay_parts.proofs.ReachedStores.{reached_unless}
 use Rattle.overlay_walk.specs.Steps.{plain_step}
 use Rattle.overlay_vector.specs.DataVectors.{plain_data_vector}
 use Rattle.overlay_vector.specs.SideFills.{turned_fill}

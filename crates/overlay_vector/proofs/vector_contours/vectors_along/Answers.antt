@@ -6,7 +6,7 @@ use Rattle.std.proofs.lemmas.List.Elements.{All-push}
 use Rattle.overlay_geom.specs.Edges.{all_ends}
 use Rattle.overlay_geom.proofs.Mapped.{AllZip-more, mapped_more}
 use Rattle.overlay_graph.specs.Graphs.{graph_edges}
-use Rattle.overlay_arrange.proofs.ReachedStores.{never_written, reached_on}
+use Rattle.overlay_parts.proofs.ReachedStores.{never_written, reached_on}
 use Rattle.overlay_walk.specs.Steps.{plain_step, plain_steps, RunsAlong}
 use Rattle.overlay_vector.specs.DataVectors.{plain_data_vector, plain_data_vectors}
 use Rattle.overlay_vector.specs.Joining.{IsInRange}

@@ -1,7 +1,7 @@
 -- The edges so far are those along the steps so far, and the store is reached.
 use Rattle.std.proofs.Common.{take, All}
 use Rattle.std.specs.List.{AllZip}
-use Rattle.overlay_arrange.specs.Stores.{IsStoreReached}
+use Rattle.overlay_parts.specs.Stores.{IsStoreReached}
 use Rattle.overlay_walk.specs.Steps.{plain_steps}
 use Rattle.overlay_vector.specs.DataVectors.{plain_data_vectors}
 use Rattle.overlay_vector.specs.Joining.{IsInRange}

@@ -8,9 +8,9 @@ use Rattle.overlay_geom.specs.Plane.{steps_through}
 use Rattle.overlay_geom.specs.Points.{plain_points}
 use Rattle.overlay_plane.specs.Carried.{Carried, edges_in}
 use Rattle.overlay_order.specs.Content.{plain_edge}
+use Rattle.overlay_parts.proofs.ReachedStores.{reached_on}
 use Rattle.overlay_arrange.specs.Batches.{StandFor}
 use Rattle.overlay_arrange.proofs.AddedPieces.{away_added, heavy_added, heavy_pushed, weighed_added}
-use Rattle.overlay_arrange.proofs.ReachedStores.{reached_on}
 use Rattle.overlay_arrange.proofs.batches.Pieces.add.Goals as goal
 
 pub returns-clause-carried : goal.returns-clause-carried

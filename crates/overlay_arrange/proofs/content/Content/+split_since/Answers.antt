@@ -3,12 +3,12 @@
 use Rattle.std.proofs.Common.{◌≡◌, ℕ, ◌-◌, ◌↔◌, List, Option, Some, None, refl, sym, ◌∙◌, subst, arith}
 use Rattle.std.proofs.lemmas.Result.{err_from_is_err_and}
 use Rattle.overlay_order.specs.Content.{IsContent}
+use Rattle.overlay_parts.proofs.ReachedStores.{reached_on}
 use Rattle.overlay_arrange.proofs.ArrangedLists.{forward_content, carried_at_once, carried_on}
 use Rattle.overlay_arrange.proofs.CutsInParts.{cut_heavy_in_parts, cut_heavy_of_parts, cut_once_in_parts}
 use Rattle.overlay_arrange.proofs.CutsOfParts.{whole_in_parts}
 use Rattle.overlay_arrange.proofs.RoundsTaken.{split_at_once, unsettled_at_once, split_on, unsettled_on, heavy_on}
 use Rattle.overlay_arrange.proofs.RoundsTaken.{heavy_at_once, uncut_where_settled, cut_where_unsettled, Leaves}
-use Rattle.overlay_arrange.proofs.ReachedStores.{reached_on}
 use Rattle.overlay_arrange.proofs.SolverRounds.{cut_in_rounds, leaves_of_taken}
 use Rattle.overlay_arrange.proofs.StandingLists.{carries_of_standing, merged_of_standing}
 use Rattle.overlay_arrange.proofs.StandingRounds.{carrying_for, heavy_for, split_for, unsettled_for}

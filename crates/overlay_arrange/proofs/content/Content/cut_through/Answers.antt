@@ -4,8 +4,9 @@ use Rattle.std.proofs.lemmas.Result.{err_from_is_err_and}
 use Rattle.overlay_plane.specs.Carried.{Carried, edges_in}
 use Rattle.overlay_plane.specs.CutPoints.{cut_points}
 use Rattle.overlay_order.specs.Content.{plain_edges}
+use Rattle.overlay_parts.specs.PartedContents.{covered}
 use Rattle.overlay_arrange.specs.Meetings.{plain_meetings, AreLedAlong}
-use Rattle.overlay_arrange.specs.Parting.{cover_weight, covered, AreJoinedParts}
+use Rattle.overlay_arrange.specs.Parting.{cover_weight, AreJoinedParts}
 use Rattle.overlay_arrange.proofs.LedThrough.{meetings_in_range, meetings_lead_along}
 use Rattle.overlay_arrange.proofs.content.Content.cut_through.Goals as goal
 

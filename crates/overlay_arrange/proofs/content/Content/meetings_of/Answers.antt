@@ -1,7 +1,7 @@
 -- The edges are those of before, or their parts.
 use Rattle.std.proofs.Common.{sym, subst}
+use Rattle.overlay_parts.specs.Stores.IsStoreReached.{unwritten}
 use Rattle.overlay_arrange.specs.Parting.{in_parts, unparted, AreInParts}
-use Rattle.overlay_arrange.specs.Stores.IsStoreReached.{unwritten}
 use Rattle.overlay_arrange.proofs.content.Content.meetings_of.Goals as goal
 
 pub returns-in_err-clone-clause-store : goal.returns-in_err-clone-clause-store

@@ -2,12 +2,12 @@
 use Rattle.std.proofs.Common.{◌≡◌, ◌<◌, map, All, ap, ap₂, sym, ◌∙◌, subst}
 use Rattle.overlay_plane.specs.Carried.{edges_in}
 use Rattle.overlay_order.specs.Content.{carried_edges, IsAscending, IsContent}
-use Rattle.overlay_arrange.specs.Parting.{covered, edges_in_parts}
-use Rattle.overlay_arrange.specs.Parts.{lone_part, plain_parts, AreParted, IsHeldPart}
-use Rattle.overlay_arrange.specs.Stores.IsStoreReached.{unwritten}
-use Rattle.overlay_arrange.proofs.CoveredParts.{covered_again}
-use Rattle.overlay_arrange.proofs.EdgesByLines.{content_light}
-use Rattle.overlay_arrange.proofs.LightParts.{each_light}
+use Rattle.overlay_parts.specs.PartedContents.{covered, edges_in_parts}
+use Rattle.overlay_parts.specs.Parts.{lone_part, plain_parts, AreParted, IsHeldPart}
+use Rattle.overlay_parts.specs.Stores.IsStoreReached.{unwritten}
+use Rattle.overlay_parts.proofs.CoveredParts.{covered_again}
+use Rattle.overlay_parts.proofs.EdgesByLines.{content_light}
+use Rattle.overlay_parts.proofs.LightParts.{each_light}
 use Rattle.overlay_arrange.proofs.content.Content.part.Goals as goal
 
 pub returns-in_err-alloc-clause-store : goal.returns-in_err-alloc-clause-store

@@ -3,8 +3,8 @@ use Rattle.std.proofs.Common.{◌≡◌, ◌↔◌, Option, Some, None, sym, sub
 use Rattle.std.proofs.lemmas.Result.{err_from_is_err_and}
 use Rattle.overlay_plane.specs.Carried.{edges_in}
 use Rattle.overlay_order.specs.Content.{IsContent}
+use Rattle.overlay_parts.proofs.ReachedStores.{reached_on}
 use Rattle.overlay_arrange.proofs.ArrangedLists.{carried_at_once, forward_content}
-use Rattle.overlay_arrange.proofs.ReachedStores.{reached_on}
 use Rattle.overlay_arrange.proofs.RoundsTaken.{cut_where_unsettled, split_at_once}
 use Rattle.overlay_arrange.proofs.SnapsInParts.{heavy_of_heavy_parts, heavy_once_in_parts, once_in_parts}
 use Rattle.overlay_arrange.proofs.SnapsTaken.{heavy_by_snapping, snapped_carrying}

@@ -3,7 +3,7 @@ use Rattle.std.proofs.Common.{◌≡◌, false, [], rules, subst, ap, ◌∙◌}
 use Rattle.std.specs.Prelude.{◌↔◌, IfOk}
 use Rattle.overlay_plane.specs.Arrangements.{IsReachedBy}
 use Rattle.overlay_plane.specs.Carried.{edges_in}
-use Rattle.overlay_arrange.proofs.ReachedStores.{never_written}
+use Rattle.overlay_parts.proofs.ReachedStores.{never_written}
 use Rattle.overlay_builder.specs.Held.{AnswersQuery, plain_held}
 use Rattle.overlay_builder.proofs.Queries.{answers_arranged}
 use Rattle.overlay_builder.proofs.builder_core.BuilderCore.arrange.Goals as goal

@@ -10,8 +10,8 @@ use Rattle.overlay_geom.specs.Edges.{weight}
 use Rattle.overlay_geom.specs.Points.{plain_point}
 use Rattle.overlay_geom.specs.Resolved.{point_cmp}
 use Rattle.overlay_plane.specs.Carried.{edges_in}
-use Rattle.overlay_arrange.specs.Stores.{IsStoreReached}
-use Rattle.overlay_arrange.proofs.ReachedStores.{never_written, reached_on, reached_unless}
+use Rattle.overlay_parts.specs.Stores.{IsStoreReached}
+use Rattle.overlay_parts.proofs.ReachedStores.{never_written, reached_on, reached_unless}
 use Rattle.overlay_vector.specs.AddedEdges.{IsEdgeInRange, StopsAtEdge}
 use Rattle.overlay_vector.proofs.EdgesAdded.{none_added, one_more_added, stops_here}
 use Rattle.overlay_vector.proofs.edge_overlay.EdgeOverlay.add_edges.Goals as goal

@@ -1,5 +1,5 @@
 -- The edges that the iterator gave so far are added, and the store is reached.
-use Rattle.overlay_arrange.specs.Stores.{IsStoreReached}
+use Rattle.overlay_parts.specs.Stores.{IsStoreReached}
 use Rattle.overlay_vector.proofs.EdgesAdded.{HasAddedEdges}
 use Rattle.overlay_vector.proofs.edge_overlay.EdgeOverlay.add_edges.Given as goal
 

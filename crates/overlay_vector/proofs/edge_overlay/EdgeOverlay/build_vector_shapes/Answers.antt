@@ -4,8 +4,8 @@ use Rattle.std.proofs.Common.{sym, ap, ◌∙◌, subst}
 use Rattle.std.proofs.lemmas.Result.{IfOk-at_ok}
 use Rattle.std.specs.Prelude.{Ok}
 use Rattle.overlay_plane.specs.Carried.{edges_in}
-use Rattle.overlay_arrange.specs.Stores.{IsStoreReached}
-use Rattle.overlay_arrange.proofs.ReachedStores.{reached_on}
+use Rattle.overlay_parts.specs.Stores.{IsStoreReached}
+use Rattle.overlay_parts.proofs.ReachedStores.{reached_on}
 use Rattle.overlay_builder.specs.Held.{plain_held}
 use Rattle.overlay_extract.specs.Results.{asked}
 use Rattle.overlay_vector.specs.VectorShapes.{plain_vector_shapes, steps_along}

@@ -3,8 +3,8 @@ use Rattle.std.proofs.Common.{sym, subst}
 use Rattle.overlay_geom.specs.Settled.{IsSettled}
 use Rattle.overlay_plane.specs.Carried.{edges_in}
 use Rattle.overlay_order.specs.Content.{IsAscending}
-use Rattle.overlay_arrange.specs.Stores.{IsStoreReached}
-use Rattle.overlay_arrange.proofs.ReachedStores.{never_written}
+use Rattle.overlay_parts.specs.Stores.{IsStoreReached}
+use Rattle.overlay_parts.proofs.ReachedStores.{never_written}
 use Rattle.overlay_vector.proofs.edge_overlay.EdgeOverlay.extract.Goals as goal
 
 pub graph-requires-clause-ascending : goal.graph-requires-clause-ascending

@@ -1,0 +1,14 @@
+pub mod CoveredParts
+pub mod EdgeOrder
+pub mod EdgesByLines
+pub mod EqualParts
+pub mod HandedOn
+pub mod HeldWeight
+pub mod JoinedParts
+pub mod LightParts
+pub mod LineParts
+pub mod MergedLines
+pub mod PartFronts
+pub mod Parted
+pub mod PartsOfEdges
+pub mod ReachedStores

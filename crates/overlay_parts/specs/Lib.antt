@@ -1,0 +1,5 @@
+pub mod EdgeOrder
+pub mod LineParts
+pub mod PartedContents
+pub mod Parts
+pub mod Stores
