@@ -45,5 +45,6 @@ mod squares;
 mod trees;
 mod turned;
 mod unsettled;
+mod viewed;
 mod views;
 mod wide;
