@@ -1,4 +1,4 @@
--- The bundles of each `size` boxes, made box by box.
+-- The bundles or fans of each `size` boxes, made box by box.
 use Rattle.std.proofs.Common.{◌≡◌, ◌≢◌, ◌⊎◌, ⊎_elim, inl, inr, ℕ, ◌+◌, ◌*◌, ◌/◌, ◌%◌, ◌<◌, ◌≤◌, List, [], ◌∷◌, ◌++◌}
 use Rattle.std.proofs.Common.{length, get_or, set, sym, ap, ◌∙◌, subst, arith}
 use Rattle.std.specs.List.Sorted.{IsPermutation}
@@ -8,7 +8,6 @@ use Rattle.std.proofs.lemmas.List.{length-append, length-set}
 use Rattle.std.proofs.Math.ListN.{get_or-append}
 use Rattle.std.proofs.Math.Nat.{div-add-mod, div-eq_of_lt-le, mod-lt, eq-or-lt_of_le}
 use Rattle.overlay_geom.specs.Edges.{CountedEdge}
-use Rattle.overlay_pairs.specs.Bundles.{Bundle, AreBundles, HoldsEdge, IsWidened}
 use Rattle.overlay_pairs.specs.Extents.{Extent, extent_of, extents_of}
 use Rattle.overlay_pairs.specs.Places.{IsAt}
 use Rattle.overlay_pairs.proofs.Entries.{one_entry}
@@ -60,24 +59,28 @@ own_box es ss moved k s e at_s at_e =
 
 -- ---- making bundles
 
--- the bundles are just those that the first i boxes need, and hold their edges
-pub record AreBundlesUpTo (size : ℕ) (es : List CountedEdge) (ss : List Extent) (bundles : List Bundle) (i : ℕ) :
-    Type 0 where
+-- the bundles, of one kind or another, are just those that the first i boxes need, and hold their edges
+pub record AreBundlesUpTo {B : Type 0} (Holds : B → Extent → CountedEdge → Type 0) (size : ℕ)
+    (es : List CountedEdge) (ss : List Extent) (bundles : List B) (i : ℕ) : Type 0 where
   pub at_multiple : i % size ≡ 0 → length bundles ≡ i / size
   pub between : ¬ (i % size ≡ 0) → length bundles ≡ i / size + 1
-  pub all : (k : ℕ) (s : Extent) (e : CountedEdge) (d : Bundle) → k < i → IsAt ss k s → IsAt es s.first e →
-      (k / size < length bundles) × HoldsEdge (get_or bundles (k / size) d) s e
+  pub all : (k : ℕ) (s : Extent) (e : CountedEdge) (d : B) → k < i → IsAt ss k s → IsAt es s.first e →
+      (k / size < length bundles) × Holds (get_or bundles (k / size) d) s e
 
 -- where all places have been taken they are the bundles
-pub all_bundles : (size : ℕ) (es : List CountedEdge) (ss : List Extent) (bundles : List Bundle) (i : ℕ) →
-    length ss ≤ i → AreBundlesUpTo size es ss bundles i → AreBundles size es ss bundles
-all_bundles size es ss bundles i past some = λ k s e d at_s at_e.
+pub all_bundles : {B : Type 0} (Holds : B → Extent → CountedEdge → Type 0) (size : ℕ)
+    (es : List CountedEdge) (ss : List Extent) (bundles : List B) (i : ℕ) →
+    length ss ≤ i → AreBundlesUpTo Holds size es ss bundles i →
+    (k : ℕ) (s : Extent) (e : CountedEdge) (d : B) → IsAt ss k s → IsAt es s.first e →
+    (k / size < length bundles) × Holds (get_or bundles (k / size) d) s e
+all_bundles Holds size es ss bundles i past some = λ k s e d at_s at_e.
     some.all k s e d (let less = at_s.0 in omega (arith, less, past)) at_s at_e
 
 -- at first there is none
-pub no_bundles : (size : ℕ) (es : List CountedEdge) (ss : List Extent) → 0 < size →
-    AreBundlesUpTo size es ss [] 0
-no_bundles size es ss some =
+pub no_bundles : {B : Type 0} (Holds : B → Extent → CountedEdge → Type 0) (size : ℕ)
+    (es : List CountedEdge) (ss : List Extent) → 0 < size →
+    AreBundlesUpTo Holds size es ss [] 0
+no_bundles Holds size es ss some =
     let none : 0 / size ≡ 0 = div-eq_of_lt-le {k = 0} size {m = 0} (omega arith) (omega (arith, some)) in
     let rest : size * (0 / size) + 0 % size ≡ 0 = div-add-mod 0 size in
     record {
@@ -86,20 +89,21 @@ no_bundles size es ss some =
       all = λ k s e d less. absurd (omega (arith, less));
     }
 
-module _ (size : ℕ) (some : 0 < size) (es : List CountedEdge) (ss : List Extent) (bundles : List Bundle) (i : ℕ)
-    (so_far : AreBundlesUpTo size es ss bundles i) (s : Extent) (e : CountedEdge) (at_s : IsAt ss i s)
+module _ {B : Type 0} (Holds : B → Extent → CountedEdge → Type 0) (size : ℕ)
+    (some : 0 < size) (es : List CountedEdge) (ss : List Extent) (bundles : List B) (i : ℕ)
+    (so_far : AreBundlesUpTo Holds size es ss bundles i) (s : Extent) (e : CountedEdge) (at_s : IsAt ss i s)
     (at_e : IsAt es s.first e) where
   -- a place before i + 1 is i, or comes before i
   or_before : (k : ℕ) → k < i + 1 → (k ≡ i) ⊎ (k < i)
   or_before k lt = eq-or-lt_of_le (let le : k ≤ i = omega (arith, lt) in le)
 
   -- a bundle that holds the edge of the box at place i holds that of a box there
-  held_there : (bundle : Bundle) → HoldsEdge bundle s e → (k : ℕ) (t : Extent) (f : CountedEdge) → k ≡ i →
-      IsAt ss k t → IsAt es t.first f → HoldsEdge bundle t f
+  held_there : (bundle : B) → Holds bundle s e → (k : ℕ) (t : Extent) (f : CountedEdge) → k ≡ i →
+      IsAt ss k t → IsAt es t.first f → Holds bundle t f
   held_there bundle holds k t f same at_t at_f =
       let is : s ≡ t = one_entry ss i s t at_s (subst (λ n. IsAt ss n t) same at_t) in
       let is_e : e ≡ f = one_entry es t.first e f (subst (λ (u : Extent). IsAt es u.first e) is at_e) at_f in
-      subst (HoldsEdge bundle t) is_e (subst (λ u. HoldsEdge bundle u e) is holds)
+      subst (Holds bundle t) is_e (subst (λ u. Holds bundle u e) is holds)
 
   -- the numbers of bundles that are needed next
   counted : (n : ℕ) → n ≡ i / size + 1 →
@@ -112,8 +116,8 @@ module _ (size : ℕ) (some : 0 < size) (es : List CountedEdge) (ss : List Exten
       (next_place size i some)
 
   -- a bundle begins at the place
-  pub bundle_begun : (bundle : Bundle) → i % size ≡ 0 → HoldsEdge bundle s e →
-      AreBundlesUpTo size es ss (bundles ++ bundle ∷ []) (i + 1)
+  pub bundle_begun : (bundle : B) → i % size ≡ 0 → Holds bundle s e →
+      AreBundlesUpTo Holds size es ss (bundles ++ bundle ∷ []) (i + 1)
   bundle_begun bundle begins holds =
       let numbers = counted (length (bundles ++ bundle ∷ [])) (count ∙ ap (λ n. n + 1) next) in
       record { at_multiple = numbers.0; between = numbers.1; all = all }
@@ -124,25 +128,25 @@ module _ (size : ℕ) (some : 0 < size) (es : List CountedEdge) (ss : List Exten
       next : length bundles ≡ i / size
       next = so_far.at_multiple begins
 
-      all : (k : ℕ) (t : Extent) (f : CountedEdge) (d : Bundle) → k < i + 1 → IsAt ss k t → IsAt es t.first f →
+      all : (k : ℕ) (t : Extent) (f : CountedEdge) (d : B) → k < i + 1 → IsAt ss k t → IsAt es t.first f →
           (k / size < length (bundles ++ bundle ∷ []))
-          × HoldsEdge (get_or (bundles ++ bundle ∷ []) (k / size) d) t f
+          × Holds (get_or (bundles ++ bundle ∷ []) (k / size) d) t f
       all k t f d lt at_t at_f = ⊎_elim here before (or_before k lt)
         where
           here : k ≡ i → (k / size < length (bundles ++ bundle ∷ []))
-              × HoldsEdge (get_or (bundles ++ bundle ∷ []) (k / size) d) t f
+              × Holds (get_or (bundles ++ bundle ∷ []) (k / size) d) t f
           here same =
               let place : length bundles ≡ k / size = next ∙ ap (λ n. n / size) (sym same) in (
                 omega (arith, place, count),
-                subst (λ (u : Bundle). HoldsEdge u t f) (sym (get_or_push bundles bundle d (k / size) place))
+                subst (λ (u : B). Holds u t f) (sym (get_or_push bundles bundle d (k / size) place))
                     (held_there bundle holds k t f same at_t at_f),
               )
 
           before : k < i → (k / size < length (bundles ++ bundle ∷ []))
-              × HoldsEdge (get_or (bundles ++ bundle ∷ []) (k / size) d) t f
+              × Holds (get_or (bundles ++ bundle ∷ []) (k / size) d) t f
           before less = let found = so_far.all k t f d less at_t at_f in (
             (let inside = found.0 in omega (arith, inside, count)),
-            subst (λ (u : Bundle). HoldsEdge u t f)
+            subst (λ (u : B). Holds u t f)
                 (sym (get_or-append bundles (bundle ∷ []) d (k / size) found.0)) found.1,
           )
 
@@ -151,9 +155,10 @@ module _ (size : ℕ) (some : 0 < size) (es : List CountedEdge) (ss : List Exten
   last_bundle goes_on = let count = so_far.between goes_on in omega (arith, count)
 
   -- the bundle is widened
-  pub bundle_widened : (old bundle : Bundle) (news : List Bundle) → ¬ (i % size ≡ 0) →
-      news ≡ set bundles (i / size) bundle → old ≡ get_or bundles (i / size) old → IsWidened old bundle →
-      HoldsEdge bundle s e → AreBundlesUpTo size es ss news (i + 1)
+  pub bundle_widened : (old bundle : B) (news : List B) → ¬ (i % size ≡ 0) →
+      news ≡ set bundles (i / size) bundle → old ≡ get_or bundles (i / size) old →
+      ((t : Extent) (f : CountedEdge) → Holds old t f → Holds bundle t f) → Holds bundle s e →
+      AreBundlesUpTo Holds size es ss news (i + 1)
   bundle_widened old bundle news goes_on news_are old_is widened holds =
       let numbers = counted (length news) (count ∙ so_far.between goes_on) in
       record { at_multiple = numbers.0; between = numbers.1; all = all }
@@ -164,31 +169,31 @@ module _ (size : ℕ) (some : 0 < size) (es : List CountedEdge) (ss : List Exten
       inside : i / size < length bundles
       inside = last_bundle goes_on
 
-      all : (k : ℕ) (t : Extent) (f : CountedEdge) (d : Bundle) → k < i + 1 → IsAt ss k t → IsAt es t.first f →
-          (k / size < length news) × HoldsEdge (get_or news (k / size) d) t f
+      all : (k : ℕ) (t : Extent) (f : CountedEdge) (d : B) → k < i + 1 → IsAt ss k t → IsAt es t.first f →
+          (k / size < length news) × Holds (get_or news (k / size) d) t f
       all k t f d lt at_t at_f = ⊎_elim here before (or_before k lt)
         where
           read : get_or news (i / size) d ≡ bundle
           read = ap (λ xs. get_or xs (i / size) d) news_are
               ∙ get_or-set_same bundles (i / size) bundle d inside
 
-          here : k ≡ i → (k / size < length news) × HoldsEdge (get_or news (k / size) d) t f
+          here : k ≡ i → (k / size < length news) × Holds (get_or news (k / size) d) t f
           here same = let place : k / size ≡ i / size = ap (λ n. n / size) same in (
             omega (arith, place, count, inside),
-            subst (λ (u : Bundle). HoldsEdge u t f) (sym (ap (λ n. get_or news n d) place ∙ read))
+            subst (λ (u : B). Holds u t f) (sym (ap (λ n. get_or news n d) place ∙ read))
                 (held_there bundle holds k t f same at_t at_f),
           )
 
-          before : k < i → (k / size < length news) × HoldsEdge (get_or news (k / size) d) t f
+          before : k < i → (k / size < length news) × Holds (get_or news (k / size) d) t f
           before less = let found = so_far.all k t f d less at_t at_f in (
             (let there = found.0 in omega (arith, there, count)),
             ⊎_elim (λ (same : k / size ≡ i / size).
-                subst (λ (u : Bundle). HoldsEdge u t f) (sym (ap (λ n. get_or news n d) same ∙ read))
-                (widened t f (subst (λ (u : Bundle). HoldsEdge u t f)
+                subst (λ (u : B). Holds u t f) (sym (ap (λ n. get_or news n d) same ∙ read))
+                (widened t f (subst (λ (u : B). Holds u t f)
                 (ap (λ n. get_or bundles n d) same ∙ get_or_default bundles (i / size) d old inside
                 ∙ sym old_is) found.1)))
                 (λ (other : k / size ≢ i / size).
-                subst (λ (u : Bundle). HoldsEdge u t f)
+                subst (λ (u : B). Holds u t f)
                 (sym (ap (λ xs. get_or xs (k / size) d) news_are
                 ∙ get_or-set_other bundles (i / size) (k / size) bundle d other)) found.1)
                 (cases_eq (k / size) (i / size)),

@@ -1,6 +1,6 @@
 -- Bundles beside an edge: all boxes of such a bundle may be passed over.
-use Rattle.std.proofs.Common.{◌≡◌, ◌⊎◌, ⊎_elim, inl, inr, ℕ, ◌+◌, ◌/◌, ◌<◌, ◌≤◌, List, All, length, map, get_or}
-use Rattle.std.proofs.Common.{refl, sym, ap, ◌∙◌, subst, arith}
+use Rattle.std.proofs.Common.{◌⊎◌, ⊎_elim, inl, inr, ℕ, ◌+◌, ◌/◌, ◌<◌, List, All, length, map, get_or}
+use Rattle.std.proofs.Common.{ap, subst, arith}
 use Rattle.std.specs.List.Sorted.{IsPermutation}
 use Rattle.std.proofs.lemmas.List.{get_or_default, length-map}
 use Rattle.overlay_geom.specs.Edges.{CountedEdge}
@@ -26,21 +26,22 @@ lone_bundle e s = record {
   right = e.a;
 }
 
+-- the edge of a box
+pub edge_there : (es : List CountedEdge) (ss : List Extent) → IsPermutation (extents_of es) ss → (k : ℕ) (t : Extent) →
+    IsAt ss k t → (f : CountedEdge) × IsAt es t.first f
+edge_there es ss moved k t at_t =
+    let there = item_there extent_of es ss moved k t at_t in
+    (there.1, subst (λ n. IsAt es n there.1) (ap (λ (s : Extent). s.first) there.3) there.2)
+
 module _ (limit size : ℕ) (es : List CountedEdge) (ss : List Extent) (bundles : List Bundle)
     (moved : IsPermutation (extents_of es) ss) (held : AreHeldBundles limit size es ss bundles) where
-  -- the edge of a box
-  edge_there : (k : ℕ) (t : Extent) → IsAt ss k t → (f : CountedEdge) × IsAt es t.first f
-  edge_there k t at_t =
-      let there = item_there extent_of es ss moved k t at_t in
-      (there.1, subst (λ n. IsAt es n there.1) (ap (λ (s : Extent). s.first) there.3) there.2)
-
   -- each box has a bundle
   pub bundle_there : (d : Bundle) (k : ℕ) → k < length ss → k / size < length bundles
   bundle_there d k inside =
       let s = some_entry ss k inside in
       let t = get_or ss k s in
       let at_t : IsAt ss k t = (inside, get_or_default ss k t s inside) in
-      let edge = edge_there k t at_t in
+      let edge = edge_there es ss moved k t at_t in
       (held.all k t edge.0 d at_t edge.1).0
 
   -- those of a bundle beside the edge may be passed over
@@ -59,7 +60,7 @@ module _ (limit size : ℕ) (es : List CountedEdge) (ss : List Extent) (bundles 
           (same_block size at k some begun.begins past less) (held.all k t f d at_t at_f).1
 
       by_box : IsApart s bundle.extent → IsPassed es e s t
-      by_box apart = let edge = edge_there k t at_t in
+      by_box apart = let edge = edge_there es ss moved k t at_t in
           inl (apart_under s bundle.extent t (holds edge.0 edge.1).box apart)
 
       held_at : (f : CountedEdge) → IsAt es t.first f → IsHeld limit f

@@ -3,9 +3,11 @@ pub mod BundleLines
 pub mod BundleLists
 pub mod BundlesBeside
 pub mod ChangedEdges
+pub mod EdgeFans
 pub mod Entries
 pub mod ExtentBlocks
 pub mod FarEdges
+pub mod FansBeside
 pub mod HeightOrder
 pub mod NearChanged
 pub mod NearEdges

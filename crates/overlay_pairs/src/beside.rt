@@ -11,6 +11,7 @@ ghost use Rattle.overlay_pairs.specs.Near.{IsSearchedBy};
 
 use crate::bundles::{Bundle, Bundles, is_left_of_parallel};
 use crate::extents::{Extent, is_apart, is_less};
+use crate::fans::count_round;
 use crate::near::{on_by, push_near};
 use crate::strips::BLOCK_SIZE;
 use overlay_geom::edge::IntEdge;
@@ -41,7 +42,7 @@ pub(crate) fn find_in_bundles<I: IntNumber, C: EdgeCount, A: Allocator>(
 {
     let mut at = 0;
     while at < bundles.edges.len() {
-        let next = on_by(at, count_beside(bundles, e, of, at), bundles.edges.len());
+        let next = on_by(at, count_skipped(bundles, e, of, at), bundles.edges.len());
         if at < next {
             at = next;
         } else {
@@ -51,6 +52,30 @@ pub(crate) fn find_in_bundles<I: IntNumber, C: EdgeCount, A: Allocator>(
         }
     }
     Ok(())
+}
+
+/// Returns how many boxes from `at` on can be skipped, since they are those of a bundle or of a fan that lies beside e.
+fn count_skipped<I: IntNumber, C: EdgeCount, A: Allocator>(
+    bundles: &Bundles<I, A>,
+    e: &CountedEdge<I, C>,
+    of: Extent<I>,
+    at: usize,
+) -> usize
+    requires bundles { (es : List WholeEdge) × AreBundlesOf I.whole I.limit es bundles.now }
+    requires one { IsHeld I.limit (plain_edge I.whole C.counts e.now) }
+    requires within { at < length bundles.now.edges.items }
+    ensures { (es : List WholeEdge) → AreBundlesOf I.whole I.limit es bundles.now →
+        ArePassed es (plain_edge I.whole C.counts e.now) (plain_extents I.whole bundles.now.edges.items)
+        (plain_extent I.whole of) at (at + result) }
+{
+    let count = count_beside(bundles, e, of, at);
+    if 0 < count {
+        count
+    } else if let Some(fans) = &bundles.fans {
+        count_round(fans, e, at)
+    } else {
+        0
+    }
 }
 
 /// Returns how many boxes from `at` on can be skipped, since they are those of a bundle that lies beside e. Bundles of

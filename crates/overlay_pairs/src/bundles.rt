@@ -1,6 +1,6 @@
 //! Bundles of edges. The edges of a bundle lie between two parallel lines.
 
-ghost use Rattle.std.specs.Prelude.{◌≡◌, ◌<◌, All, IfOk};
+ghost use Rattle.std.specs.Prelude.{◌≡◌, ◌<◌, All, IfOk, IfSome};
 ghost use Rattle.std.specs.List.Sorted.{IsPermutation};
 ghost use Rattle.overlay_geom.specs.Points.{plain_point, InRange};
 ghost use Rattle.overlay_geom.specs.Resolved.{plain_edge as plain_line};
@@ -11,6 +11,7 @@ ghost use Rattle.overlay_pairs.specs.Bundles.{IsReached, IsWidened};
 ghost use Rattle.overlay_pairs.specs.Extents.{extent_of, extents_of, plain_extent, plain_extents};
 
 use crate::extents::{Extent, joined, ordered};
+use crate::fans::{Fans, fans_of};
 use crate::lines::{by_lines, size_of};
 use overlay_geom::edge::IntEdge;
 use overlay_geom::number::{IntNumber, WideIntNumber};
@@ -59,9 +60,11 @@ pub struct Bundles<I: Copy, A: Allocator> {
     pub of_4096: Vec<Bundle<I>, A>,
     /// The bundles of each 32768 edges.
     pub of_32768: Vec<Bundle<I>, A>,
+    /// The fans of the edges, where many share an end.
+    pub fans: Option<Fans<I, A>>,
 }
 
-/// Makes the bundles of the edges.
+/// Makes the bundles of the edges, without fans.
 pub(crate) fn bundles_of<I: IntNumber, C: EdgeCount, A: Allocator + Clone>(
     alloc: A,
     edges: &[CountedEdge<I, C>],
@@ -82,7 +85,28 @@ pub(crate) fn bundles_of<I: IntNumber, C: EdgeCount, A: Allocator + Clone>(
         of_512,
         of_4096,
         of_32768,
+        fans: None,
     })
+}
+
+/// Makes the bundles of the edges, with fans. It makes none if few of the edges share an end.
+pub(crate) fn bundles_with_fans<I: IntNumber, C: EdgeCount, A: Allocator + Clone>(
+    alloc: A,
+    edges: &[CountedEdge<I, C>],
+) -> Result<Option<Bundles<I, A>>, AllocError>
+    requires held { All (IsHeld I.limit) (plain_edges I.whole C.counts edges.now) }
+    ensures ok { IfOk result (λ made.
+        IfSome made (AreBundlesOf I.whole I.limit (plain_edges I.whole C.counts edges.now))) }
+{
+    let bundles = bundles_of(alloc.clone()?, edges)?;
+    if let Some(fans) = fans_of(alloc, edges, &bundles.edges)? {
+        Ok(Some(Bundles {
+            fans: Some(fans),
+            ..bundles
+        }))
+    } else {
+        Ok(None)
+    }
 }
 
 /// Returns the bundle of the edges of each `size` boxes.

@@ -5,6 +5,7 @@ mod beside;
 pub mod bundles;
 pub mod changed;
 pub mod extents;
+pub mod fans;
 mod lines;
 pub mod near;
 mod sample;

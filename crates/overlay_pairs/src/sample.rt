@@ -23,55 +23,92 @@ const MANY_FOUND: usize = 128;
 // repeat the kinds.
 const KINDS_PERIOD: usize = 30;
 
-/// Returns whether a quarter of the edges of a sample, or more, find many edges by their boxes and meet few of them.
-/// It only serves as an estimate. Short lists are not tried.
-pub(crate) fn misses_many<I: IntNumber, C: EdgeCount, A: Allocator>(
+/// Whether bundles serve a search, alone or with fans.
+#[derive(Clone, Copy)]
+pub(crate) struct Sample {
+    /// Whether a quarter of the edges of the sample, or more, find many edges by their boxes and meet few of them.
+    pub(crate) misses_many: bool,
+    /// Whether they would do so if edges that share an end with them did not count as met.
+    pub(crate) shares_many: bool,
+}
+
+/// Searches for the edges that those of a sample may meet. It only serves as an estimate. Short lists are not tried.
+pub(crate) fn sample_of<I: IntNumber, C: EdgeCount, A: Allocator>(
     alloc: A,
     edges: &[CountedEdge<I, C>],
     strips: &Strips<I, A>,
-) -> Result<bool, AllocError>
+) -> Result<Sample, AllocError>
     requires held { All (IsHeld I.limit) (plain_edges I.whole C.counts edges.now) }
     requires ascending { IsAscending (plain_edges I.whole C.counts edges.now) }
     requires strips { AreHeldStripsOf I.whole I.limit (plain_edges I.whole C.counts edges.now) strips.now }
 {
     if edges.len() < LEAST_EDGES {
-        return Ok(false);
+        return Ok(Sample {
+            misses_many: false,
+            shares_many: false,
+        });
     }
     let distance = edges.len() / SAMPLE_SIZE / KINDS_PERIOD * KINDS_PERIOD + 1;
     let mut near = Vec::new(alloc);
-    let mut count: usize = 0;
+    let mut missing: usize = 0;
+    let mut sharing: usize = 0;
     for k in 0..SAMPLE_SIZE {
         let i = k.saturating_mul(distance);
         if i < edges.len() {
             let e = &edges[i];
             near.clear();
             find_by_strips(&mut near, edges, strips, e, i + 1)?;
-            if near.len() >= MANY_FOUND && count_met(edges, e, &near) < near.len() / 4 {
-                count = count.saturating_add(1);
+            if near.len() >= MANY_FOUND {
+                let met = count_met(edges, e, &near);
+                missing = missing.saturating_add(one_if_few(met.all, near.len()));
+                sharing = sharing.saturating_add(one_if_few(met.elsewhere, near.len()));
             }
         }
     }
-    Ok(count >= SAMPLE_SIZE / 4)
+    Ok(Sample {
+        misses_many: missing >= SAMPLE_SIZE / 4,
+        shares_many: sharing >= SAMPLE_SIZE / 4,
+    })
 }
 
-/// Returns how many of the edges at the places e meets. Bundles with such edges do not lie beside e.
+/// Returns 1 if the number is less than a quarter of the other, and 0 if not.
+fn one_if_few(count: usize, all: usize) -> usize {
+    if count < all / 4 { 1 } else { 0 }
+}
+
+/// Numbers of edges that an edge meets.
+#[derive(Clone, Copy)]
+struct Met {
+    /// The edges that it meets. Bundles with such edges do not lie beside it.
+    all: usize,
+    /// Those that share no end with it.
+    elsewhere: usize,
+}
+
+/// Counts the edges at the places that e meets.
 fn count_met<I: IntNumber, C: EdgeCount>(
     edges: &[CountedEdge<I, C>],
     e: &CountedEdge<I, C>,
     places: &[usize],
-) -> usize
+) -> Met
     requires held { All (IsHeld I.limit) (plain_edges I.whole C.counts edges.now) }
     requires one { IsHeld I.limit (plain_edge I.whole C.counts e.now) }
     requires within { All (λ j. j < length edges.now) places.now }
 {
-    let mut count: usize = 0;
+    let mut sharing: usize = 0;
+    let mut elsewhere: usize = 0;
     for place in places {
         let f = &edges[*place];
-        if shares_end(e, f) || !meet_in_ends(e, f) {
-            count = count.saturating_add(1);
+        if shares_end(e, f) {
+            sharing = sharing.saturating_add(1);
+        } else if !meet_in_ends(e, f) {
+            elsewhere = elsewhere.saturating_add(1);
         }
     }
-    count
+    Met {
+        all: elsewhere.saturating_add(sharing),
+        elsewhere,
+    }
 }
 
 // Returns whether the two edges share an end.

@@ -10,9 +10,9 @@ ghost use Rattle.overlay_pairs.specs.PointStrips.{points_of, AreStripsOf};
 ghost use Rattle.overlay_pairs.specs.Strips.{AreHeldStripsOf};
 ghost use Rattle.overlay_pairs.specs.declared.extents.Extent.{Extent};
 
-use crate::bundles::{Bundles, bundles_of};
+use crate::bundles::{Bundles, bundles_of, bundles_with_fans};
 use crate::extents::{Extent, extent_of, extent_of_point, joined};
-use crate::sample::misses_many;
+use crate::sample::sample_of;
 use crate::spans::length_of_runs;
 use overlay_geom::number::IntNumber;
 use overlay_geom::point::IntPoint;
@@ -73,14 +73,19 @@ pub fn strips_of<I: IntNumber, C: EdgeCount, A: Allocator + Clone>(
         return Ok(None);
     }
     let strips = strips_of_boxes(alloc.clone()?, edges, runs)?;
-    if !misses_many(alloc.clone()?, edges, &strips)? {
-        return Ok(Some(strips));
+    let sample = sample_of(alloc.clone()?, edges, &strips)?;
+    if sample.misses_many {
+        let bundles = bundles_of(alloc, edges)?;
+        Ok(Some(Strips {
+            bundles: Some(bundles),
+            ..strips
+        }))
+    } else if sample.shares_many {
+        let bundles = bundles_with_fans(alloc, edges)?;
+        Ok(Some(Strips { bundles, ..strips }))
+    } else {
+        Ok(Some(strips))
     }
-    let bundles = bundles_of(alloc, edges)?;
-    Ok(Some(Strips {
-        bundles: Some(bundles),
-        ..strips
-    }))
 }
 
 /// Makes the strips of the edges, without bundles. The runs of a sample of edges have the given length in all.

@@ -1,4 +1,4 @@
--- A bundle beside the edge is passed over, or some boxes are tested.
+-- A bundle or a fan beside the edge is passed over, or some boxes are tested.
 use Rattle.std.proofs.Common.{◌+◌, ◌<◌, List, inl, length, sym, subst, arith}
 use Rattle.overlay_order.specs.Content.{plain_edge}
 use Rattle.overlay_pairs.specs.Bundles.{IsPassed}
@@ -26,7 +26,7 @@ loop-at-preserved-then-at-next g c =
       (let up = c.on_by-next.ensures.up_to in let l = c.len-in-loop-at.ensures in omega (arith, up, l)),
       (λ es of. searched_past (IsPassed es (plain_edge whole g.C.EdgeCount.counts c.args.e.now) s) ss s c.loop-at.at
           c.on_by-next.result c.loop-at.near.items
-          (λ k t past less at_t. c.count_beside.ensures es of k t past (omega (arith, less, further)) at_t)
+          (λ k t past less at_t. c.count_skipped.ensures es of k t past (omega (arith, less, further)) at_t)
           (c.loop-at.invariant.1 es of)),
     )
 

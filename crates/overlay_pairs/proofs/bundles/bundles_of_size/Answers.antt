@@ -5,7 +5,7 @@ use Rattle.std.proofs.lemmas.List.{length-map, map-append, map-set}
 use Rattle.std.proofs.lemmas.List.Elements.{All-nil, All-push, All-set}
 use Rattle.overlay_geom.proofs.Mapped.{read_mapped, All-mapped_at}
 use Rattle.overlay_order.specs.Content.{plain_edge, plain_edges, IsHeld}
-use Rattle.overlay_pairs.specs.Bundles.{Bundle, plain_bundle, plain_bundles, IsHeldBundle}
+use Rattle.overlay_pairs.specs.Bundles.{Bundle, plain_bundle, plain_bundles, HoldsEdge, IsHeldBundle}
 use Rattle.overlay_pairs.specs.Extents.{extent_of, plain_extent, plain_extents}
 use Rattle.overlay_pairs.proofs.BundleLists.{AreBundlesUpTo, all_bundles, bundle_begun, bundle_widened, last_bundle}
 use Rattle.overlay_pairs.proofs.BundleLists.{no_bundles, own_box}
@@ -43,9 +43,9 @@ loop-k-init g c =
     let whole = g.I.IntNumber.whole in
     let es = plain_edges whole g.C.EdgeCount.counts c.args.edges.now in
     let ss = plain_extents whole c.args.boxes.now in
-    subst (λ (bs : List _). AreBundlesUpTo c.args.size es ss (plain_bundles whole bs) 0
+    subst (λ (bs : List _). AreBundlesUpTo HoldsEdge c.args.size es ss (plain_bundles whole bs) 0
     × All (IsHeldBundle g.I.IntNumber.limit) (plain_bundles whole bs)) (sym c.new-bundles.ensures.items)
-    (no_bundles c.args.size es ss c.requires.some, All-nil (IsHeldBundle g.I.IntNumber.limit))
+    (no_bundles HoldsEdge c.args.size es ss c.requires.some, All-nil (IsHeldBundle g.I.IntNumber.limit))
 
 pub bundle_of-requires-clause-own : goal.bundle_of-requires-clause-own
 bundle_of-requires-clause-own g c =
@@ -94,7 +94,7 @@ index-requires g c =
     let e = edge c.index-edges-extent.result in
     let at_e = placed_in_mapped edge c.args.edges.now s.first c.index-edges-extent.result bound
     c.index-edges-extent.is in
-    let inside = last_bundle c.args.size c.requires.some es ss olds k c.loop-k.invariant.0 s e at_s at_e
+    let inside = last_bundle HoldsEdge c.args.size c.requires.some es ss olds k c.loop-k.invariant.0 s e at_s at_e
     c.if-k-size-eq0.false in
     let l = length-map c.loop-k.bundles.items (plain_bundle whole) in
     omega (arith, inside, l)
@@ -115,7 +115,7 @@ widened-requires-clause-held g c =
     let e = edge c.index-edges-extent.result in
     let at_e = placed_in_mapped edge c.args.edges.now s.first c.index-edges-extent.result bound
     c.index-edges-extent.is in
-    let inside = last_bundle c.args.size c.requires.some es ss olds k c.loop-k.invariant.0 s e at_s at_e
+    let inside = last_bundle HoldsEdge c.args.size c.requires.some es ss olds k c.loop-k.invariant.0 s e at_s at_e
     c.if-k-size-eq0.false in
     All-mapped_at (IsHeldBundle g.I.IntNumber.limit) (plain_bundle whole) c.loop-k.bundles.items (k / c.args.size)
     c.index.result.now (let l = length-map c.loop-k.bundles.items (plain_bundle whole) in omega (arith, inside, l))
@@ -168,7 +168,7 @@ index_mut-requires g c =
     let e = edge c.index-edges-extent.result in
     let at_e = placed_in_mapped edge c.args.edges.now s.first c.index-edges-extent.result bound
     c.index-edges-extent.is in
-    let inside = last_bundle c.args.size c.requires.some es ss olds k c.loop-k.invariant.0 s e at_s at_e
+    let inside = last_bundle HoldsEdge c.args.size c.requires.some es ss olds k c.loop-k.invariant.0 s e at_s at_e
     c.if-k-size-eq0.false in
     let l = length-map c.loop-k.bundles.items (plain_bundle whole) in
     omega (arith, inside, l)
@@ -196,21 +196,21 @@ loop-k-preserved g c =
           let news : plain_bundles whole c.if-k-size-eq0.bundles.items ≡ olds ++ bundle w.bundle_of.result ∷ [] =
           ap (λ v. plain_bundles whole v.items) w.bundles-is ∙ ap (plain_bundles whole) w.in_ok-push.ensures.items
           ∙ map-append bundle c.loop-k.bundles.items (w.bundle_of.result ∷ []) in
-          subst (λ (bs : List Bundle). AreBundlesUpTo c.args.size es ss bs (k + 1) × All held bs) (sym news) (
-            bundle_begun c.args.size c.requires.some es ss olds k c.loop-k.invariant.0 s e at_s at_e
+          subst (λ (bs : List Bundle). AreBundlesUpTo HoldsEdge c.args.size es ss bs (k + 1) × All held bs) (sym news) (
+            bundle_begun HoldsEdge c.args.size c.requires.some es ss olds k c.loop-k.invariant.0 s e at_s at_e
                 (bundle w.bundle_of.result) w.if-k-size-eq0.true w.bundle_of.ensures.holds,
             All-push held olds (bundle w.bundle_of.result) c.loop-k.invariant.1 w.bundle_of.ensures.held,
           )
       | else-k-size-eq0 w ↦
           let goes_on = w.if-k-size-eq0.false in
-          let inside = last_bundle c.args.size c.requires.some es ss olds k c.loop-k.invariant.0 s e at_s at_e goes_on
-          in
+          let inside = last_bundle HoldsEdge c.args.size c.requires.some es ss olds k c.loop-k.invariant.0 s e at_s at_e
+          goes_on in
           let l = length-map c.loop-k.bundles.items bundle in
           let news : plain_bundles whole c.if-k-size-eq0.bundles.items
           ≡ set olds (k / c.args.size) (bundle w.widened.result) =
           ap (λ v. plain_bundles whole v.items) w.bundles-is
           ∙ map-set bundle c.loop-k.bundles.items (k / c.args.size) w.widened.result in (
-            bundle_widened c.args.size c.requires.some es ss olds k c.loop-k.invariant.0 s e at_s at_e
+            bundle_widened HoldsEdge c.args.size c.requires.some es ss olds k c.loop-k.invariant.0 s e at_s at_e
                 (bundle w.index.result.now) (bundle w.widened.result)
                 (plain_bundles whole c.if-k-size-eq0.bundles.items) goes_on news
                 (sym (read_mapped bundle c.loop-k.bundles.items (k / c.args.size) w.index.result.now
@@ -228,7 +228,7 @@ returns g c = record {
       let l = length-map c.args.boxes.now (plain_extent whole) in
       record {
         held = c.loop-k.invariant.1;
-        all = all_bundles c.args.size (plain_edges whole g.C.EdgeCount.counts c.args.edges.now)
+        all = all_bundles HoldsEdge c.args.size (plain_edges whole g.C.EdgeCount.counts c.args.edges.now)
             (plain_extents whole c.args.boxes.now) (plain_bundles whole c.loop-k.bundles.items) c.loop-k.k
             (omega (arith, l, c.loop-k-test.false)) c.loop-k.invariant.0;
       };
