@@ -23,8 +23,10 @@ use overlay_geom::number::IntNumber;
 use overlay_geom::point::IntPoint;
 use std::alloc::{AllocError, Allocator};
 
-// Number of steps from which on those that leave one point are many.
-const MANY_STEPS: usize = 16;
+// Greatest number of steps that leave one point and are few.
+const FEW_STEPS: usize = 16;
+// Number of blocks that can be sorted in the time that 1 in the sum of `sorting_pays` takes.
+const BLOCKS_SORTED: usize = 4;
 
 /// The places of all steps, node by node and fan by fan, with notes of those taken; or no place.
 #[derive(Drop)]
@@ -44,7 +46,7 @@ pub(crate) struct FansByHand<A: Allocator> {
     pub(crate) by_right: Fans<A>,
 }
 
-/// Makes the fans of the steps. They are without places where few steps leave each point.
+/// Makes the fans of the steps. They are without places where sorting these would not pay.
 pub(crate) fn fans_of<I: IntNumber, A: Allocator + Clone>(
     alloc: A,
     steps: &[Step<I>],
@@ -67,14 +69,14 @@ fn fans_by<I: IntNumber, A: Allocator + Clone>(
     ensures ok { IfOk result (λ r.
         (marks : List Bool) → AreFansBy (plain_hand hand) (plain_steps I.whole steps.now) marks r) }
 {
-    let places = places_if_many(alloc.clone()?, steps, hand)?;
+    let places = places_if_sorting_pays(alloc.clone()?, steps, hand)?;
     let mut ahead = Vec::new(alloc);
     ahead.resize(places.len(), 0)?;
     Ok(Fans { places, ahead })
 }
 
-// Returns the places of the steps in the order of their fans by the hand, or none where few steps leave each point.
-fn places_if_many<I: IntNumber, A: Allocator>(
+// Returns the places of the steps in the order of their fans by the hand, or none where sorting them would not pay.
+fn places_if_sorting_pays<I: IntNumber, A: Allocator>(
     alloc: A,
     steps: &[Step<I>],
     hand: Hand,
@@ -83,29 +85,42 @@ fn places_if_many<I: IntNumber, A: Allocator>(
     ensures ok { IfOk result (λ v.
         0 < length v.items → AreFanned (plain_hand hand) (plain_steps I.whole steps.now) v.items) }
 {
-    if !many_leave_a_point(steps) {
+    if !sorting_pays(steps) {
         return Ok(Vec::new(alloc));
     }
     let places = fanned_places(alloc, steps, hand)?;
     Ok(places)
 }
 
-// Returns whether many steps leave one point. Where they are twice as many, this is always seen.
-fn many_leave_a_point<I: IntNumber>(steps: &[Step<I>]) -> bool {
-    for block in 0..steps.len() / MANY_STEPS {
-        let place = block.saturating_mul(MANY_STEPS);
-        if let Some(step) = steps.get(place) {
-            if many_leave(steps, place, step.from) {
-                return true;
-            }
-        }
+// Returns whether sorting the places of all steps takes less time than it saves. Without their order a walk tests all
+// steps that leave a point each time that it comes there. That time grows as the square of their number does, and so
+// does the sum: the blocks of steps that leave one point count 1, 2, 3 and so on.
+fn sorting_pays<I: IntNumber>(steps: &[Step<I>]) -> bool {
+    let blocks = steps.len() / FEW_STEPS;
+    let mut in_row: usize = 0;
+    let mut sum: usize = 0;
+    for block in 0..blocks {
+        in_row = if many_leave_from(steps, block.saturating_mul(FEW_STEPS)) {
+            in_row.saturating_add(1)
+        } else {
+            0
+        };
+        sum = sum.saturating_add(in_row);
     }
-    false
+    0 < sum && blocks <= sum.saturating_mul(BLOCKS_SORTED)
 }
 
-// Returns whether the step that stands many places behind a place leaves p.
+// Returns whether many steps leave the point of the step at a place, from there on.
+fn many_leave_from<I: IntNumber>(steps: &[Step<I>], place: usize) -> bool {
+    match steps.get(place) {
+        Some(step) => many_leave(steps, place, step.from),
+        None => false,
+    }
+}
+
+// Returns whether many steps leave p from a place on.
 fn many_leave<I: IntNumber>(steps: &[Step<I>], place: usize, p: IntPoint<I>) -> bool {
-    match steps.get(place.saturating_add(MANY_STEPS)) {
+    match steps.get(place.saturating_add(FEW_STEPS)) {
         Some(step) => is_same(step.from, p),
         None => false,
     }
@@ -136,7 +151,7 @@ pub(crate) fn place_by_hand<I: IntNumber, A: Allocator>(
     }
 }
 
-// Returns that place, found in the fan where many steps leave the end of the step.
+// Returns that place, found in the fan where there are fans and many steps leave the end of the step.
 fn place_by_fans<I: IntNumber, A: Allocator>(
     steps: &[Step<I>],
     taken: &[bool],
