@@ -22,7 +22,7 @@ from version import version
 
 LICENCES = ("LICENSE-MIT", "LICENSE-APACHE", "NOTICE")
 # the largest crate that crates.io takes has 10 MiB; this is well below
-MOST = 5_000_000
+MOST = 7_000_000
 # what begins a comment, outside quotes
 COMMENT = {
     "x86_64": re.compile(r'^((?:[^"#]|"[^"]*")*)#.*$', re.M),
